@@ -1,0 +1,5 @@
+pub mod Records
+pub mod Faults
+pub mod Pieces
+pub mod Ticks
+pub mod Places
