@@ -13,3 +13,7 @@ pub record HasCause {T E : Type 0} (before now : ℕ) (result : Result T E) : Ty
 -- a piece with bytes is taken in part at least, but where the count rose
 abbrev pub TakesSome : {E : Type 0} → ℕ → ℕ → List ℕ → Result ℕ E → Type 0
 TakesSome before now piece result = IfOk result (λ n. n ≡ 0 → 0 < length piece → Rose before now)
+
+-- a count rose by so many, but stops at the last value that a u64 has
+abbrev pub CountsOn : ℕ → ℕ → ℕ → Type 0
+CountsOn before now by = now ≡ min (before + by) (2 ^ 64 - 1)

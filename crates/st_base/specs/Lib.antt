@@ -3,3 +3,4 @@ pub mod Faults
 pub mod Pieces
 pub mod Ticks
 pub mod Places
+pub mod Scripts

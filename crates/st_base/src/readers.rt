@@ -1,5 +1,5 @@
 ghost use Rattle.std.specs.Prelude.{Option, ◌≡◌, ◌+◌, ◌-◌, ◌^◌, ◌≤◌, ℕ, List, length, min, OnOk, Some};
-ghost use Rattle.st_base.specs.Faults.{HasCause};
+ghost use Rattle.st_base.specs.Faults.{HasCause, CountsOn};
 ghost use Rattle.st_base.specs.Places.{HasPart, ReadsAt};
 
 use crate::failures::Failed;
@@ -38,8 +38,8 @@ pub trait Reader {
         ensures content { content self.new ≡ content self.old }
         ensures extent { extent self.new ≡ extent self.old }
         ensures cause { HasCause (faults self.old) (faults self.new) result }
-        ensures reads { reads self.new ≡ reads self.old + 1 }
-        ensures asked { asked self.new ≡ asked self.old + length out.old }
+        ensures reads { CountsOn (reads self.old) (reads self.new) 1 }
+        ensures asked { CountsOn (asked self.old) (asked self.new) (length out.old) }
         ensures rest { beside self.new ≡ beside self.old };
 
     // a content that is told has the length that `size` answers
@@ -55,8 +55,8 @@ pub fn read_whole<R: Reader>(file: &mut R, place: u64, out: &mut [u8]) -> Result
     ensures content { R.content file.new ≡ R.content file.old }
     ensures extent { R.extent file.new ≡ R.extent file.old }
     ensures cause { HasCause (R.faults file.old) (R.faults file.new) result }
-    ensures reads { R.reads file.new ≡ R.reads file.old + 1 }
-    ensures asked { R.asked file.new ≡ R.asked file.old + length out.old }
+    ensures reads { CountsOn (R.reads file.old) (R.reads file.new) 1 }
+    ensures asked { CountsOn (R.asked file.old) (R.asked file.new) (length out.old) }
     ensures rest { R.beside file.new ≡ R.beside file.old }
 {
     match file.read_at(place, out) {
