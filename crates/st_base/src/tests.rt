@@ -72,5 +72,6 @@ fn clocks_and_records_tell_what_they_have(rt: HostRuntime) -> Result<(), Fail> {
     let mut bytes = Vec::new(rt.alloc());
     bytes.extend_from_slice(b"owned")?;
     assert_eq!(rt; Octets::of(bytes).bytes(), b"owned".as_slice());
+    assert_eq!(rt; packet.body.into_bytes().as_slice(), b"body".as_slice());
     Ok(())
 }
