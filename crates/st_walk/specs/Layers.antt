@@ -12,7 +12,7 @@ abbrev pub byte : List ℕ → ℕ → ℕ
 byte p o = slice_index p o
 
 -- the number in so many bytes from an offset
-abbrev pub field : ℕ → ℕ → List ℕ → ℕ
+unfoldable pub field : ℕ → ℕ → List ℕ → ℕ
 field n o p = big_number n (drop o p)
 
 -- so many bytes from an offset are captured

@@ -5,9 +5,9 @@ ghost use Rattle.st_walk.specs.Layers.{layer_keys, byte, field};
 ghost use Rattle.st_walk.specs.Walk.{Carries};
 ghost use Rattle.st_walk.specs.declared.header.Layer.TheVariants.{Next, Label, Ip4, Ip6, Last, Fragment, Ports};
 
-use crate::header::{holds, is_ip4, is_ip6, is_tag, Layer, Place};
+use crate::fields::{holds, u128_at, u16_at, u32_at};
+use crate::header::{is_ip4, is_ip6, is_tag, Layer, Place};
 use crate::text::Key;
-use byteorder::{BigEndian, ByteOrder};
 
 /// The key of this number, from 0, among those that the layer carries.
 #[inline]
@@ -61,8 +61,8 @@ fn ip4_key(frame: &[u8], at: usize, i: usize) -> Option<Key>
     }
     match i {
         0 => Some(Key::Proto(frame[at + 9])),
-        1 => Some(Key::V4(BigEndian::read_u32(&frame[at + 12..]))),
-        2 => Some(Key::V4(BigEndian::read_u32(&frame[at + 16..]))),
+        1 => Some(Key::V4(u32_at(frame, at + 12))),
+        2 => Some(Key::V4(u32_at(frame, at + 16))),
         _ => None,
     }
 }
@@ -76,8 +76,8 @@ fn ip6_key(frame: &[u8], at: usize, i: usize) -> Option<Key>
         return None;
     }
     match i {
-        0 => Some(Key::V6(BigEndian::read_u128(&frame[at + 8..]))),
-        1 => Some(Key::V6(BigEndian::read_u128(&frame[at + 24..]))),
+        0 => Some(Key::V6(u128_at(frame, at + 8))),
+        1 => Some(Key::V6(u128_at(frame, at + 24))),
         _ => None,
     }
 }
@@ -102,8 +102,8 @@ fn ports_key(frame: &[u8], at: usize, i: usize) -> Option<Key>
         return None;
     }
     match i {
-        0 => Some(Key::Port(BigEndian::read_u16(&frame[at..]))),
-        1 => Some(Key::Port(BigEndian::read_u16(&frame[at + 2..]))),
+        0 => Some(Key::Port(u16_at(frame, at))),
+        1 => Some(Key::Port(u16_at(frame, at + 2))),
         _ => None,
     }
 }
@@ -114,7 +114,7 @@ fn tag_id(frame: &[u8], at: usize) -> u16
     requires { at + 4 ≤ length frame.now }
     ensures { result ≡ field 2 at frame.now % 4096 }
 {
-    BigEndian::read_u16(&frame[at..]) % 4096
+    u16_at(frame, at) % 4096
 }
 
 // The label in the high 20 bits of an entry's four bytes.
@@ -123,7 +123,7 @@ fn label(frame: &[u8], at: usize) -> u32
     requires { at + 4 ≤ length frame.now }
     ensures { result ≡ field 4 at frame.now / 4096 }
 {
-    BigEndian::read_u32(&frame[at..]) / 4096
+    u32_at(frame, at) / 4096
 }
 
 /// Whether the layer carries the key.
@@ -173,8 +173,8 @@ fn ip4_carries(frame: &[u8], at: usize, key: &Key) -> bool
         Key::Proto(number) => is_ip4(frame, at) && frame[at + 9] == number,
         Key::V4(address) => {
             is_ip4(frame, at)
-                && (BigEndian::read_u32(&frame[at + 12..]) == address
-                    || BigEndian::read_u32(&frame[at + 16..]) == address)
+                && (u32_at(frame, at + 12) == address
+                    || u32_at(frame, at + 16) == address)
         }
         _ => false,
     }
@@ -187,8 +187,8 @@ fn ip6_carries(frame: &[u8], at: usize, key: &Key) -> bool
     match *key {
         Key::V6(address) => {
             is_ip6(frame, at)
-                && (BigEndian::read_u128(&frame[at + 8..]) == address
-                    || BigEndian::read_u128(&frame[at + 24..]) == address)
+                && (u128_at(frame, at + 8) == address
+                    || u128_at(frame, at + 24) == address)
         }
         _ => false,
     }
@@ -211,8 +211,8 @@ fn ports_carry(frame: &[u8], at: usize, key: &Key) -> bool
     match *key {
         Key::Port(port) => {
             holds(frame, at, 4)
-                && (BigEndian::read_u16(&frame[at..]) == port
-                    || BigEndian::read_u16(&frame[at + 2..]) == port)
+                && (u16_at(frame, at) == port
+                    || u16_at(frame, at + 2) == port)
         }
         _ => false,
     }

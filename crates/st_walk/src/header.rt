@@ -6,7 +6,7 @@ ghost use Rattle.st_walk.specs.declared.header.Layer.{Layer};
 ghost use Rattle.st_walk.specs.declared.header.Layer.TheVariants.{Ether, Next, Label, Ip4, Ip6, Chain, Ports};
 ghost use Rattle.st_walk.specs.Listing.{following};
 
-use byteorder::{BigEndian, ByteOrder};
+use crate::fields::{holds, u16_at};
 
 /// What stands at an offset of a frame.
 #[derive(Clone, Copy, Debug)]
@@ -73,7 +73,7 @@ fn after_ether(frame: &[u8], at: usize) -> Option<Place>
     if !holds(frame, at, 14) {
         return None;
     }
-    let kind = BigEndian::read_u16(&frame[at + 12..]);
+    let kind = u16_at(frame, at + 12);
     Some(Place { at: at + 14, layer: Layer::Next(kind) })
 }
 
@@ -101,7 +101,7 @@ fn after_tag(frame: &[u8], at: usize) -> Option<Place>
     if !holds(frame, at, 4) {
         return None;
     }
-    let kind = BigEndian::read_u16(&frame[at + 2..]);
+    let kind = u16_at(frame, at + 2);
     Some(Place { at: at + 4, layer: Layer::Next(kind) })
 }
 
@@ -171,16 +171,6 @@ fn after_last(at: usize, number: u8) -> Option<Place>
     }
 }
 
-/// Whether so many bytes from `at` are captured.
-#[inline]
-#[tactic(auto, unfolding(crate::specs::Layers::holds))]
-pub fn holds(frame: &[u8], at: usize, count: usize) -> bool
-    ensures value { result ≡ holds frame.now at count }
-    ensures room { IsTrue result ↔ (at + count ≤ length frame.now) }
-{
-    count <= frame.len() && at <= frame.len() - count
-}
-
 #[inline]
 #[tactic(auto, unfolding(crate::specs::Layers::is_tag))]
 pub fn is_tag(kind: u16) -> bool
@@ -238,7 +228,7 @@ fn is_first(frame: &[u8], at: usize) -> bool
     requires { at + 20 ≤ length frame.now }
     ensures { result ≡ is_first frame.now at }
 {
-    BigEndian::read_u16(&frame[at + 6..]) % 8192 == 0
+    u16_at(frame, at + 6) % 8192 == 0
 }
 
 #[inline]
@@ -282,5 +272,5 @@ fn is_later(frame: &[u8], at: usize, number: u8) -> bool
     requires { at + 8 ≤ length frame.now }
     ensures { result ≡ is_later frame.now at number }
 {
-    number == 44 && BigEndian::read_u16(&frame[at + 2..]) / 8 != 0
+    number == 44 && u16_at(frame, at + 2) / 8 != 0
 }

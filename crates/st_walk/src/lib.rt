@@ -2,6 +2,7 @@
 #![tactic(auto)]
 
 mod carried;
+mod fields;
 mod header;
 mod iter;
 mod text;

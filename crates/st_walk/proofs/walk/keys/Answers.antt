@@ -1,0 +1,10 @@
+use Rattle.st_walk.specs.declared.header.Layer.TheVariants.{Ether}
+use Rattle.st_walk.specs.Listing.{place}
+use Rattle.st_walk.proofs.Walks.{walk_contains, walk_order}
+use Rattle.st_walk.proofs.walk.keys.Goals as goal
+
+pub returns-clause-each : goal.returns-clause-each
+returns-clause-each c = λ k. rw c.new.ensures (walk_contains c.args.frame.now (place 0 Ether) k)
+
+pub returns-clause-order : goal.returns-clause-order
+returns-clause-order c = λ ks. rw c.new.ensures (walk_order c.args.frame.now 0 Ether ks)
