@@ -1,3 +1,4 @@
 pub mod Headers
 pub mod Steps
 pub mod Walks
+pub mod Left
