@@ -4,6 +4,7 @@ use Rattle.std.proofs.lemmas.Bool.Decides.{nat_tests}
 use Rattle.st_walk.specs.declared.header.Layer.{Layer}
 use Rattle.st_walk.specs.declared.header.Layer.TheVariants.{Ether, Next, Label, Ip4, Ip6, Chain, Last, Fragment, Ports}
 use Rattle.st_walk.specs.declared.header.Place.{Place}
+use Rattle.st_walk.specs.declared.numbers.TheConstants.{IP4, IP6}
 use Rattle.st_walk.specs.Layers.{byte, field, holds, is_tag, is_labelled, is_bottom, is_version, ip4_size, is_ip4, is_ip6, is_first, has_ports, extension_size, is_extension, is_later}
 use Rattle.st_walk.specs.Walk.{Step}
 use Rattle.st_walk.specs.Walk.Step.{ether, tag, labelled, ip4, ip6, label, label_ip4, label_ip6, ip4_ports, ip6_chain, extension, fragment, last, last_ports}
@@ -19,11 +20,11 @@ one_version : (p : List ℕ) (o : ℕ) → is_version p o 6 ≡ true → is_vers
 unfolding is_version
 one_version p o h = grind (arith, nat_tests)
 
-ip4_found : (p : List ℕ) (o : ℕ) → following p o (Next 0x0800) ≡ place o Ip4
+ip4_found : (p : List ℕ) (o : ℕ) → following p o (Next IP4) ≡ place o Ip4
 unfolding is_tag is_labelled
 ip4_found p o = refl
 
-ip6_found : (p : List ℕ) (o : ℕ) → following p o (Next 0x86DD) ≡ place o Ip6
+ip6_found : (p : List ℕ) (o : ℕ) → following p o (Next IP6) ≡ place o Ip6
 unfolding is_tag is_labelled
 ip6_found p o = refl
 
@@ -65,7 +66,7 @@ leads p o (Next n) =
     let L : Option Place → Type 0 = Leads p o (Next n) in
     branch L (is_tag n) _ _ (λ t. branch L (holds p o 4) _ _ (λ h. tag t h) (λ _. tt))
         (λ _. branch L (is_labelled n) _ _ (λ t. labelled t)
-            (λ _. branch L (n == 0x0800) _ _ (λ e. ip4 (same_number n 0x0800 e)) (λ _. branch L (n == 0x86DD) _ _ (λ e. ip6 (same_number n 0x86DD e)) (λ _. tt))))
+            (λ _. branch L (n == IP4) _ _ (λ e. ip4 (same_number n IP4 e)) (λ _. branch L (n == IP6) _ _ (λ e. ip6 (same_number n IP6 e)) (λ _. tt))))
 leads p o Label =
     let L : Option Place → Type 0 = Leads p o Label in
     branch L (holds p o 4) _ _

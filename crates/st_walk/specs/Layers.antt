@@ -2,6 +2,7 @@
 -- A frame is its captured bytes, and each number in it has its highest byte first.
 use Rattle.std.specs.Prelude.{ℕ, ◌+◌, ◌*◌, ◌/◌, ◌%◌, ◌==◌, Bool, not, ◌&&◌, ◌||◌, nat_le, nat_lt, if◌then◌else◌, List, [], ◌∷◌, length, drop, slice_index}
 use Rattle.byteorder.specs.Endian.{big_number}
+use Rattle.st_walk.specs.declared.numbers.TheConstants.{CUSTOMER_TAG, SERVICE_TAG, OUTER_TAG, MPLS, MPLS_MULTICAST, HOP_BY_HOP, ROUTING, FRAGMENT, AUTHENTICATION, DESTINATION, TCP, UDP}
 use Rattle.st_walk.specs.declared.header.Layer.{Layer}
 use Rattle.st_walk.specs.declared.header.Layer.TheVariants.{Ether, Next, Label, Ip4, Ip6, Chain, Last, Fragment, Ports}
 use Rattle.st_walk.specs.declared.text.Key.{Key}
@@ -22,11 +23,11 @@ holds p o n = nat_le (o + n) (length p)
 -- the EtherType of a tag: a customer tag or a service tag (IEEE 802.1Q, 9.5), or the older number of
 -- the outer one of two tags, which is no standard's
 unfoldable pub is_tag : ℕ → Bool
-is_tag n = n == 0x8100 || n == 0x88A8 || n == 0x9100
+is_tag n = n == CUSTOMER_TAG || n == SERVICE_TAG || n == OUTER_TAG
 
 -- the EtherType of a labelled packet, unicast or multicast (RFC 3032, 5)
 unfoldable pub is_labelled : ℕ → Bool
-is_labelled n = n == 0x8847 || n == 0x8848
+is_labelled n = n == MPLS || n == MPLS_MULTICAST
 
 -- the label at an offset is the last of its stack (RFC 3032, 2.1)
 unfoldable pub is_bottom : List ℕ → ℕ → Bool
@@ -54,15 +55,15 @@ is_first p o = field 2 (o + 6) p % 8192 == 0
 
 -- the protocol has ports: TCP (RFC 9293, 3.1) or UDP (RFC 768)
 unfoldable pub has_ports : ℕ → Bool
-has_ports n = n == 6 || n == 17
+has_ports n = n == TCP || n == UDP
 
 -- how many bytes the extension header of this number has, 0 where the number names none: hop-by-hop
 -- options, routing and destination options (RFC 8200, 4.3, 4.4 and 4.6), fragment (4.5),
 -- authentication (RFC 4302, 2.2)
 unfoldable pub extension_size : List ℕ → ℕ → ℕ → ℕ
 extension_size p o n =
-    if n == 0 || n == 43 || n == 60 then 8 * (byte p (o + 1) + 1)
-    else (if n == 44 then 8 else (if n == 51 then 4 * (byte p (o + 1) + 2) else 0))
+    if n == HOP_BY_HOP || n == ROUTING || n == DESTINATION then 8 * (byte p (o + 1) + 1)
+    else (if n == FRAGMENT then 8 else (if n == AUTHENTICATION then 4 * (byte p (o + 1) + 2) else 0))
 
 -- an extension header of this number counts: it is wholly captured
 unfoldable pub is_extension : List ℕ → ℕ → ℕ → Bool
@@ -70,7 +71,7 @@ is_extension p o n = nat_lt 0 (extension_size p o n) && holds p o (extension_siz
 
 -- the extension header is that of a later fragment: its fragment offset is not 0 (RFC 8200, 4.5)
 unfoldable pub is_later : List ℕ → ℕ → ℕ → Bool
-is_later p o n = n == 44 && not (field 2 (o + 2) p / 8 == 0)
+is_later p o n = n == FRAGMENT && not (field 2 (o + 2) p / 8 == 0)
 
 -- The keys that a layer carries, in the order in which they stand in it:
 -- the identifier of a tag (IEEE 802.1Q, 9.6), a label (RFC 3032, 2.1), the protocol and both addresses

@@ -3,6 +3,7 @@ use Rattle.std.specs.Prelude.{ℕ, zero, suc, ◌+◌, ◌-◌, ◌*◌, ◌==�
 use Rattle.st_walk.specs.declared.header.Layer.{Layer}
 use Rattle.st_walk.specs.declared.header.Layer.TheVariants.{Ether, Next, Label, Ip4, Ip6, Chain, Last, Fragment, Ports}
 use Rattle.st_walk.specs.declared.header.Place.{Place}
+use Rattle.st_walk.specs.declared.numbers.TheConstants.{IP4, IP6}
 use Rattle.st_walk.specs.declared.text.Key.{Key}
 use Rattle.st_walk.specs.declared.iter.Keys.{Keys}
 use Rattle.st_walk.specs.Layers.{byte, field, holds, is_tag, is_labelled, is_bottom, is_version, ip4_size, is_ip4, is_ip6, is_first, has_ports, extension_size, is_extension, is_later, layer_keys}
@@ -16,7 +17,7 @@ abbrev pub following : List ℕ → ℕ → Layer → Option Place
 following p o Ether = if holds p o 14 then place (o + 14) (Next (field 2 (o + 12) p)) else None
 following p o (Next n) =
     if is_tag n then (if holds p o 4 then place (o + 4) (Next (field 2 (o + 2) p)) else None)
-    else (if is_labelled n then place o Label else (if n == 0x0800 then place o Ip4 else (if n == 0x86DD then place o Ip6 else None)))
+    else (if is_labelled n then place o Label else (if n == IP4 then place o Ip4 else (if n == IP6 then place o Ip6 else None)))
 following p o Label =
     if holds p o 4 then
         (if is_bottom p o then (if is_version p (o + 4) 4 then place (o + 4) Ip4 else (if is_version p (o + 4) 6 then place (o + 4) Ip6 else None))

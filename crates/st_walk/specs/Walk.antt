@@ -2,6 +2,7 @@
 use Rattle.std.specs.Prelude.{◌≡◌, ℕ, ◌+◌, ◌⊎◌, IsTrue, IsFalse, List, ◌++◌, Contains}
 use Rattle.st_walk.specs.declared.header.Layer.{Layer}
 use Rattle.st_walk.specs.declared.header.Layer.TheVariants.{Ether, Next, Label, Ip4, Ip6, Chain, Last, Fragment, Ports}
+use Rattle.st_walk.specs.declared.numbers.TheConstants.{IP4, IP6}
 use Rattle.st_walk.specs.declared.text.Key.{Key}
 use Rattle.st_walk.specs.declared.text.Key.TheVariants.{Second}
 use Rattle.st_walk.specs.Layers.{byte, field, holds, is_tag, is_labelled, is_bottom, is_version, ip4_size, is_ip4, is_ip6, is_first, has_ports, extension_size, is_extension, is_later, layer_keys}
@@ -10,13 +11,13 @@ use Rattle.st_walk.specs.Layers.{byte, field, holds, is_tag, is_labelled, is_bot
 pub data Step (p : List ℕ) : ℕ → Layer → ℕ → Layer → Type 0 where
   -- the Ethernet header ends with the EtherType (IEEE 802.3, 3.2)
   ether : {o : ℕ} → IsTrue (holds p o 14) → Step p o Ether (o + 14) (Next (field 2 (o + 12) p))
-  -- a tag ends with the next EtherType (IEEE 802.1Q, 9.4)
+  -- a tag ends with the next EtherType (IEEE 802.1Q, 9.3)
   tag : {o n : ℕ} → IsTrue (is_tag n) → IsTrue (holds p o 4) → Step p o (Next n) (o + 4) (Next (field 2 (o + 2) p))
   -- the label stack of a labelled packet (RFC 3032, 5)
   labelled : {o n : ℕ} → IsTrue (is_labelled n) → Step p o (Next n) o Label
   -- the EtherTypes of IPv4 (RFC 894) and IPv6 (RFC 2464, 3)
-  ip4 : {o n : ℕ} → n ≡ 0x0800 → Step p o (Next n) o Ip4
-  ip6 : {o n : ℕ} → n ≡ 0x86DD → Step p o (Next n) o Ip6
+  ip4 : {o n : ℕ} → n ≡ IP4 → Step p o (Next n) o Ip4
+  ip6 : {o n : ℕ} → n ≡ IP6 → Step p o (Next n) o Ip6
   -- a label that is not the last is followed by another (RFC 3032, 2.1)
   label : {o : ℕ} → IsTrue (holds p o 4) → IsFalse (is_bottom p o) → Step p o Label (o + 4) Label
   -- the last label doesn't tell what follows, so that packet's own version does

@@ -7,6 +7,10 @@ ghost use Rattle.st_walk.specs.declared.header.Layer.TheVariants.{Ether, Next, L
 ghost use Rattle.st_walk.specs.Listing.{following};
 
 use crate::fields::{holds, u16_at};
+use crate::numbers::{
+    AUTHENTICATION, CUSTOMER_TAG, DESTINATION, FRAGMENT, HOP_BY_HOP, IP4, IP6, MPLS, MPLS_MULTICAST,
+    OUTER_TAG, ROUTING, SERVICE_TAG, TCP, UDP,
+};
 
 /// What stands at an offset of a frame.
 #[derive(Clone, Copy, Debug)]
@@ -36,15 +40,6 @@ pub enum Layer {
 pub struct Place {
     pub at: usize,
     pub layer: Layer,
-}
-
-impl Place {
-    pub fn new(at: usize, layer: Layer) -> Self
-        ensures at { result.at ≡ at }
-        ensures layer { result.layer ≡ layer }
-    {
-        Place { at, layer }
-    }
 }
 
 /// The layer that this one leads to, or `None` where the walk ends.
@@ -88,8 +83,8 @@ fn after_kind(frame: &[u8], at: usize, kind: u16) -> Option<Place>
         return Some(Place { at, layer: Layer::Label });
     }
     match kind {
-        0x0800 => Some(Place { at, layer: Layer::Ip4 }),
-        0x86DD => Some(Place { at, layer: Layer::Ip6 }),
+        IP4 => Some(Place { at, layer: Layer::Ip4 }),
+        IP6 => Some(Place { at, layer: Layer::Ip6 }),
         _ => None,
     }
 }
@@ -176,7 +171,7 @@ fn after_last(at: usize, number: u8) -> Option<Place>
 pub fn is_tag(kind: u16) -> bool
     ensures { result ≡ is_tag kind }
 {
-    kind == 0x8100 || kind == 0x88A8 || kind == 0x9100
+    kind == CUSTOMER_TAG || kind == SERVICE_TAG || kind == OUTER_TAG
 }
 
 #[inline]
@@ -184,7 +179,7 @@ pub fn is_tag(kind: u16) -> bool
 fn is_labelled(kind: u16) -> bool
     ensures { result ≡ is_labelled kind }
 {
-    kind == 0x8847 || kind == 0x8848
+    kind == MPLS || kind == MPLS_MULTICAST
 }
 
 #[inline]
@@ -236,7 +231,7 @@ fn is_first(frame: &[u8], at: usize) -> bool
 fn has_ports(number: u8) -> bool
     ensures { result ≡ has_ports number }
 {
-    number == 6 || number == 17
+    number == TCP || number == UDP
 }
 
 // Where the extension header of this number ends, or `None` where the number names none or the
@@ -252,11 +247,9 @@ fn extension_end(frame: &[u8], at: usize, number: u8) -> Option<usize>
     }
     let units = frame[at + 1] as usize;
     let size = match number {
-        0 => 8 * (units + 1),
-        43 => 8 * (units + 1),
-        60 => 8 * (units + 1),
-        44 => 8,
-        51 => 4 * (units + 2),
+        HOP_BY_HOP | ROUTING | DESTINATION => 8 * (units + 1),
+        FRAGMENT => 8,
+        AUTHENTICATION => 4 * (units + 2),
         _ => return None,
     };
     if holds(frame, at, size) {
@@ -272,5 +265,5 @@ fn is_later(frame: &[u8], at: usize, number: u8) -> bool
     requires { at + 8 ≤ length frame.now }
     ensures { result ≡ is_later frame.now at number }
 {
-    number == 44 && u16_at(frame, at + 2) / 8 != 0
+    number == FRAGMENT && u16_at(frame, at + 2) / 8 != 0
 }
