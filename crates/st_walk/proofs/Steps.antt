@@ -1,14 +1,14 @@
 -- The relation of steps is what the plain program finds.
-use Rattle.std.proofs.Common.{◌≡◌, ℕ, ◌+◌, ◌-◌, ◌*◌, ◌<◌, ◌==◌, Bool, true, false, List, length, Option, Some, None, IsTrue, IsFalse, arith, refl, sym, ap, ◌∙◌, if◌then◌else◌}
+use Rattle.std.proofs.Common.{◌≡◌, ℕ, ◌+◌, ◌==◌, Bool, true, false, List, Option, Some, None, arith, refl, if◌then◌else◌}
 use Rattle.std.proofs.lemmas.Bool.Decides.{nat_tests}
 use Rattle.st_walk.specs.declared.header.Layer.{Layer}
 use Rattle.st_walk.specs.declared.header.Layer.TheVariants.{Ether, Next, Label, Ip4, Ip6, Chain, Last, Fragment, Ports}
 use Rattle.st_walk.specs.declared.header.Place.{Place}
 use Rattle.st_walk.specs.declared.numbers.TheConstants.{IP4, IP6}
-use Rattle.st_walk.specs.Layers.{byte, field, holds, is_tag, is_labelled, is_bottom, is_version, ip4_size, is_ip4, is_ip6, is_first, has_ports, extension_size, is_extension, is_later}
+use Rattle.st_walk.specs.Layers.{byte, holds, is_tag, is_labelled, is_bottom, is_version, is_ip4, is_ip6, is_first, has_ports, is_extension, is_later}
 use Rattle.st_walk.specs.Walk.{Step}
 use Rattle.st_walk.specs.Walk.Step.{ether, tag, labelled, ip4, ip6, label, label_ip4, label_ip6, ip4_ports, ip6_chain, extension, fragment, last, last_ports}
-use Rattle.st_walk.specs.Listing.{place, following, steps_left, rank}
+use Rattle.st_walk.specs.Listing.{place, following}
 
 -- no EtherType announces two things
 labelled_is_no_tag : (n : ℕ) → is_labelled n ≡ true → is_tag n ≡ false
@@ -65,19 +65,19 @@ leads p o Ether = branch (Leads p o Ether) (holds p o 14) _ _ (λ h. ether h) (�
 leads p o (Next n) =
     let L : Option Place → Type 0 = Leads p o (Next n) in
     branch L (is_tag n) _ _ (λ t. branch L (holds p o 4) _ _ (λ h. tag t h) (λ _. tt))
-        (λ _. branch L (is_labelled n) _ _ (λ t. labelled t)
-            (λ _. branch L (n == IP4) _ _ (λ e. ip4 (same_number n IP4 e)) (λ _. branch L (n == IP6) _ _ (λ e. ip6 (same_number n IP6 e)) (λ _. tt))))
+    (λ _. branch L (is_labelled n) _ _ (λ t. labelled t)
+    (λ _. branch L (n == IP4) _ _ (λ e. ip4 (same_number n IP4 e)) (λ _. branch L (n == IP6) _ _ (λ e. ip6 (same_number n IP6 e)) (λ _. tt))))
 leads p o Label =
     let L : Option Place → Type 0 = Leads p o Label in
     branch L (holds p o 4) _ _
-        (λ h. branch L (is_bottom p o) _ _
-            (λ b. branch L (is_version p (o + 4) 4) _ _ (λ v. label_ip4 h b v) (λ _. branch L (is_version p (o + 4) 6) _ _ (λ v. label_ip6 h b v) (λ _. tt)))
-            (λ b. label h b))
-        (λ _. tt)
+    (λ h. branch L (is_bottom p o) _ _
+    (λ b. branch L (is_version p (o + 4) 4) _ _ (λ v. label_ip4 h b v) (λ _. branch L (is_version p (o + 4) 6) _ _ (λ v. label_ip6 h b v) (λ _. tt)))
+    (λ b. label h b))
+    (λ _. tt)
 leads p o Ip4 =
     let L : Option Place → Type 0 = Leads p o Ip4 in
     branch L (is_ip4 p o) _ _
-        (λ h. branch L (is_first p o) _ _ (λ f. branch L (has_ports (byte p (o + 9))) _ _ (λ q. ip4_ports h f q) (λ _. tt)) (λ _. tt)) (λ _. tt)
+    (λ h. branch L (is_first p o) _ _ (λ f. branch L (has_ports (byte p (o + 9))) _ _ (λ q. ip4_ports h f q) (λ _. tt)) (λ _. tt)) (λ _. tt)
 leads p o Ip6 = branch (Leads p o Ip6) (is_ip6 p o) _ _ (λ h. ip6_chain h) (λ _. tt)
 leads p o (Chain n) =
     let L : Option Place → Type 0 = Leads p o (Chain n) in

@@ -1,19 +1,18 @@
 -- The walk's keys, as the relation has them and as the plain program lists them.
-use Rattle.std.proofs.Common.{◌≡◌, ◌⊎◌, ◌↔◌, ℕ, zero, suc, ◌+◌, ◌-◌, ◌*◌, ◌<◌, ◌≤◌, Bool, true, false, List, [], ◌∷◌, ◌++◌, length, Option, Some, None, IsTrue, IsFalse, arith, refl, sym, ap, ◌∙◌, inl, inr, subst}
+use Rattle.std.proofs.Common.{◌≡◌, ◌⊎◌, ◌↔◌, ℕ, zero, suc, ◌+◌, ◌<◌, ◌≤◌, true, List, [], ◌++◌, length, Option, Some, None, arith, refl, sym, ap, ◌∙◌, inl, inr, subst}
 use Rattle.std.specs.List.{Contains}
 use Rattle.std.proofs.lemmas.Bool.Decides.{nat_tests}
 use Rattle.std.proofs.lemmas.List.{append-nil}
 use Rattle.std.proofs.lemmas.List.Elements.{Contains-append_left, Contains-append_right, Contains-append_cases}
 use Rattle.st_walk.specs.declared.header.Layer.{Layer}
-use Rattle.st_walk.specs.declared.header.Layer.TheVariants.{Ether, Next, Label, Ip4, Ip6, Chain, Last, Fragment, Ports}
 use Rattle.st_walk.specs.declared.header.Place.{Place}
 use Rattle.st_walk.specs.declared.text.Key.{Key}
-use Rattle.st_walk.specs.Layers.{byte, holds, ip4_size, is_ip4, is_ip6, extension_size, is_extension, layer_keys}
+use Rattle.st_walk.specs.Layers.{holds, is_ip4, is_ip6, extension_size, is_extension, layer_keys}
 use Rattle.st_walk.specs.Walk.{Step, Reaches, Carries, HasFrom, InOrder}
 use Rattle.st_walk.specs.Walk.Step.{ether, tag, labelled, ip4, ip6, label, label_ip4, label_ip6, ip4_ports, ip6_chain, extension, fragment, last, last_ports}
 use Rattle.st_walk.specs.Walk.Reaches.{here, on}
 use Rattle.st_walk.specs.Walk.InOrder.{ends, goes}
-use Rattle.st_walk.specs.Listing.{place, following, steps_left, rank, keys_within, walk_keys}
+use Rattle.st_walk.specs.Listing.{place, following, steps_left, keys_within, walk_keys}
 use Rattle.st_walk.proofs.Steps.{finds, Leads, leads}
 
 room : (p : List ℕ) (o n : ℕ) → holds p o n ≡ true → o + n ≤ length p
@@ -120,9 +119,10 @@ has_not p o l k e n h = elim ((has_unroll p o l k).0 h) [ inl c ↦ n c | inr a 
 
 -- the layer doesn't carry the key, and this one follows
 pub has_next : (p : List ℕ) (o : ℕ) (l : Layer) (k : Key) (q : Place) → following p o l ≡ Some q → (Carries p o l k → ⊥) → HasFrom p o l k ↔ HasFrom p q.at q.layer k
-has_next p o l k q e n =
-    (λ h. elim ((has_unroll p o l k).0 h) as (λ _. HasFrom p q.at q.layer k) [ inl c ↦ absurd (n c) | inr a ↦ rw e at a ],
-     λ h. (has_unroll p o l k).1 (inr (rw e h)))
+has_next p o l k q e n = (
+  λ h. elim ((has_unroll p o l k).0 h) as (λ _. HasFrom p q.at q.layer k) [ inl c ↦ absurd (n c) | inr a ↦ rw e at a ],
+  λ h. (has_unroll p o l k).1 (inr (rw e h)),
+)
 
 empty : (k : Key) → Contains [] k → ⊥
 empty k (i, h, e) = omega arith
@@ -136,9 +136,10 @@ contains_within (suc n) p (Some q) k h =
     let f : Option Place = following p q.at q.layer in
     let b : bound p f ≤ steps_left p q.at q.layer = narrow p q.at q.layer f (leads p q.at q.layer) in
     let rest : Contains (keys_within n p f) k ↔ HasAfter p f k = contains_within n p f k (omega arith) in
-    let own : List Key = layer_keys p q.at q.layer in
-    (λ c. has_either p q.at q.layer k (elim (Contains-append_cases own (keys_within n p f) k c) as (λ _. Carries p q.at q.layer k ⊎ HasAfter p f k) [ inl x ↦ inl x | inr y ↦ inr (rest.0 y) ]),
-     λ a. elim ((has_unroll p q.at q.layer k).0 a) as (λ _. Contains (own ++ keys_within n p f) k) [ inl x ↦ Contains-append_left own (keys_within n p f) k x | inr y ↦ Contains-append_right own (keys_within n p f) k (rest.1 y) ])
+    let own : List Key = layer_keys p q.at q.layer in (
+      λ c. has_either p q.at q.layer k (elim (Contains-append_cases own (keys_within n p f) k c) as (λ _. Carries p q.at q.layer k ⊎ HasAfter p f k) [ inl x ↦ inl x | inr y ↦ inr (rest.0 y) ]),
+      λ a. elim ((has_unroll p q.at q.layer k).0 a) as (λ _. Contains (own ++ keys_within n p f) k) [ inl x ↦ Contains-append_left own (keys_within n p f) k x | inr y ↦ Contains-append_right own (keys_within n p f) k (rest.1 y) ],
+    )
 
 -- the list has each key of the walk and no other
 pub walk_contains : (p : List ℕ) (q : Option Place) (k : Key) → Contains (walk_keys p q) k ↔ HasAfter p q k
@@ -155,8 +156,8 @@ in_order (suc n) p q None e h =
     ends (λ m k s. cc (finds p q.at m q.layer k s)) (walk_unroll p q ∙ rw e (walk_none p (layer_keys p q.at q.layer)))
 in_order (suc n) p q (Some r) e h =
     goes (subst (λ (x : Option Place). Leads p q.at q.layer x) e (leads p q.at q.layer))
-        (in_order n p r (following p r.at r.layer) refl (omega (arith, falls p q.at q.layer r e)))
-        (walk_unroll p q ∙ ap (λ x. layer_keys p q.at q.layer ++ walk_keys p x) e)
+    (in_order n p r (following p r.at r.layer) refl (omega (arith, falls p q.at q.layer r e)))
+    (walk_unroll p q ∙ ap (λ x. layer_keys p q.at q.layer ++ walk_keys p x) e)
 
 stopped : (p : List ℕ) (o : ℕ) (l : Layer) (q : Option Place) → Leads p o l q → ((m : ℕ) (k : Layer) → Step p o l m k → ⊥) → layer_keys p o l ++ walk_keys p q ≡ layer_keys p o l
 stopped p o l None s stops = walk_none p (layer_keys p o l)
@@ -170,6 +171,7 @@ only_order p o l ks (goes {m = m} {k = k} {more = more} s i e) =
     e ∙ (ap (λ x. layer_keys p o l ++ x) rest ∙ sym (walk_unroll p (record { at = o; layer = l }) ∙ ap (λ x. layer_keys p o l ++ walk_keys p x) (finds p o m l k s)))
 
 pub walk_order : (p : List ℕ) (o : ℕ) (l : Layer) (ks : List Key) → InOrder p o l ks ↔ (ks ≡ walk_keys p (place o l))
-walk_order p o l ks =
-    (only_order p o l ks,
-     λ e. rw e (in_order (suc (steps_left p o l)) p (record { at = o; layer = l }) (following p o l) refl (omega arith)))
+walk_order p o l ks = (
+  only_order p o l ks,
+  λ e. rw e (in_order (suc (steps_left p o l)) p (record { at = o; layer = l }) (following p o l) refl (omega arith)),
+)

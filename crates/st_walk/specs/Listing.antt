@@ -20,8 +20,8 @@ following p o (Next n) =
     else (if is_labelled n then place o Label else (if n == IP4 then place o Ip4 else (if n == IP6 then place o Ip6 else None)))
 following p o Label =
     if holds p o 4 then
-        (if is_bottom p o then (if is_version p (o + 4) 4 then place (o + 4) Ip4 else (if is_version p (o + 4) 6 then place (o + 4) Ip6 else None))
-        else place (o + 4) Label)
+    (if is_bottom p o then (if is_version p (o + 4) 4 then place (o + 4) Ip4 else (if is_version p (o + 4) 6 then place (o + 4) Ip6 else None))
+    else place (o + 4) Label)
     else None
 following p o Ip4 = if is_ip4 p o then (if is_first p o then (if has_ports (byte p (o + 9)) then place (o + ip4_size p o) Ports else None) else None) else None
 following p o Ip6 = if is_ip6 p o then place (o + 40) (Chain (byte p (o + 6))) else None

@@ -5,8 +5,8 @@ ghost use Rattle.st_walk.specs.Layers.{layer_keys, byte, field};
 ghost use Rattle.st_walk.specs.Walk.{Carries};
 ghost use Rattle.st_walk.specs.declared.header.Layer.TheVariants.{Next, Label, Ip4, Ip6, Last, Fragment, Ports};
 
-use crate::fields::{holds, u128_at, u16_at, u32_at};
-use crate::header::{is_ip4, is_ip6, is_tag, Layer, Place};
+use crate::fields::{holds, u16_at, u32_at, u128_at};
+use crate::header::{Layer, Place, is_ip4, is_ip6, is_tag};
 use crate::text::Key;
 
 /// The key of this number, from 0, among those that the layer carries.
@@ -173,8 +173,7 @@ fn ip4_carries(frame: &[u8], at: usize, key: &Key) -> bool
         Key::Proto(number) => is_ip4(frame, at) && frame[at + 9] == number,
         Key::V4(address) => {
             is_ip4(frame, at)
-                && (u32_at(frame, at + 12) == address
-                    || u32_at(frame, at + 16) == address)
+                && (u32_at(frame, at + 12) == address || u32_at(frame, at + 16) == address)
         }
         _ => false,
     }
@@ -187,8 +186,7 @@ fn ip6_carries(frame: &[u8], at: usize, key: &Key) -> bool
     match *key {
         Key::V6(address) => {
             is_ip6(frame, at)
-                && (u128_at(frame, at + 8) == address
-                    || u128_at(frame, at + 24) == address)
+                && (u128_at(frame, at + 8) == address || u128_at(frame, at + 24) == address)
         }
         _ => false,
     }
@@ -210,9 +208,7 @@ fn ports_carry(frame: &[u8], at: usize, key: &Key) -> bool
 {
     match *key {
         Key::Port(port) => {
-            holds(frame, at, 4)
-                && (u16_at(frame, at) == port
-                    || u16_at(frame, at + 2) == port)
+            holds(frame, at, 4) && (u16_at(frame, at) == port || u16_at(frame, at + 2) == port)
         }
         _ => false,
     }

@@ -8,8 +8,8 @@ ghost use Rattle.st_walk.specs.Listing.{following};
 
 use crate::fields::{holds, u16_at};
 use crate::numbers::{
-    AUTHENTICATION, CUSTOMER_TAG, DESTINATION, FRAGMENT, HOP_BY_HOP, IP4, IP6, MPLS, MPLS_MULTICAST,
-    OUTER_TAG, ROUTING, SERVICE_TAG, TCP, UDP,
+    AUTHENTICATION, CUSTOMER_TAG, DESTINATION, FRAGMENT, HOP_BY_HOP, IP4, IP6, MPLS,
+    MPLS_MULTICAST, OUTER_TAG, ROUTING, SERVICE_TAG, TCP, UDP,
 };
 
 /// What stands at an offset of a frame.
@@ -69,7 +69,10 @@ fn after_ether(frame: &[u8], at: usize) -> Option<Place>
         return None;
     }
     let kind = u16_at(frame, at + 12);
-    Some(Place { at: at + 14, layer: Layer::Next(kind) })
+    Some(Place {
+        at: at + 14,
+        layer: Layer::Next(kind),
+    })
 }
 
 #[inline]
@@ -80,11 +83,20 @@ fn after_kind(frame: &[u8], at: usize, kind: u16) -> Option<Place>
         return after_tag(frame, at);
     }
     if is_labelled(kind) {
-        return Some(Place { at, layer: Layer::Label });
+        return Some(Place {
+            at,
+            layer: Layer::Label,
+        });
     }
     match kind {
-        IP4 => Some(Place { at, layer: Layer::Ip4 }),
-        IP6 => Some(Place { at, layer: Layer::Ip6 }),
+        IP4 => Some(Place {
+            at,
+            layer: Layer::Ip4,
+        }),
+        IP6 => Some(Place {
+            at,
+            layer: Layer::Ip6,
+        }),
         _ => None,
     }
 }
@@ -97,7 +109,10 @@ fn after_tag(frame: &[u8], at: usize) -> Option<Place>
         return None;
     }
     let kind = u16_at(frame, at + 2);
-    Some(Place { at: at + 4, layer: Layer::Next(kind) })
+    Some(Place {
+        at: at + 4,
+        layer: Layer::Next(kind),
+    })
 }
 
 #[inline]
@@ -109,13 +124,22 @@ fn after_label(frame: &[u8], at: usize) -> Option<Place>
     }
     let at_next = at + 4;
     if !is_bottom(frame, at) {
-        return Some(Place { at: at_next, layer: Layer::Label });
+        return Some(Place {
+            at: at_next,
+            layer: Layer::Label,
+        });
     }
     if is_version(frame, at_next, 4) {
-        return Some(Place { at: at_next, layer: Layer::Ip4 });
+        return Some(Place {
+            at: at_next,
+            layer: Layer::Ip4,
+        });
     }
     if is_version(frame, at_next, 6) {
-        return Some(Place { at: at_next, layer: Layer::Ip6 });
+        return Some(Place {
+            at: at_next,
+            layer: Layer::Ip6,
+        });
     }
     None
 }
@@ -128,7 +152,10 @@ fn after_ip4(frame: &[u8], at: usize) -> Option<Place>
         return None;
     }
     let words = (frame[at] % 16) as usize;
-    Some(Place { at: at + 4 * words, layer: Layer::Ports })
+    Some(Place {
+        at: at + 4 * words,
+        layer: Layer::Ports,
+    })
 }
 
 #[inline]
@@ -138,7 +165,10 @@ fn after_ip6(frame: &[u8], at: usize) -> Option<Place>
     if !is_ip6(frame, at) {
         return None;
     }
-    Some(Place { at: at + 40, layer: Layer::Chain(frame[at + 6]) })
+    Some(Place {
+        at: at + 40,
+        layer: Layer::Chain(frame[at + 6]),
+    })
 }
 
 #[inline]
@@ -146,13 +176,22 @@ fn after_extension(frame: &[u8], at: usize, number: u8) -> Option<Place>
     ensures { result ≡ following frame.now at (Chain number) }
 {
     let Some(end) = extension_end(frame, at, number) else {
-        return Some(Place { at, layer: Layer::Last(number) });
+        return Some(Place {
+            at,
+            layer: Layer::Last(number),
+        });
     };
     let next = frame[at];
     if is_later(frame, at, number) {
-        return Some(Place { at: end, layer: Layer::Fragment(next) });
+        return Some(Place {
+            at: end,
+            layer: Layer::Fragment(next),
+        });
     }
-    Some(Place { at: end, layer: Layer::Chain(next) })
+    Some(Place {
+        at: end,
+        layer: Layer::Chain(next),
+    })
 }
 
 #[inline]
@@ -160,7 +199,10 @@ fn after_last(at: usize, number: u8) -> Option<Place>
     ensures { result ≡ (if has_ports number then Some (record { at = at; layer = Ports }) else None) }
 {
     if has_ports(number) {
-        Some(Place { at, layer: Layer::Ports })
+        Some(Place {
+            at,
+            layer: Layer::Ports,
+        })
     } else {
         None
     }

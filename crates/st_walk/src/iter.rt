@@ -4,7 +4,7 @@ ghost use Rattle.std.specs.Prelude.{◌≡◌, ◌+◌, ◌<◌, Some, None, sli
 ghost use Rattle.st_walk.specs.Layers.{layer_keys};
 
 use crate::carried::key_at;
-use crate::header::{following, Layer, Place};
+use crate::header::{Layer, Place, following};
 use crate::text::Key;
 
 /// The keys that a frame's walk has still to give, in walk order.
@@ -24,7 +24,10 @@ impl<'a> Keys<'a> {
     {
         Keys {
             frame,
-            place: Place { at: 0, layer: Layer::Ether },
+            place: Place {
+                at: 0,
+                layer: Layer::Ether,
+            },
             given: 0,
         }
     }

@@ -38,5 +38,5 @@ mod text;
 mod walk;
 
 pub use iter::Keys;
-pub use text::{key_text, Key};
+pub use text::{Key, key_text};
 pub use walk::{has_key, keys};

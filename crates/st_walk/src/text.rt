@@ -1,11 +1,12 @@
 //! What a frame can be looked up by, and the bytes that an index names it by.
 
 ghost use Rattle.std.specs.Prelude.{◌≡◌, ◌≤◌, ◌∷◌, length};
-ghost use Rattle.st_walk.specs.KeyText.{key_text};
+ghost use Rattle.st_walk.specs.KeyText.{key_text, Fits};
+ghost use Rattle.st_walk.specs.declared.text.Key.{Key};
 
 use arrayvec::ArrayVec;
 
-/// What a packet can be looked up by. Keys are ordered as their texts are.
+/// What a packet can be looked up by.
 #[derive(Clone, Copy, Debug, PartialEq, Eq, PartialOrd, Ord, Hash)]
 pub enum Key {
     /// The number of the protocol over IPv4, or at the end of an IPv6 chain.
@@ -27,8 +28,10 @@ pub enum Key {
 /// The kind's byte and then the value, its highest byte first: 2 to 17 bytes.
 ///
 /// Source: docs/FORMAT.md, "Index rows".
+#[tactic(auto, using(crate::proofs::Texts::same_key))]
 pub fn key_text(key: &Key) -> ArrayVec<u8, 17>
-    ensures { result.items ≡ key_text key.now }
+    ensures text { result.items ≡ key_text key.now }
+    ensures one { (k : Key) → Fits k → key_text k ≡ result.items → k ≡ key.now }
 {
     match *key {
         Key::Proto(number) => joined(1, &number.to_be_bytes()),
