@@ -4,7 +4,7 @@ ghost use Rattle.std.specs.Prelude.{◌≡◌, ◌+◌, ◌≤◌, ◌↔◌, �
 ghost use Rattle.st_walk.specs.Layers.{holds, is_tag, is_labelled, is_bottom, is_version, is_ip4, is_ip6, is_first, has_ports, is_extension, extension_size, is_later, byte, field};
 ghost use Rattle.st_walk.specs.declared.header.Layer.{Layer};
 ghost use Rattle.st_walk.specs.declared.header.Layer.TheVariants.{Ether, Next, Label, Ip4, Ip6, Chain, Ports};
-ghost use Rattle.st_walk.specs.Listing.{following};
+ghost use Rattle.st_walk.specs.Listing.{following, place};
 
 use crate::fields::{holds, u16_at};
 use crate::numbers::{
@@ -62,6 +62,13 @@ pub fn following(frame: &[u8], place: Place) -> Option<Place>
 }
 
 #[inline]
+fn leads_to(at: usize, layer: Layer) -> Option<Place>
+    ensures { result ≡ place at layer }
+{
+    Some(Place { at, layer })
+}
+
+#[inline]
 fn after_ether(frame: &[u8], at: usize) -> Option<Place>
     ensures { result ≡ following frame.now at Ether }
 {
@@ -69,10 +76,7 @@ fn after_ether(frame: &[u8], at: usize) -> Option<Place>
         return None;
     }
     let kind = u16_at(frame, at + 12);
-    Some(Place {
-        at: at + 14,
-        layer: Layer::Next(kind),
-    })
+    leads_to(at + 14, Layer::Next(kind))
 }
 
 #[inline]
@@ -83,36 +87,24 @@ fn after_kind(frame: &[u8], at: usize, kind: u16) -> Option<Place>
         return after_tag(frame, at);
     }
     if is_labelled(kind) {
-        return Some(Place {
-            at,
-            layer: Layer::Label,
-        });
+        return leads_to(at, Layer::Label);
     }
     match kind {
-        IP4 => Some(Place {
-            at,
-            layer: Layer::Ip4,
-        }),
-        IP6 => Some(Place {
-            at,
-            layer: Layer::Ip6,
-        }),
+        IP4 => leads_to(at, Layer::Ip4),
+        IP6 => leads_to(at, Layer::Ip6),
         _ => None,
     }
 }
 
 #[inline]
 fn after_tag(frame: &[u8], at: usize) -> Option<Place>
-    ensures { result ≡ (if holds frame.now at 4 then Some (record { at = at + 4; layer = Next (field 2 (at + 2) frame.now) }) else None) }
+    ensures { result ≡ (if holds frame.now at 4 then place (at + 4) (Next (field 2 (at + 2) frame.now)) else None) }
 {
     if !holds(frame, at, 4) {
         return None;
     }
     let kind = u16_at(frame, at + 2);
-    Some(Place {
-        at: at + 4,
-        layer: Layer::Next(kind),
-    })
+    leads_to(at + 4, Layer::Next(kind))
 }
 
 #[inline]
@@ -124,22 +116,13 @@ fn after_label(frame: &[u8], at: usize) -> Option<Place>
     }
     let at_next = at + 4;
     if !is_bottom(frame, at) {
-        return Some(Place {
-            at: at_next,
-            layer: Layer::Label,
-        });
+        return leads_to(at_next, Layer::Label);
     }
     if is_version(frame, at_next, 4) {
-        return Some(Place {
-            at: at_next,
-            layer: Layer::Ip4,
-        });
+        return leads_to(at_next, Layer::Ip4);
     }
     if is_version(frame, at_next, 6) {
-        return Some(Place {
-            at: at_next,
-            layer: Layer::Ip6,
-        });
+        return leads_to(at_next, Layer::Ip6);
     }
     None
 }
@@ -152,10 +135,7 @@ fn after_ip4(frame: &[u8], at: usize) -> Option<Place>
         return None;
     }
     let words = (frame[at] % 16) as usize;
-    Some(Place {
-        at: at + 4 * words,
-        layer: Layer::Ports,
-    })
+    leads_to(at + 4 * words, Layer::Ports)
 }
 
 #[inline]
@@ -165,10 +145,7 @@ fn after_ip6(frame: &[u8], at: usize) -> Option<Place>
     if !is_ip6(frame, at) {
         return None;
     }
-    Some(Place {
-        at: at + 40,
-        layer: Layer::Chain(frame[at + 6]),
-    })
+    leads_to(at + 40, Layer::Chain(frame[at + 6]))
 }
 
 #[inline]
@@ -176,33 +153,21 @@ fn after_extension(frame: &[u8], at: usize, number: u8) -> Option<Place>
     ensures { result ≡ following frame.now at (Chain number) }
 {
     let Some(end) = extension_end(frame, at, number) else {
-        return Some(Place {
-            at,
-            layer: Layer::Last(number),
-        });
+        return leads_to(at, Layer::Last(number));
     };
     let next = frame[at];
     if is_later(frame, at, number) {
-        return Some(Place {
-            at: end,
-            layer: Layer::Fragment(next),
-        });
+        return leads_to(end, Layer::Fragment(next));
     }
-    Some(Place {
-        at: end,
-        layer: Layer::Chain(next),
-    })
+    leads_to(end, Layer::Chain(next))
 }
 
 #[inline]
 fn after_last(at: usize, number: u8) -> Option<Place>
-    ensures { result ≡ (if has_ports number then Some (record { at = at; layer = Ports }) else None) }
+    ensures { result ≡ (if has_ports number then place at Ports else None) }
 {
     if has_ports(number) {
-        Some(Place {
-            at,
-            layer: Layer::Ports,
-        })
+        leads_to(at, Layer::Ports)
     } else {
         None
     }
