@@ -10,7 +10,7 @@ use crate::header::{Layer, Place, is_ip4, is_ip6, is_tag};
 use crate::text::Key;
 
 /// The key of this number, from 0, among those that the layer carries.
-#[inline]
+#[inline(always)]
 pub fn key_at(frame: &[u8], place: Place, i: usize) -> Option<Key>
     ensures key { slice_get (layer_keys frame.now place.at place.layer) i ≡ result }
     ensures few { OnSome result (i < 3) }
@@ -127,7 +127,7 @@ fn label(frame: &[u8], at: usize) -> u32
 }
 
 /// Whether the layer carries the key.
-#[inline]
+#[inline(always)]
 pub fn carries(frame: &[u8], place: Place, key: &Key) -> bool
     ensures { IsTrue result ↔ Carries frame.now place.at place.layer key.now }
 {

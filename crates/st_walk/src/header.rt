@@ -43,7 +43,7 @@ pub struct Place {
 }
 
 /// The layer that this one leads to, or `None` where the walk ends.
-#[inline]
+#[inline(always)]
 pub fn following(frame: &[u8], place: Place) -> Option<Place>
     ensures { result ≡ following frame.now place.at place.layer }
 {
@@ -61,7 +61,7 @@ pub fn following(frame: &[u8], place: Place) -> Option<Place>
     }
 }
 
-#[inline]
+#[inline(always)]
 fn leads_to(at: usize, layer: Layer) -> Option<Place>
     ensures { result ≡ place at layer }
 {
