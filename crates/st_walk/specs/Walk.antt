@@ -31,9 +31,9 @@ pub data Step (p : List ℕ) : ℕ → Layer → ℕ → Layer → Type 0 where
   extension : {o n : ℕ} → IsTrue (is_extension p o n) → IsFalse (is_later p o n) → Step p o (Chain n) (o + extension_size p o n) (Chain (byte p o))
   -- after the fragment header of a later fragment stands no header (RFC 8200, 4.5)
   fragment : {o n : ℕ} → IsTrue (is_extension p o n) → IsTrue (is_later p o n) → Step p o (Chain n) (o + extension_size p o n) (Fragment (byte p o))
-  -- the chain ends on a number that names no extension header, or none that is wholly captured
+  -- the chain is over where no header counts that its number would announce
   last : {o n : ℕ} → IsFalse (is_extension p o n) → Step p o (Chain n) o (Last n)
-  -- and the ports follow where that number is of a protocol with ports
+  -- and there the ports stand, where that number is of a protocol with ports
   last_ports : {o n : ℕ} → IsTrue (has_ports n) → Step p o (Last n) o Ports
 
 -- by any number of steps the one layer leads to the other
