@@ -1,9 +1,9 @@
 //! The keys that one layer carries.
 
-ghost use Rattle.std.specs.Prelude.{◌≡◌, ◌+◌, ◌*◌, ◌%◌, ◌/◌, ◌<◌, ◌≤◌, ◌↔◌, ◌∷◌, [], length, slice_get, IsTrue, OnSome, if◌then◌else◌};
-ghost use Rattle.st_walk.specs.Layers.{layer_keys, byte, field};
+ghost use Rattle.std.specs.Prelude.{◌≡◌, ◌+◌, ◌%◌, ◌/◌, ◌<◌, ◌≤◌, ◌↔◌, ◌∷◌, [], length, slice_get, IsTrue, OnSome};
+ghost use Rattle.st_walk.specs.Layers.{layer_keys, field};
 ghost use Rattle.st_walk.specs.Walk.{Carries};
-ghost use Rattle.st_walk.specs.declared.header.Layer.TheVariants.{Next, Label, Ip4, Ip6, Last, Fragment, Ports};
+ghost use Rattle.st_walk.specs.declared.header.Layer.TheVariants.{Next, Label, Ip4, Ip6, Ports};
 
 use crate::fields::{holds, u16_at, u32_at, u128_at};
 use crate::header::{Layer, Place, is_ip4, is_ip6, is_tag};

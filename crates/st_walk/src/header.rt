@@ -1,8 +1,7 @@
 //! Where the walk stands, and the step from there to the next layer.
 
-ghost use Rattle.std.specs.Prelude.{◌≡◌, ◌+◌, ◌≤◌, ◌↔◌, ℕ, List, length, IsTrue, IfSome, is_some, if◌then◌else◌};
-ghost use Rattle.st_walk.specs.Layers.{holds, is_tag, is_labelled, is_bottom, is_version, is_ip4, is_ip6, is_first, has_ports, is_extension, extension_size, is_later, byte, field};
-ghost use Rattle.st_walk.specs.declared.header.Layer.{Layer};
+ghost use Rattle.std.specs.Prelude.{◌≡◌, ◌+◌, ◌≤◌, length, IsTrue, IfSome, is_some, if◌then◌else◌};
+ghost use Rattle.st_walk.specs.Layers.{holds, is_tag, is_labelled, is_bottom, is_version, is_ip4, is_ip6, is_first, has_ports, is_extension, extension_size, is_later, field};
 ghost use Rattle.st_walk.specs.declared.header.Layer.TheVariants.{Ether, Next, Label, Ip4, Ip6, Chain, Ports};
 ghost use Rattle.st_walk.specs.Listing.{following, place};
 

@@ -1,7 +1,6 @@
 //! The keys of a frame, one by one.
 
-ghost use Rattle.std.specs.Prelude.{◌≡◌, ◌+◌, ◌<◌, Some, None, slice_get, IsTrue, IsSome, OnSome};
-ghost use Rattle.st_walk.specs.Layers.{layer_keys};
+ghost use Rattle.std.specs.Prelude.{◌≡◌};
 
 use crate::carried::key_at;
 use crate::header::{Layer, Place, following};

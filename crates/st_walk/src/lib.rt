@@ -2,9 +2,9 @@
 //!
 //! A frame is the captured bytes of a packet, from the Ethernet header on. The walk goes from
 //! header to header: VLAN tags, MPLS labels, IPv4, IPv6 with its extension headers, and the ports
-//! of TCP and UDP. A header counts only where all the bytes that its rule needs are captured. A
-//! key is a protocol, a port, a tag, a label or an address. The rules are those of IEEE 802.1Q and
-//! of RFCs 3032, 791, 8200, 9293 and 768: docs/FORMAT.md, "The header walk".
+//! of TCP and UDP. A header that is cut short gives nothing. A key is a protocol, a port, a tag, a
+//! label or an address. The rules are those of IEEE 802.1Q and of RFCs 3032, 791, 8200, 9293 and
+//! 768: docs/FORMAT.md, "The header walk".
 //!
 //! # What it promises
 //!
