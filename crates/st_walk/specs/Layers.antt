@@ -79,11 +79,17 @@ is_later p o n = n == FRAGMENT && not (field 2 (o + 2) p / 8 == 0)
 -- (RFC 8200, 4), and both ports (RFC 9293, 3.1; RFC 768).
 abbrev pub layer_keys : List ℕ → ℕ → Layer → List Key
 layer_keys p o Ether = []
-layer_keys p o (Next n) = if is_tag n && holds p o 4 then Vlan (field 2 o p % 4096) ∷ [] else []
+layer_keys p o (Next n) =
+    if is_tag n && holds p o 4 then Vlan (field 2 o p % 4096) ∷ [] else []
 layer_keys p o Label = if holds p o 4 then Mpls (field 4 o p / 4096) ∷ [] else []
-layer_keys p o Ip4 = if is_ip4 p o then Proto (byte p (o + 9)) ∷ (V4 (field 4 (o + 12) p) ∷ (V4 (field 4 (o + 16) p) ∷ [])) else []
-layer_keys p o Ip6 = if is_ip6 p o then V6 (field 16 (o + 8) p) ∷ (V6 (field 16 (o + 24) p) ∷ []) else []
+layer_keys p o Ip4 =
+    if is_ip4 p o then
+    Proto (byte p (o + 9)) ∷ (V4 (field 4 (o + 12) p) ∷ (V4 (field 4 (o + 16) p) ∷ []))
+    else []
+layer_keys p o Ip6 =
+    if is_ip6 p o then V6 (field 16 (o + 8) p) ∷ (V6 (field 16 (o + 24) p) ∷ []) else []
 layer_keys p o (Chain n) = []
 layer_keys p o (Last n) = Proto n ∷ []
 layer_keys p o (Fragment n) = Proto n ∷ []
-layer_keys p o Ports = if holds p o 4 then Port (field 2 o p) ∷ (Port (field 2 (o + 2) p) ∷ []) else []
+layer_keys p o Ports =
+    if holds p o 4 then Port (field 2 o p) ∷ (Port (field 2 (o + 2) p) ∷ []) else []

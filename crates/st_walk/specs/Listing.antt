@@ -14,19 +14,31 @@ place o l = Some (record { at = o; layer = l })
 
 -- the layer that this one leads to
 abbrev pub following : List ℕ → ℕ → Layer → Option Place
-following p o Ether = if holds p o 14 then place (o + 14) (Next (field 2 (o + 12) p)) else None
+following p o Ether =
+    if holds p o 14 then place (o + 14) (Next (field 2 (o + 12) p)) else None
 following p o (Next n) =
     if is_tag n then (if holds p o 4 then place (o + 4) (Next (field 2 (o + 2) p)) else None)
-    else (if is_labelled n then place o Label else (if n == IP4 then place o Ip4 else (if n == IP6 then place o Ip6 else None)))
+    else (if is_labelled n then place o Label
+    else (if n == IP4 then place o Ip4
+    else (if n == IP6 then place o Ip6 else None)))
 following p o Label =
     if holds p o 4 then
-    (if is_bottom p o then (if is_version p (o + 4) 4 then place (o + 4) Ip4 else (if is_version p (o + 4) 6 then place (o + 4) Ip6 else None))
+    (if is_bottom p o then
+    (if is_version p (o + 4) 4 then place (o + 4) Ip4
+    else (if is_version p (o + 4) 6 then place (o + 4) Ip6 else None))
     else place (o + 4) Label)
     else None
-following p o Ip4 = if is_ip4 p o then (if is_first p o then (if has_ports (byte p (o + 9)) then place (o + ip4_size p o) Ports else None) else None) else None
+following p o Ip4 =
+    if is_ip4 p o then
+    (if is_first p o then
+    (if has_ports (byte p (o + 9)) then place (o + ip4_size p o) Ports else None)
+    else None)
+    else None
 following p o Ip6 = if is_ip6 p o then place (o + 40) (Chain (byte p (o + 6))) else None
 following p o (Chain n) =
-    if is_extension p o n then (if is_later p o n then place (o + extension_size p o n) (Fragment (byte p o)) else place (o + extension_size p o n) (Chain (byte p o)))
+    if is_extension p o n then
+    (if is_later p o n then place (o + extension_size p o n) (Fragment (byte p o))
+    else place (o + extension_size p o n) (Chain (byte p o)))
     else place o (Last n)
 following p o (Last n) = if has_ports n then place o Ports else None
 following p o (Fragment n) = None

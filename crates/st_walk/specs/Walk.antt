@@ -12,7 +12,8 @@ pub data Step (p : List ℕ) : ℕ → Layer → ℕ → Layer → Type 0 where
   -- the Ethernet header ends with the EtherType (IEEE 802.3, 3.2)
   ether : {o : ℕ} → IsTrue (holds p o 14) → Step p o Ether (o + 14) (Next (field 2 (o + 12) p))
   -- a tag ends with the next EtherType (IEEE 802.1Q, 9.3)
-  tag : {o n : ℕ} → IsTrue (is_tag n) → IsTrue (holds p o 4) → Step p o (Next n) (o + 4) (Next (field 2 (o + 2) p))
+  tag : {o n : ℕ} → IsTrue (is_tag n) → IsTrue (holds p o 4)
+      → Step p o (Next n) (o + 4) (Next (field 2 (o + 2) p))
   -- the label stack of a labelled packet (RFC 3032, 5)
   labelled : {o n : ℕ} → IsTrue (is_labelled n) → Step p o (Next n) o Label
   -- the EtherTypes of IPv4 (RFC 894) and IPv6 (RFC 2464, 3)
@@ -21,16 +22,24 @@ pub data Step (p : List ℕ) : ℕ → Layer → ℕ → Layer → Type 0 where
   -- a label that is not the last is followed by another (RFC 3032, 2.1)
   label : {o : ℕ} → IsTrue (holds p o 4) → IsFalse (is_bottom p o) → Step p o Label (o + 4) Label
   -- the last label doesn't tell what follows, so that packet's own version does
-  label_ip4 : {o : ℕ} → IsTrue (holds p o 4) → IsTrue (is_bottom p o) → IsTrue (is_version p (o + 4) 4) → Step p o Label (o + 4) Ip4
-  label_ip6 : {o : ℕ} → IsTrue (holds p o 4) → IsTrue (is_bottom p o) → IsTrue (is_version p (o + 4) 6) → Step p o Label (o + 4) Ip6
+  label_ip4 : {o : ℕ} → IsTrue (holds p o 4) → IsTrue (is_bottom p o)
+      → IsTrue (is_version p (o + 4) 4)
+      → Step p o Label (o + 4) Ip4
+  label_ip6 : {o : ℕ} → IsTrue (holds p o 4) → IsTrue (is_bottom p o)
+      → IsTrue (is_version p (o + 4) 6)
+      → Step p o Label (o + 4) Ip6
   -- the ports follow the IPv4 header's words, but not in a later fragment (RFC 791, 3.1 and 3.2)
-  ip4_ports : {o : ℕ} → IsTrue (is_ip4 p o) → IsTrue (is_first p o) → IsTrue (has_ports (byte p (o + 9))) → Step p o Ip4 (o + ip4_size p o) Ports
+  ip4_ports : {o : ℕ} → IsTrue (is_ip4 p o) → IsTrue (is_first p o)
+      → IsTrue (has_ports (byte p (o + 9)))
+      → Step p o Ip4 (o + ip4_size p o) Ports
   -- the IPv6 header names the first header of its chain (RFC 8200, 3)
   ip6_chain : {o : ℕ} → IsTrue (is_ip6 p o) → Step p o Ip6 (o + 40) (Chain (byte p (o + 6)))
   -- an extension header begins with the number of the next header (RFC 8200, 4)
-  extension : {o n : ℕ} → IsTrue (is_extension p o n) → IsFalse (is_later p o n) → Step p o (Chain n) (o + extension_size p o n) (Chain (byte p o))
+  extension : {o n : ℕ} → IsTrue (is_extension p o n) → IsFalse (is_later p o n)
+      → Step p o (Chain n) (o + extension_size p o n) (Chain (byte p o))
   -- after the fragment header of a later fragment stands no header (RFC 8200, 4.5)
-  fragment : {o n : ℕ} → IsTrue (is_extension p o n) → IsTrue (is_later p o n) → Step p o (Chain n) (o + extension_size p o n) (Fragment (byte p o))
+  fragment : {o n : ℕ} → IsTrue (is_extension p o n) → IsTrue (is_later p o n)
+      → Step p o (Chain n) (o + extension_size p o n) (Fragment (byte p o))
   -- the chain is over where no header counts that its number would announce
   last : {o n : ℕ} → IsFalse (is_extension p o n) → Step p o (Chain n) o (Last n)
   -- and there the ports stand, where that number is of a protocol with ports
@@ -62,5 +71,9 @@ HasKey p sec k = (k ≡ Second sec) ⊎ FrameHas p k
 
 -- these are the keys of the walk from this layer on, in walk order, each as often as it stands there
 pub data InOrder (p : List ℕ) : ℕ → Layer → List Key → Type 0 where
-  ends : {o : ℕ} {l : Layer} {ks : List Key} → ((m : ℕ) (k : Layer) → Step p o l m k → ⊥) → ks ≡ layer_keys p o l → InOrder p o l ks
-  goes : {o m : ℕ} {l k : Layer} {more ks : List Key} → Step p o l m k → InOrder p m k more → ks ≡ layer_keys p o l ++ more → InOrder p o l ks
+  ends : {o : ℕ} {l : Layer} {ks : List Key} → ((m : ℕ) (k : Layer) → Step p o l m k → ⊥)
+      → ks ≡ layer_keys p o l
+      → InOrder p o l ks
+  goes : {o m : ℕ} {l k : Layer} {more ks : List Key} → Step p o l m k → InOrder p m k more
+      → ks ≡ layer_keys p o l ++ more
+      → InOrder p o l ks

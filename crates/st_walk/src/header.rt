@@ -97,7 +97,8 @@ fn after_kind(frame: &[u8], at: usize, kind: u16) -> Option<Place>
 
 #[inline]
 fn after_tag(frame: &[u8], at: usize) -> Option<Place>
-    ensures { result ≡ (if holds frame.now at 4 then place (at + 4) (Next (field 2 (at + 2) frame.now)) else None) }
+    ensures { result ≡ (if holds frame.now at 4
+        then place (at + 4) (Next (field 2 (at + 2) frame.now)) else None) }
 {
     if !holds(frame, at, 4) {
         return None;
@@ -245,7 +246,8 @@ fn has_ports(number: u8) -> bool
 #[inline]
 #[tactic(auto, using(crate::proofs::Headers::none_within), unfolding(crate::specs::Layers::extension_size, crate::specs::Layers::is_extension))]
 fn extension_end(frame: &[u8], at: usize, number: u8) -> Option<usize>
-    ensures end { IfSome result (λ e. (e ≡ at + extension_size frame.now at number) × (at + 8 ≤ length frame.now)) }
+    ensures end { IfSome result (λ e. (e ≡ at + extension_size frame.now at number)
+        × (at + 8 ≤ length frame.now)) }
     ensures some { is_some result ≡ is_extension frame.now at number }
 {
     if !holds(frame, at, 8) {
