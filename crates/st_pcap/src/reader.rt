@@ -1,0 +1,140 @@
+ghost use Rattle.std.specs.Prelude.{◌≡◌, ◌+◌, ◌≤◌, ◌⊎◌, ℕ, List, Some, Err, Result, OnOk, IfOk, IfErr, OnSome};
+ghost use Rattle.st_base.specs.Faults.{Rose};
+ghost use Rattle.st_base.specs.Records.{Rec};
+
+use std::alloc::Global;
+use std::marker::Model;
+
+use st_base::{Record, Source};
+
+use crate::errors::PcapErr;
+use crate::forms::{Form, MAX_BODY, MAX_INPUT};
+use crate::records::{read_form, read_record};
+
+/// What a reader has come to.
+#[derive(Clone, Copy, Debug, PartialEq, Eq)]
+pub enum Phase {
+    Fresh,
+    Open(Form),
+    Stopped(PcapErr),
+}
+
+#[derive(Drop)]
+pub struct PcapReader {
+    phase: Phase,
+    taken: u64,
+    number: u64,
+}
+
+impl Model for PcapReader {
+    ghost use Rattle.st_pcap.specs.Reading.{Progress, IsInBounds};
+
+    ghost Value = { Progress };
+
+    ghost view = { λ a. record { phase = a.phase; taken = a.taken; number = a.number } };
+
+    ghost invariant = { λ a. IsInBounds (record { phase = a.phase; taken = a.taken; number = a.number }) };
+}
+
+impl PcapReader {
+    ghost use Rattle.st_pcap.specs.Reading.{fresh, Stands, Gives, Took, HasReadCause, IsGoing, IsOutside};
+    ghost use Rattle.st_pcap.specs.Input.{Input, Refused};
+    ghost use Rattle.st_pcap.specs.Opening.{Opens, KeepsOpening};
+
+    pub fn new() -> PcapReader
+        ensures { result ≡ fresh }
+    {
+        PcapReader {
+            phase: Phase::Fresh,
+            taken: 0,
+            number: 0,
+        }
+    }
+
+    pub fn taken(&self) -> u64
+        ensures { result ≡ self.now.taken }
+    {
+        self.taken
+    }
+
+    /// The next record, None where the input ended where a record would begin.
+    pub fn next<S: Source>(
+        &mut self,
+        alloc: Global,
+        source: &mut S,
+    ) -> Result<Option<Record>, PcapErr>
+        ensures gives { (bytes rest : List ℕ) (rs : List Rec) → S.left source.old ≡ Some rest → Stands self.old bytes rs rest → Gives bytes rs self.new (S.left source.new) result }
+        ensures stops { IfErr result (λ e. self.new.phase ≡ Phase.Stopped e) }
+        ensures again { (e : PcapErr) → self.old.phase ≡ Phase.Stopped e → (result ≡ Err e) × (self.new ≡ self.old) × (source.new ≡ source.old) }
+        ensures taken { Took (S.left source.old) (S.left source.new) self.old.taken self.new.taken }
+        ensures cause { HasReadCause (S.faults source.old) (S.faults source.new) self.old result }
+        ensures goes { OnOk result (IsGoing self.new.phase) }
+        ensures grows { IfOk result (λ o. OnSome o (self.old.taken + 16 ≤ self.new.taken)) }
+        ensures bound { self.new.taken ≤ MAX_INPUT + 16 + MAX_BODY }
+        ensures rest { S.beside source.new ≡ S.beside source.old }
+    {
+        self.next_into(source, Vec::new(alloc))
+    }
+
+    /// The same, with the record's body in the memory of `body`, whatever that has.
+    pub fn next_into<S: Source>(
+        &mut self,
+        source: &mut S,
+        body: Vec<u8>,
+    ) -> Result<Option<Record>, PcapErr>
+        ensures gives { (bytes rest : List ℕ) (rs : List Rec) → S.left source.old ≡ Some rest → Stands self.old bytes rs rest → Gives bytes rs self.new (S.left source.new) result }
+        ensures stops { IfErr result (λ e. self.new.phase ≡ Phase.Stopped e) }
+        ensures again { (e : PcapErr) → self.old.phase ≡ Phase.Stopped e → (result ≡ Err e) × (self.new ≡ self.old) × (source.new ≡ source.old) }
+        ensures taken { Took (S.left source.old) (S.left source.new) self.old.taken self.new.taken }
+        ensures cause { HasReadCause (S.faults source.old) (S.faults source.new) self.old result }
+        ensures goes { OnOk result (IsGoing self.new.phase) }
+        ensures grows { IfOk result (λ o. OnSome o (self.old.taken + 16 ≤ self.new.taken)) }
+        ensures bound { self.new.taken ≤ MAX_INPUT + 16 + MAX_BODY }
+        ensures rest { S.beside source.new ≡ S.beside source.old }
+    {
+        let form = match self.open(source) {
+            Ok(form) => form,
+            Err(error) => return Err(error),
+        };
+        match read_record(form, self.number + 1, source, body, &mut self.taken) {
+            Ok(Some(packet)) => {
+                self.number += 1;
+                Ok(Some(packet))
+            }
+            Ok(None) => Ok(None),
+            Err(error) => {
+                self.phase = Phase::Stopped(error);
+                Err(error)
+            }
+        }
+    }
+
+    /// Reads the file head, unless that was done.
+    fn open<S: Source>(&mut self, source: &mut S) -> Result<Form, PcapErr>
+        ensures opens { (bytes rest : List ℕ) (rs : List Rec) → S.left source.old ≡ Some rest → Stands self.old bytes rs rest → Opens bytes rs self.new (S.left source.new) result }
+        ensures phase { KeepsOpening self.new result }
+        ensures again { (e : PcapErr) → self.old.phase ≡ Phase.Stopped e → (result ≡ Err e) × (self.new ≡ self.old) × (source.new ≡ source.old) }
+        ensures taken { Took (S.left source.old) (S.left source.new) self.old.taken self.new.taken }
+        ensures number { self.new.number ≡ self.old.number }
+        ensures grows { self.old.taken ≤ self.new.taken }
+        ensures bound { self.new.taken ≤ MAX_INPUT + 16 + MAX_BODY }
+        ensures fault { result ≡ Err PcapErr.ReadFault → Rose (S.faults source.old) (S.faults source.new) ⊎ (self.old.phase ≡ Phase.Stopped PcapErr.ReadFault) }
+        ensures later { S.faults source.old ≤ S.faults source.new }
+        ensures rest { S.beside source.new ≡ S.beside source.old }
+    {
+        match self.phase {
+            Phase::Stopped(error) => Err(error),
+            Phase::Open(form) => Ok(form),
+            Phase::Fresh => match read_form(source, &mut self.taken) {
+                Ok(form) => {
+                    self.phase = Phase::Open(form);
+                    Ok(form)
+                }
+                Err(error) => {
+                    self.phase = Phase::Stopped(error);
+                    Err(error)
+                }
+            },
+        }
+    }
+}
