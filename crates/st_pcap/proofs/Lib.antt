@@ -1,1 +1,4 @@
 pub mod Filling
+pub mod Heads
+pub mod Spellings
+pub mod Steps
