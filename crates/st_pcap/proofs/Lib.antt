@@ -2,3 +2,4 @@ pub mod Filling
 pub mod Heads
 pub mod Spellings
 pub mod Steps
+pub mod Writing

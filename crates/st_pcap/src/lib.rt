@@ -8,7 +8,9 @@ mod fill;
 mod forms;
 mod reader;
 mod records;
+mod writer;
 
 pub use errors::PcapErr;
 pub use forms::{Order, Unit};
 pub use reader::PcapReader;
+pub use writer::{file_head, put_header, put_record, record_head};
