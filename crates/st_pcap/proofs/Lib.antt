@@ -3,3 +3,7 @@ pub mod Heads
 pub mod Spellings
 pub mod Steps
 pub mod Writing
+pub mod Joining
+pub mod Splits
+pub mod Uniqueness
+pub mod Existence

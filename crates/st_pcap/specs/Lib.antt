@@ -5,3 +5,4 @@ pub mod Text
 pub mod Reading
 pub mod Checks
 pub mod Opening
+pub mod Laws

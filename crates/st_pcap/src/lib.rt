@@ -6,11 +6,13 @@ mod entries;
 mod errors;
 mod fill;
 mod forms;
+mod laws;
 mod reader;
 mod records;
 mod writer;
 
 pub use errors::PcapErr;
 pub use forms::{Order, Unit};
+pub use laws::{is_whole_input, one_reading, pieces_join, reads_back, some_reading};
 pub use reader::PcapReader;
 pub use writer::{file_head, put_header, put_record, record_head};
