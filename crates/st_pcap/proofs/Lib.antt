@@ -7,3 +7,5 @@ pub mod Joining
 pub mod Splits
 pub mod Uniqueness
 pub mod Existence
+pub mod RoundTrip
+pub mod Causes

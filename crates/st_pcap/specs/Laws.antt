@@ -1,10 +1,12 @@
 -- Laws of the definitions, which the functions of `laws` ensure.
-use Rattle.std.specs.Prelude.{◌≡◌, ℕ, ◌<◌, ◌≤◌, List, [], length, map, All}
+use Rattle.std.specs.Prelude.{◌≡◌, ℕ, ◌<◌, ◌≤◌, ◌↔◌, List, [], length, map, take, Some, All}
 use Rattle.std.specs.List.{concat}
 use Rattle.st_base.specs.Records.{Rec, InRange}
+use Rattle.st_pcap.specs.declared.errors.PcapErr.{PcapErr}
 use Rattle.st_pcap.specs.declared.forms.Unit as unit
 use Rattle.st_pcap.specs.declared.forms.TheConstants.{MAX_BODY, MAX_INPUT}
-use Rattle.st_pcap.specs.Input.{IsPcap, End, Whole, Input}
+use Rattle.st_pcap.specs.Heads.{IsOfFileHead, refusal_of_file}
+use Rattle.st_pcap.specs.Input.{IsPcap, End, Whole, Refused, Input}
 use Rattle.st_pcap.specs.Text.{PcapText, Pieces, cut_to}
 
 -- all bytes are an input of some records with some end
@@ -30,3 +32,8 @@ IsWholeInput = (u : unit.Unit) (rs : List Rec) → All InRange rs → All IsShor
 -- the pieces in which records are written, joined, are their text
 abbrev pub PiecesJoin : Type 0
 PiecesJoin = (u : unit.Unit) (rs : List Rec) → concat (Pieces rs u) ≡ PcapText rs u
+
+-- an input that is refused for a cause of the file head has a file head that is refused for it, and
+-- no other input has
+abbrev pub HeadsApart : Type 0
+HeadsApart = (bytes : List ℕ) (rs : List Rec) (e : PcapErr) → Input bytes rs (Refused e) → IsOfFileHead e ↔ (refusal_of_file (take 24 bytes) ≡ Some e)

@@ -1,3 +1,5 @@
+ghost use Rattle.std.specs.Prelude.{◌↔◌, IsTrue};
+
 use thiserror::Error;
 
 /// Why a pcap file is read no further.
@@ -21,4 +23,24 @@ pub enum PcapErr {
     TooMuch { taken: u64 },
     #[error("out of memory")]
     NoMemory,
+}
+
+impl PcapErr {
+    ghost use Rattle.st_pcap.specs.Heads.{IsOfFileHead};
+
+    /// Whether the file head was refused, so that there is no record; else a record was, or the
+    /// outside failed.
+    pub fn is_of_file_head(self) -> bool
+        ensures { IsTrue result ↔ IsOfFileHead self }
+    {
+        match self {
+            PcapErr::NotPcap { .. } | PcapErr::Version { .. } | PcapErr::LinkType { .. } => true,
+            PcapErr::Truncated { number, .. } => number == 0,
+            PcapErr::ReadFault
+            | PcapErr::BadFraction { .. }
+            | PcapErr::TooLong { .. }
+            | PcapErr::TooMuch { .. }
+            | PcapErr::NoMemory => false,
+        }
+    }
 }

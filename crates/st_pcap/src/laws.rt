@@ -1,4 +1,4 @@
-ghost use Rattle.st_pcap.specs.Laws.{IsWholeInput, OneReading, PiecesJoin, ReadsBack, SomeReading};
+ghost use Rattle.st_pcap.specs.Laws.{HeadsApart, IsWholeInput, OneReading, PiecesJoin, ReadsBack, SomeReading};
 
 /// All bytes are an input of some records with some end.
 pub fn some_reading()
@@ -28,5 +28,11 @@ pub fn is_whole_input()
 /// The pieces in which records are written are their text, joined.
 pub fn pieces_join()
     ensures { PiecesJoin }
+{
+}
+
+/// An input is refused for a cause of the file head exactly where its file head is refused.
+pub fn heads_apart()
+    ensures { HeadsApart }
 {
 }

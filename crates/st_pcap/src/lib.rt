@@ -13,6 +13,6 @@ mod writer;
 
 pub use errors::PcapErr;
 pub use forms::{Order, Unit};
-pub use laws::{is_whole_input, one_reading, pieces_join, reads_back, some_reading};
+pub use laws::{heads_apart, is_whole_input, one_reading, pieces_join, reads_back, some_reading};
 pub use reader::PcapReader;
 pub use writer::{file_head, put_header, put_record, record_head};
