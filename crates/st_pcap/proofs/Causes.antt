@@ -43,7 +43,7 @@ rest_of_head : (order : Order) (head : List ℕ) → IsOfHead (refusal_of_rest o
 rest_of_head order head =
     chosen IsOfHead (nat_lt (length head) 24) (Some (Truncated 0 (length head) 24)) (refusal_of_version order head) refl
     (chosen IsOfHead (nat_eq (field order 2 4 head) 2 && nat_eq (field order 2 6 head) 4) (refusal_of_link (field order 4 20 head % 65536)) (Some (Version (field order 2 4 head) (field order 2 6 head)))
-     (link_of_head (field order 4 20 head % 65536)) tt)
+    (link_of_head (field order 4 20 head % 65536)) tt)
 
 -- the tails of the chains of tests
 abbrev others_last : ℕ → List ℕ → Option PcapErr
@@ -90,7 +90,7 @@ record_apart order u number rest =
     first_apart (refusal_of_size (number + 1) (length rest) 16) (or_else (refusal_of_entry order u (number + 1) (take 16 rest)) (refusal_of_size (number + 1) (length rest) (16 + field order 4 8 (take 16 rest))))
     (size_apart number (length rest) 16)
     (first_apart (refusal_of_entry order u (number + 1) (take 16 rest)) (refusal_of_size (number + 1) (length rest) (16 + field order 4 8 (take 16 rest))) (entry_apart order u (number + 1) (take 16 rest))
-     (size_apart number (length rest) (16 + field order 4 8 (take 16 rest))))
+    (size_apart number (length rest) (16 + field order 4 8 (take 16 rest))))
 
 refused_apart : (o : Option PcapErr) → IsNotOfHead o → EndsApart (option_map Refused o)
 refused_apart None p = tt

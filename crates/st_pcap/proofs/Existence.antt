@@ -68,7 +68,7 @@ begins order u before number rest e =
       long = size_enough number (length rest) 16 long;
       fraction = fraction_fits order u number head entry;
       short = captured_fits order u number head entry;
-      whole = size_enough number (length rest) (16 + field order 4 8 head) body
+      whole = size_enough number (length rest) (16 + field order 4 8 head) body;
     }
 
 -- the record that begins there
@@ -96,7 +96,7 @@ is_head order u before rest can =
       nsec = refl;
       captured = sym size;
       short = subst (λ n. n ≤ MAX_BODY) (sym size) can.short;
-      orig = refl
+      orig = refl;
     }
 
 is_whole : (order : Order) (u : unit.Unit) (rest : List ℕ) → rest ≡ take 16 rest ++ ((record_at order u rest).body ++ behind order rest)
@@ -127,9 +127,14 @@ goes_on : (order : Order) (u : unit.Unit) (before number : ℕ) (bytes : List �
 goes_on order u before number bytes can (rs, rest, end, records, begin, ends) =
     let r = record_at order u bytes in
     let a : before + size_of (r ∷ rs) ≡ before + (16 + length r.body) + size_of rs = omega arith in
-    let b : number + length (r ∷ rs) ≡ number + 1 + length rs = omega arith in
-    (r ∷ rs, rest, end, (take 16 bytes, behind order bytes, is_head order u before bytes can, is_whole order u bytes, records), (can.below, begin),
-      ap (λ n. end_at order u n (number + length (r ∷ rs)) rest) a ∙ ap (λ n. end_at order u (before + (16 + length r.body) + size_of rs) n rest) b ∙ ends)
+    let b : number + length (r ∷ rs) ≡ number + 1 + length rs = omega arith in (
+      r ∷ rs,
+      rest,
+      end,
+      (take 16 bytes, behind order bytes, is_head order u before bytes can, is_whole order u bytes, records),
+      (can.below, begin),
+      ap (λ n. end_at order u n (number + length (r ∷ rs)) rest) a ∙ ap (λ n. end_at order u (before + (16 + length r.body) + size_of rs) n rest) b ∙ ends,
+    )
 
 -- by what is found there, where all shorter bytes read on
 reads_step : (order : Order) (u : unit.Unit) (before number : ℕ) (bytes : List ℕ) (found : Option End) → end_at order u before number bytes ≡ found
@@ -159,15 +164,18 @@ with_magic order u head bound is e =
 by_magic : (head : List ℕ) → length head ≤ 24 → refusal_of_magic (little_number 4 head) head ≡ None → HasForm head
 by_magic head bound e =
     elim (cases_eq (little_number 4 head) (magic Little Micro)) [
-      inl is ↦ with_magic Little Micro head bound is (grind (arith, nat_tests))
-    | inr a ↦ elim (cases_eq (little_number 4 head) (magic Big Micro)) [
-      inl is ↦ with_magic Big Micro head bound is (grind (arith, nat_tests))
-    | inr b ↦ elim (cases_eq (little_number 4 head) (magic Little Nano)) [
-      inl is ↦ with_magic Little Nano head bound is (grind (arith, nat_tests))
-    | inr d ↦ elim (cases_eq (little_number 4 head) (magic Big Nano)) [
-      inl is ↦ with_magic Big Nano head bound is (grind (arith, nat_tests))
-    | inr f ↦ absurd (grind (arith, nat_tests))
-    ] ] ] ]
+      | inl is ↦ with_magic Little Micro head bound is (grind (arith, nat_tests))
+      | inr a ↦ elim (cases_eq (little_number 4 head) (magic Big Micro)) [
+        | inl is ↦ with_magic Big Micro head bound is (grind (arith, nat_tests))
+        | inr b ↦ elim (cases_eq (little_number 4 head) (magic Little Nano)) [
+          | inl is ↦ with_magic Little Nano head bound is (grind (arith, nat_tests))
+          | inr d ↦ elim (cases_eq (little_number 4 head) (magic Big Nano)) [
+            | inl is ↦ with_magic Big Nano head bound is (grind (arith, nat_tests))
+            | inr f ↦ absurd (grind (arith, nat_tests))
+          ]
+        ]
+      ]
+    ]
 
 has_form : (head : List ℕ) → length head ≤ 24 → refusal_of_file head ≡ None → HasForm head
 has_form head bound e = by_magic head bound (grind (arith, nat_tests))
@@ -182,9 +190,16 @@ behind_head bytes (order, u, is) =
     let long = ap length whole ∙ length-append (take 24 bytes) text in
     let total = length-Records order u text rs rest records in
     let before : length bytes - length rest ≡ 24 + size_of rs = omega arith in
-    let number : length rs + 1 ≡ 1 + length rs = omega arith in
-    (rs, end, inr (rest, record { order = order; unit = u; head = take 24 bytes; text = text; whole = whole; starts = is; records = records }, begin,
-      ap (λ n. end_at order u n (length rs + 1) rest) before ∙ ap (λ n. end_at order u (24 + size_of rs) n rest) number ∙ ends))
+    let number : length rs + 1 ≡ 1 + length rs = omega arith in (
+      rs,
+      end,
+      inr (
+        rest,
+        record { order = order; unit = u; head = take 24 bytes; text = text; whole = whole; starts = is; records = records },
+        begin,
+        ap (λ n. end_at order u n (length rs + 1) rest) before ∙ ap (λ n. end_at order u (24 + size_of rs) n rest) number ∙ ends,
+      ),
+    )
 
 by_refusal : (bytes : List ℕ) (found : Option PcapErr) → refusal_of_file (take 24 bytes) ≡ found → (rs : List Rec) × (end : End) × Input bytes rs end
 by_refusal bytes (Some e) is = ([], Refused e, inl (e, is, refl, refl))

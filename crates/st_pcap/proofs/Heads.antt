@@ -21,8 +21,8 @@ use Rattle.st_pcap.specs.Reading.{IsOutside}
 pub front_is : (n : ℕ) (bytes front rest : List ℕ) → bytes ≡ front ++ rest → length front ≤ n → (length front < n → rest ≡ []) → take n bytes ≡ front
 front_is n bytes front rest whole bound end =
     elim (cases_lt (length front) n) [
-      inl short ↦ ap (take n) (whole ∙ ap (λ l. front ++ l) (end short) ∙ append-nil front) ∙ take_all n front bound
-    | inr long ↦ let size : length front ≡ n = omega arith in ap (take n) whole ∙ take_at front rest n size
+      | inl short ↦ ap (take n) (whole ∙ ap (λ l. front ++ l) (end short) ∙ append-nil front) ∙ take_all n front bound
+      | inr long ↦ let size : length front ≡ n = omega arith in ap (take n) whole ∙ take_at front rest n size
     ]
 
 -- what the checks of the first bytes say is what they say of the input

@@ -73,15 +73,18 @@ record_written u r range short =
       nsec = ap (nanoseconds u) fraction;
       captured = ap (field Little 4 8) (second a b c d) ∙ read_back (a ++ b) d 8 (length r.body) (omega arith) range.body;
       short = short;
-      orig = ap (field Little 4 12) (third a b c d) ∙ read_back ((a ++ b) ++ c) [] 12 r.orig (omega arith) range.orig
+      orig = ap (field Little 4 12) (third a b c d) ∙ read_back ((a ++ b) ++ c) [] 12 r.orig (omega arith) range.orig;
     }
 
 records_written : (u : unit.Unit) (rs : List Rec) → All InRange rs → All IsShort rs → Records Little u (flat_map (record_text u) rs) (map (cut_to u) rs) []
 records_written u [] ranges shorts = refl
-records_written u (r ∷ rs) ranges shorts =
-    (record_head u r, flat_map (record_text u) rs, record_written u r (All-head InRange r rs ranges) (All-head IsShort r rs shorts),
-      append_assoc (record_head u r) r.body (flat_map (record_text u) rs),
-      records_written u rs (All-tail InRange r rs ranges) (All-tail IsShort r rs shorts))
+records_written u (r ∷ rs) ranges shorts = (
+  record_head u r,
+  flat_map (record_text u) rs,
+  record_written u r (All-head InRange r rs ranges) (All-head IsShort r rs shorts),
+  append_assoc (record_head u r) r.body (flat_map (record_text u) rs),
+  records_written u rs (All-tail InRange r rs ranges) (All-tail IsShort r rs shorts),
+)
 
 pub text_is_pcap : (u : unit.Unit) (rs : List Rec) → All InRange rs → All IsShort rs → IsPcap (PcapText rs u) (map (cut_to u) rs) []
 text_is_pcap u rs ranges shorts =

@@ -21,9 +21,12 @@ stands_more phase form taken number taken' bytes rest rs r left is stands (head,
     let total = ap length all ∙ length-append first text in
     let file = is_file.size in
     let moved = subst (λ o. Took (Some rest) o taken taken') to_come took in
-    let counted = length-append rs (r ∷ []) in
-    (more, to_come, subst (λ p. StandsIn p taken' (number + 1) bytes (rs ++ r ∷ []) more) (sym is)
-     (first, text, all, is_file, longer, AllBegin-snoc 24 rs r begin (omega arith), omega arith, omega arith))
+    let counted = length-append rs (r ∷ []) in (
+      more,
+      to_come,
+      subst (λ p. StandsIn p taken' (number + 1) bytes (rs ++ r ∷ []) more) (sym is)
+          (first, text, all, is_file, longer, AllBegin-snoc 24 rs r begin (omega arith), omega arith, omega arith),
+    )
 
 -- what the checks find behind the records is how the input ends
 pub ends_there : (phase : Phase) (form : Form) (taken number : ℕ) (bytes rest : List ℕ) (rs : List Rec) (end : End) → phase ≡ Open form
@@ -31,8 +34,12 @@ pub ends_there : (phase : Phase) (form : Form) (taken number : ℕ) (bytes rest 
 ends_there phase form taken number bytes rest rs end is stands found =
     let (first, text, all, is_file, records, begin, count, sum) = subst (λ p. StandsIn p taken number bytes rs rest) is stands in
     let before : length bytes - length rest ≡ taken = omega arith in
-    inr (rest, record { order = form.order; unit = form.unit; head = first; text = text; whole = all; starts = is_file; records = records }, begin,
-      ap (λ n. end_at form.order form.unit n (length rs + 1) rest) before ∙ ap (λ n. end_at form.order form.unit taken (n + 1) rest) (sym count) ∙ found)
+    inr (
+      rest,
+      record { order = form.order; unit = form.unit; head = first; text = text; whole = all; starts = is_file; records = records },
+      begin,
+      ap (λ n. end_at form.order form.unit n (length rs + 1) rest) before ∙ ap (λ n. end_at form.order form.unit taken (n + 1) rest) (sym count) ∙ found,
+    )
 
 -- the whole end was found, and nothing was taken
 pub stands_whole : (phase : Phase) (form : Form) (taken number taken' : ℕ) (bytes rest : List ℕ) (rs : List Rec) (left : Option (List ℕ)) → phase ≡ Open form

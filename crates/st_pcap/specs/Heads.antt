@@ -30,22 +30,22 @@ pub record IsRecordHead (order : Order) (u : unit.Unit) (head : List ℕ) (r : R
   pub short : length r.body ≤ MAX_BODY
   pub orig : field order 4 12 head ≡ r.orig
 
--- a link type of which the low 16 bits aren't 1
+-- the low 16 bits of the link type are to be 1, Ethernet
 abbrev pub refusal_of_link : ℕ → Option PcapErr
 refusal_of_link link = if link == 1 then None else Some (LinkType link)
 
--- then a version other than 2.4
+-- the version is to be 2.4; only then the link type is looked at
 abbrev pub refusal_of_version : Order → List ℕ → Option PcapErr
 refusal_of_version order head =
     if (field order 2 4 head == 2) && (field order 2 6 head == 4) then refusal_of_link (field order 4 20 head % 65536)
     else Some (Version (field order 2 4 head) (field order 2 6 head))
 
--- before both a head that is cut
+-- 24 bytes are to stand there; only then the version is looked at
 abbrev pub refusal_of_rest : Order → List ℕ → Option PcapErr
 refusal_of_rest order head =
     if nat_lt (length head) 24 then Some (Truncated 0 (length head) 24) else refusal_of_version order head
 
--- before that four bytes that are the magic of no form
+-- the first four bytes are to be the magic of a form; only then the rest is looked at, in its order
 abbrev pub refusal_of_magic : ℕ → List ℕ → Option PcapErr
 refusal_of_magic found head =
     if found == magic Little Micro then refusal_of_rest Little head
@@ -54,8 +54,8 @@ refusal_of_magic found head =
     else if found == magic Big Nano then refusal_of_rest Big head
     else Some (NotPcap found)
 
--- why the first 24 bytes, or as many as there are, are no file head: fewer than four bytes come
--- before all else
+-- Why the first 24 bytes of an input, or as many as it has, are no file head; None where they are
+-- one. Four bytes are to stand there; only then the magic is looked at.
 abbrev pub refusal_of_file : List ℕ → Option PcapErr
 refusal_of_file head =
     if nat_lt (length head) 4 then Some (Truncated 0 (length head) 24) else refusal_of_magic (little_number 4 head) head
@@ -65,22 +65,22 @@ abbrev pub or_else : Option PcapErr → Option PcapErr → Option PcapErr
 or_else None later = later
 or_else (Some e) later = Some e
 
--- a captured length that is too long
+-- the captured length is to be no longer than a body may be
 abbrev pub refusal_of_captured : ℕ → ℕ → Option PcapErr
 refusal_of_captured number captured = if nat_lt MAX_BODY captured then Some (TooLong number captured) else None
 
--- before that a fraction that makes a second or more
+-- the fraction is to be less than a second; only then the captured length is looked at
 abbrev pub refusal_of_entry : Order → unit.Unit → ℕ → List ℕ → Option PcapErr
 refusal_of_entry order u number head =
     if nat_le (fractions u) (field order 4 4 head) then Some (BadFraction number (field order 4 4 head))
     else refusal_of_captured number (field order 4 8 head)
 
--- a record of which fewer bytes stand there than it is long
+-- so many bytes of the record are to stand there
 abbrev pub refusal_of_size : ℕ → ℕ → ℕ → Option PcapErr
 refusal_of_size number have want = if nat_lt have want then Some (Truncated number have want) else None
 
--- Why the bytes that stand where record `number` would begin are no record: a head that is cut,
--- then what its fields say, then a body that is cut.
+-- Why the bytes that stand where record `number` would begin are no record; None where they begin
+-- with one. First a head that is cut is refused, then what its fields say, then a body that is cut.
 abbrev pub refusal_of_record : Order → unit.Unit → ℕ → List ℕ → Option PcapErr
 refusal_of_record order u number rest =
     or_else (refusal_of_size number (length rest) 16)

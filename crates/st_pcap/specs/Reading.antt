@@ -20,7 +20,8 @@ pub record Progress : Type 0 where
 abbrev pub fresh : Progress
 fresh = record { phase = Fresh; taken = 0; number = 0 }
 
--- a reader that goes on has its form; the others have no record to count on
+-- a reader takes no more than the last record that may begin, and 16 bytes at least for each that
+-- it gave
 pub record IsInBounds (p : Progress) : Type 0 where
   pub taken : p.taken ≤ MAX_INPUT + 16 + MAX_BODY
   pub number : 16 * p.number ≤ p.taken

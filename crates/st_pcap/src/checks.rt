@@ -4,13 +4,13 @@ ghost use Rattle.st_pcap.specs.Forms.{magic};
 ghost use Rattle.st_pcap.specs.Heads.{IsFileHead, refusal_of_file, refusal_of_rest, refusal_of_entry};
 ghost use Rattle.st_pcap.specs.Checks.{IsEntry};
 
-use byteorder::{ByteOrder, LittleEndian};
-
 use crate::entries::Entry;
 use crate::errors::PcapErr;
 use crate::forms::{Form, MAX_BODY, Order, Unit, fractions, nanoseconds, number_at, short_at};
+use byteorder::{ByteOrder, LittleEndian};
 
-/// The form of the file whose first 24 bytes, or as many as there are, are `head`.
+/// The form of the file whose first 24 bytes, or as many as it has, are `head`; else the cause for
+/// which they are no file head.
 pub fn form_in(head: &[u8]) -> Result<Form, PcapErr>
     requires { length head.now ≤ 24 }
     ensures { MatchResult result (λ form. IsFileHead form.order form.unit head.now)
@@ -32,7 +32,7 @@ pub fn form_in(head: &[u8]) -> Result<Form, PcapErr>
     }
 }
 
-/// The same, where the magic is that of this form.
+/// The same where the magic, which comes first, is that of this form.
 fn form_with(order: Order, unit: Unit, head: &[u8]) -> Result<Form, PcapErr>
     requires magic { little_number 4 head.now ≡ magic order unit }
     requires size { length head.now ≤ 24 }
@@ -58,7 +58,8 @@ fn form_with(order: Order, unit: Unit, head: &[u8]) -> Result<Form, PcapErr>
     Ok(Form { order, unit })
 }
 
-/// What the 16 bytes before the body of record `number` say.
+/// What the 16 bytes before the body of record `number` say; else the first of their fields that
+/// is out of range.
 pub fn entry_in(form: Form, number: u64, head: &[u8]) -> Result<Entry, PcapErr>
     requires { length head.now ≡ 16 }
     ensures { MatchResult result (IsEntry form head.now)

@@ -1,4 +1,4 @@
-/// What the head of a record says, whose fraction and captured length are in range.
+/// What the head of a record says, its fraction in nanoseconds.
 #[derive(Clone, Copy, Debug, PartialEq, Eq)]
 pub struct Entry {
     pub sec: u32,

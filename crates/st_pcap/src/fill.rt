@@ -3,9 +3,8 @@ ghost use Rattle.std.specs.Io.KnownBytes.{Consumes, IsAtEnd};
 ghost use Rattle.st_base.specs.Faults.{HasCause, Rose};
 ghost use Rattle.st_pcap.specs.Reading.{Took};
 
-use st_base::{Failed, Source};
-
 use crate::errors::PcapErr;
+use st_base::{Failed, Source};
 
 /// Reads until `out` is full, the source ends or it fails, and answers how many bytes came.
 fn fill<S: Source>(source: &mut S, out: &mut [u8]) -> (usize, Result<(), Failed>)
@@ -26,7 +25,7 @@ fn fill<S: Source>(source: &mut S, out: &mut [u8]) -> (usize, Result<(), Failed>
     (have, Ok(()))
 }
 
-/// The same, with what came counted in `taken`.
+/// The same, with the bytes that came counted in `taken`, also where the source fails.
 pub fn take_bytes<S: Source>(
     source: &mut S,
     out: &mut [u8],

@@ -2,16 +2,14 @@ ghost use Rattle.std.specs.Prelude.{◌≡◌, ◌+◌, ◌≤◌, ◌⊎◌, �
 ghost use Rattle.st_base.specs.Faults.{Rose};
 ghost use Rattle.st_base.specs.Records.{Rec};
 
-use std::alloc::Global;
-use std::marker::Model;
-
-use st_base::{Record, Source};
-
 use crate::errors::PcapErr;
 use crate::forms::{Form, MAX_BODY, MAX_INPUT};
 use crate::records::{read_form, read_record};
+use st_base::{Record, Source};
+use std::alloc::Global;
+use std::marker::Model;
 
-/// What a reader has come to.
+/// What a reader has come to: nothing is read yet, its form is known, or it has stopped.
 #[derive(Clone, Copy, Debug, PartialEq, Eq)]
 pub enum Phase {
     Fresh,
@@ -19,6 +17,11 @@ pub enum Phase {
     Stopped(PcapErr),
 }
 
+/// Reads a pcap file from a source that is passed to each call, record by record. It keeps no bytes.
+///
+/// A contract sees its phase, `taken` and the number of the records that it gave; which records
+/// these are, of which bytes, is said by `Stands` of `specs/Reading.antt`.
+/// Source: docs/FORMAT.md, "pcap".
 #[derive(Drop)]
 pub struct PcapReader {
     phase: Phase,
@@ -41,6 +44,7 @@ impl PcapReader {
     ghost use Rattle.st_pcap.specs.Input.{Input, Refused};
     ghost use Rattle.st_pcap.specs.Opening.{Opens, KeepsOpening};
 
+    /// A reader that has read nothing. It takes no memory.
     pub fn new() -> PcapReader
         ensures { result ≡ fresh }
     {
@@ -51,13 +55,21 @@ impl PcapReader {
         }
     }
 
+    /// How many bytes the reader took of its sources so far, also in calls that failed.
     pub fn taken(&self) -> u64
         ensures { result ≡ self.now.taken }
     {
         self.taken
     }
 
-    /// The next record, None where the input ended where a record would begin.
+    /// The next record, in one allocation of its captured length; None where the input ends where
+    /// a record would begin. The first call reads the file head.
+    ///
+    /// Its nanoseconds are those of the file's fraction, its body has at most 262,144 bytes.
+    /// `ReadFault` comes only where the source's `faults` rose in this call, or where an earlier
+    /// call answered it; `NoMemory` where memory was wanting; each other cause exactly where the
+    /// order of checks finds it. The reader has then stopped: it answers the same cause to each
+    /// later call, and reads nothing.
     pub fn next<S: Source>(
         &mut self,
         alloc: Global,
@@ -76,7 +88,8 @@ impl PcapReader {
         self.next_into(source, Vec::new(alloc))
     }
 
-    /// The same, with the record's body in the memory of `body`, whatever that has.
+    /// The same with the record's body in the memory of `body`, whatever that has, so that nothing
+    /// is allocated where its capacity is enough.
     pub fn next_into<S: Source>(
         &mut self,
         source: &mut S,
@@ -109,7 +122,7 @@ impl PcapReader {
         }
     }
 
-    /// Reads the file head, unless that was done.
+    /// The file's form, which the first call reads.
     fn open<S: Source>(&mut self, source: &mut S) -> Result<Form, PcapErr>
         ensures opens { (bytes rest : List ℕ) (rs : List Rec) → S.left source.old ≡ Some rest → Stands self.old bytes rs rest → Opens bytes rs self.new (S.left source.new) result }
         ensures phase { KeepsOpening self.new result }

@@ -3,15 +3,15 @@ ghost use Rattle.st_base.specs.Faults.{Rose};
 ghost use Rattle.st_pcap.specs.Reading.{Took};
 ghost use Rattle.st_pcap.specs.Checks.{GivesForm, GivesBody, GivesRecord};
 
-use st_base::{Octets, Record, Source};
-
 use crate::checks::{entry_in, form_in};
 use crate::entries::Entry;
 use crate::errors::PcapErr;
 use crate::fill::take_bytes;
 use crate::forms::{Form, MAX_BODY, MAX_INPUT};
+use st_base::{Octets, Record, Source};
 
-/// Reads the file head and answers its form; what came is counted in `taken`.
+/// Reads the file head, by one read where the source gives as much as it is asked for, and answers
+/// its form. What came is counted in `taken`, in bytes.
 pub fn read_form<S: Source>(source: &mut S, taken: &mut u64) -> Result<Form, PcapErr>
     requires { taken.old ≤ MAX_INPUT + 16 + MAX_BODY }
     ensures gives { (bytes : List ℕ) → S.left source.old ≡ Some bytes → GivesForm bytes (S.left source.new) result }
@@ -28,8 +28,8 @@ pub fn read_form<S: Source>(source: &mut S, taken: &mut u64) -> Result<Form, Pca
     }
 }
 
-/// Reads record `number`, None where nothing stands there; its body goes into `body`. What came is
-/// counted in `taken`.
+/// Reads record `number` into the memory of `body`; None where the input ends before its first
+/// byte. What came is counted in `taken`, in bytes.
 pub fn read_record<S: Source>(
     form: Form,
     number: u64,
@@ -72,7 +72,7 @@ pub fn read_record<S: Source>(
     }
 }
 
-/// Reads the body of record `number`, whose head is read, into `body`.
+/// Reads the body of record `number`, whose head has been read, into the memory of `body`.
 fn read_body<S: Source>(
     entry: &Entry,
     number: u64,
@@ -111,7 +111,7 @@ fn read_body<S: Source>(
     }
 }
 
-/// `body` with this length, whatever it has.
+/// `body` with this length in bytes, whatever bytes it has.
 fn sized(mut body: Vec<u8>, len: usize) -> Result<Vec<u8>, PcapErr>
     ensures len { IfOk result (λ v. vec_len v ≡ len) }
     ensures memory { IfErr result (λ e. e ≡ PcapErr.NoMemory) }

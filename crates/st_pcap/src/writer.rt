@@ -3,12 +3,13 @@ ghost use Rattle.st_base.specs.Faults.{HasCause};
 ghost use Rattle.st_base.specs.Pieces.{Puts};
 ghost use Rattle.st_pcap.specs.Text.{file_head, record_head, record_text};
 
+use crate::forms::{MAX_BODY, Unit, fraction_of};
 use byteorder::{ByteOrder, LittleEndian};
 use st_base::{Failed, RecordRef, Sink, put};
 
-use crate::forms::{MAX_BODY, Unit, fraction_of};
-
-/// The 24 bytes of a file head in this unit.
+/// The 24 bytes of the file head that stands before records in this unit. It takes no memory.
+///
+/// Source: docs/FORMAT.md, "pcap", written files.
 #[tactic(auto, unfolding(crate::specs::Text::file_head))]
 pub fn file_head(unit: Unit) -> [u8; 24]
     ensures { result ≡ file_head unit }
@@ -26,13 +27,17 @@ pub fn file_head(unit: Unit) -> [u8; 24]
     head
 }
 
-/// The 16 bytes before the body of a record.
+/// The 16 bytes before the body of a record: seconds, the fraction in `unit`, cut off, captured
+/// and original length in bytes. It takes no memory.
+///
+/// Source: docs/FORMAT.md, "pcap", written files.
 pub fn record_head(unit: Unit, r: RecordRef<'_>) -> [u8; 16]
     ensures { result ≡ record_head unit r.entry }
 {
     head_of(unit, &r)
 }
 
+/// The same of a record that is used again.
 #[tactic(auto, unfolding(crate::specs::Text::record_head))]
 fn head_of(unit: Unit, r: &RecordRef<'_>) -> [u8; 16]
     ensures { result ≡ record_head unit r.now }
@@ -45,7 +50,10 @@ fn head_of(unit: Unit, r: &RecordRef<'_>) -> [u8; 16]
     head
 }
 
-/// Writes a file head in this unit.
+/// Writes the 24 bytes of the file head, by one `put`. It takes no memory.
+///
+/// `Failed` comes only where the sink's `faults` rose in this call; a front of the head then stands
+/// behind what the sink had.
 pub fn put_header<S: Sink>(sink: &mut S, unit: Unit) -> Result<(), Failed>
     ensures bytes { Puts (S.written sink.old) (S.written sink.new) (file_head unit) result }
     ensures cause { HasCause (S.faults sink.old) (S.faults sink.new) result }
@@ -54,7 +62,11 @@ pub fn put_header<S: Sink>(sink: &mut S, unit: Unit) -> Result<(), Failed>
     put(sink, &file_head(unit))
 }
 
-/// Writes a record, its head and then its body.
+/// Writes a record: 16 bytes by one `put`, and then its body, if it isn't empty, by another. It
+/// takes no memory.
+///
+/// `Failed` comes only where the sink's `faults` rose in this call; a front of the record then
+/// stands behind what the sink had.
 pub fn put_record<S: Sink>(sink: &mut S, unit: Unit, r: RecordRef<'_>) -> Result<(), Failed>
     ensures bytes { Puts (S.written sink.old) (S.written sink.new) (record_text unit r.entry) result }
     ensures cause { HasCause (S.faults sink.old) (S.faults sink.new) result }
