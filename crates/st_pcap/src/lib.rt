@@ -41,6 +41,8 @@ mod forms;
 pub mod laws;
 mod reader;
 mod records;
+#[cfg(test)]
+mod tests;
 mod writer;
 
 pub use errors::PcapErr;

@@ -151,3 +151,34 @@ impl PcapReader {
         }
     }
 }
+
+#[cfg(test)]
+mod tests {
+    use super::*;
+    use crate::forms::{Order, Unit};
+    use st_base::MemSource;
+    use std::test::Fail;
+
+    // 2^40 bytes can't be given to a test, so the reader begins behind them.
+    #[test]
+    fn no_record_begins_behind_the_limit(rt: HostRuntime) -> Result<(), Fail> {
+        let alloc = rt.alloc();
+        let form = Form {
+            order: Order::Little,
+            unit: Unit::Micro,
+        };
+        let mut source = MemSource::over(alloc, &[], 1, &[])?;
+        for (taken, wanted) in [
+            (MAX_INPUT - 1, None),
+            (MAX_INPUT, Some(PcapErr::TooMuch { taken: MAX_INPUT })),
+        ] {
+            let mut reader = PcapReader {
+                phase: Phase::Open(form),
+                taken,
+                number: 1,
+            };
+            assert_eq!(rt; reader.next(alloc, &mut source).err(), wanted);
+        }
+        Ok(())
+    }
+}
