@@ -123,89 +123,93 @@ fn a_file_that_is_cut_ends_at_the_cut(rt: HostRuntime) -> Result<(), Fail> {
     Ok(())
 }
 
-// Each check in turn, the earlier one first where two would fail.
+// Each check in turn, the earlier one first where two would fail; the last but one is in range, and
+// so is the file head without a record.
+static REFUSALS: [(&str, Option<PcapErr>); 12] = [
+    (
+        "",
+        Some(PcapErr::Truncated {
+            number: 0,
+            have: 0,
+            want: 24,
+        }),
+    ),
+    (
+        "0a0d0d",
+        Some(PcapErr::Truncated {
+            number: 0,
+            have: 3,
+            want: 24,
+        }),
+    ),
+    ("0a0d0d0a", Some(PcapErr::NotPcap { found: 0x0a0d_0d0a })),
+    (
+        "00000000 00000000 00000000 00000000 00000000 00000000",
+        Some(PcapErr::NotPcap { found: 0 }),
+    ),
+    (
+        "d4c3b2a1 03000400",
+        Some(PcapErr::Truncated {
+            number: 0,
+            have: 8,
+            want: 24,
+        }),
+    ),
+    (
+        "d4c3b2a1 02000300 00000000 00000000 00000400 02000000",
+        Some(PcapErr::Version { major: 2, minor: 3 }),
+    ),
+    (
+        "a1b2c3d4 00020004 00000000 00000000 00000400 12340071",
+        Some(PcapErr::LinkType { found: 0x71 }),
+    ),
+    (
+        "d4c3b2a1 02000400 01020304 05060708 00000000 0100ff00",
+        None,
+    ),
+    (
+        "d4c3b2a1 02000400 00000000 00000000 00000400 01000000
+            00000000 40420f00 01000400 00000000",
+        Some(PcapErr::BadFraction {
+            number: 1,
+            found: 1_000_000,
+        }),
+    ),
+    (
+        "4d3cb2a1 02000400 00000000 00000000 00000400 01000000
+            00000000 40420f00 01000400 00000000",
+        Some(PcapErr::TooLong {
+            number: 1,
+            len: 262_145,
+        }),
+    ),
+    (
+        "4d3cb2a1 02000400 00000000 00000000 00000400 01000000
+            00000000 00ca9a3b 00000000 00000000",
+        Some(PcapErr::BadFraction {
+            number: 1,
+            found: 1_000_000_000,
+        }),
+    ),
+    (
+        "4d3cb2a1 02000400 00000000 00000000 00000400 01000000
+            00000000 ffc99a3b 00000400 00000000",
+        Some(PcapErr::Truncated {
+            number: 1,
+            have: 16,
+            want: 262_160,
+        }),
+    ),
+];
+
 #[test]
 fn refusals_come_in_their_order(rt: HostRuntime) -> Result<(), Fail> {
     let alloc = rt.alloc();
-    let zeros = "00000000 00000000 00000000 00000000 00000000 00000000";
-    let cases = [
-        (
-            "",
-            Some(PcapErr::Truncated {
-                number: 0,
-                have: 0,
-                want: 24,
-            }),
-        ),
-        (
-            "0a0d0d",
-            Some(PcapErr::Truncated {
-                number: 0,
-                have: 3,
-                want: 24,
-            }),
-        ),
-        ("0a0d0d0a", Some(PcapErr::NotPcap { found: 0x0a0d_0d0a })),
-        (zeros, Some(PcapErr::NotPcap { found: 0 })),
-        (
-            "d4c3b2a1 03000400",
-            Some(PcapErr::Truncated {
-                number: 0,
-                have: 8,
-                want: 24,
-            }),
-        ),
-        (
-            "d4c3b2a1 02000300 00000000 00000000 00000400 02000000",
-            Some(PcapErr::Version { major: 2, minor: 3 }),
-        ),
-        (
-            "a1b2c3d4 00020004 00000000 00000000 00000400 12340071",
-            Some(PcapErr::LinkType { found: 0x71 }),
-        ),
-        (
-            "d4c3b2a1 02000400 01020304 05060708 00000000 0100ff00",
-            None,
-        ),
-        (
-            "d4c3b2a1 02000400 00000000 00000000 00000400 01000000
-            00000000 40420f00 01000400 00000000",
-            Some(PcapErr::BadFraction {
-                number: 1,
-                found: 1_000_000,
-            }),
-        ),
-        (
-            "4d3cb2a1 02000400 00000000 00000000 00000400 01000000
-            00000000 40420f00 01000400 00000000",
-            Some(PcapErr::TooLong {
-                number: 1,
-                len: 262_145,
-            }),
-        ),
-        (
-            "4d3cb2a1 02000400 00000000 00000000 00000400 01000000
-            00000000 00ca9a3b 00000000 00000000",
-            Some(PcapErr::BadFraction {
-                number: 1,
-                found: 1_000_000_000,
-            }),
-        ),
-        (
-            "4d3cb2a1 02000400 00000000 00000000 00000400 01000000
-            00000000 ffc99a3b 00000400 00000000",
-            Some(PcapErr::Truncated {
-                number: 1,
-                have: 16,
-                want: 262_160,
-            }),
-        ),
-    ];
-    for (text, wanted) in cases {
-        let input = bytes_of(alloc, &[text])?;
+    for (text, wanted) in &REFUSALS {
+        let input = bytes_of(alloc, &[*text])?;
         let (records, end) = ending(alloc, &input, 100)?;
         assert_eq!(rt; records, 0, "{text}");
-        assert_eq!(rt; end, wanted, "{text}");
+        assert_eq!(rt; end, *wanted, "{text}");
     }
     Ok(())
 }
