@@ -16,7 +16,7 @@ use Rattle.st_pcap.specs.declared.forms.Unit.TheVariants.{Micro, Nano}
 use Rattle.st_pcap.specs.declared.forms.TheConstants.{MAX_INPUT, MAX_BODY}
 use Rattle.st_pcap.specs.Forms.{field, magic, fractions, nanoseconds}
 use Rattle.st_pcap.specs.Heads.{IsFileHead, IsRecordHead, refusal_of_file, refusal_of_magic, refusal_of_rest, refusal_of_record, refusal_of_entry, refusal_of_size, or_else}
-use Rattle.st_pcap.specs.Input.{Records, AllBegin, IsPcap, End, Whole, Refused, Input, end_at}
+use Rattle.st_pcap.specs.Input.{Records, AllBegin, End, Whole, Refused, Input, end_at}
 use Rattle.st_pcap.proofs.Spellings.{size_of, length-Records}
 
 -- what no end says of the bytes: a record begins there

@@ -1,5 +1,5 @@
 -- A written text reads back as its records.
-use Rattle.std.proofs.Common.{◌≡◌, ℕ, ◌+◌, ◌-◌, ◌^◌, ◌<◌, ◌≤◌, List, [], ◌∷◌, ◌++◌, length, map, drop, Some, refl, sym, ap, ◌∙◌, subst, inr, arith, length-append, append_assoc, append-nil}
+use Rattle.std.proofs.Common.{◌≡◌, ℕ, ◌+◌, ◌-◌, ◌^◌, ◌<◌, List, [], ◌∷◌, ◌++◌, length, map, Some, refl, sym, ap, ◌∙◌, subst, inr, arith, length-append, append_assoc, append-nil}
 use Rattle.std.specs.Prelude.{All}
 use Rattle.std.specs.List.{flat_map}
 use Rattle.std.proofs.lemmas.Bool.Decides.{nat_tests}
@@ -11,7 +11,7 @@ use Rattle.st_base.specs.Records.{Rec, InRange}
 use Rattle.st_pcap.specs.declared.forms.Order.TheVariants.{Little}
 use Rattle.st_pcap.specs.declared.forms.Unit as unit
 use Rattle.st_pcap.specs.declared.forms.Unit.TheVariants.{Micro, Nano}
-use Rattle.st_pcap.specs.declared.forms.TheConstants.{MAX_BODY, MAX_INPUT}
+use Rattle.st_pcap.specs.declared.forms.TheConstants.{MAX_INPUT}
 use Rattle.st_pcap.specs.Forms.{field, fractions, fraction_of, nanoseconds}
 use Rattle.st_pcap.specs.Heads.{IsFileHead, IsRecordHead}
 use Rattle.st_pcap.specs.Input.{Records, AllBegin, IsPcap, Whole, Input, end_at}

@@ -1,18 +1,17 @@
 -- No bytes have two readings.
 use Rattle.std.specs.Prelude.{◌==◌, if◌then◌else◌}
-use Rattle.std.proofs.Common.{Option, ◌≡◌, ℕ, ◌+◌, ◌-◌, ◌<◌, ◌≤◌, List, [], ◌∷◌, ◌++◌, length, take, None, Some, refl, sym, ap, ◌∙◌, subst, inl, inr, arith, length-append}
+use Rattle.std.proofs.Common.{◌≡◌, ℕ, ◌+◌, ◌-◌, ◌<◌, List, [], ◌∷◌, ◌++◌, length, take, None, Some, refl, sym, ap, ◌∙◌, subst, inl, inr, arith, length-append}
 use Rattle.std.proofs.lemmas.Bool.Decides.{nat_tests}
 use Rattle.std.proofs.lemmas.List.{take_at}
 use Rattle.std.specs.Option.{option_map}
 use Rattle.byteorder.specs.Endian.{little_number}
 use Rattle.st_base.specs.Records.{Rec}
-use Rattle.st_pcap.specs.declared.errors.PcapErr.{PcapErr}
 use Rattle.st_pcap.specs.declared.forms.Order.{Order}
 use Rattle.st_pcap.specs.declared.forms.Order.TheVariants.{Little, Big}
 use Rattle.st_pcap.specs.declared.forms.Unit as unit
 use Rattle.st_pcap.specs.declared.forms.Unit.TheVariants.{Micro, Nano}
 use Rattle.st_pcap.specs.declared.forms.TheConstants.{MAX_INPUT}
-use Rattle.st_pcap.specs.Forms.{field, magic, nanoseconds}
+use Rattle.st_pcap.specs.Forms.{field, magic}
 use Rattle.st_pcap.specs.Heads.{IsFileHead, IsRecordHead, refusal_of_file, refusal_of_magic, refusal_of_rest, refusal_of_entry, refusal_of_size, or_else}
 use Rattle.st_pcap.specs.Input.{Records, AllBegin, IsPcap, End, Refused, Input, end_at}
 use Rattle.st_pcap.proofs.Heads.{end_at-entry}

@@ -1,5 +1,5 @@
 -- Which records the bytes of an input are, and how they end. The libpcap savefile format.
-use Rattle.std.specs.Prelude.{Option, ◌≡◌, ℕ, ◌+◌, ◌-◌, ◌<◌, nat_le, nat_eq, if◌then◌else◌, ◌⊎◌, List, [], ◌∷◌, ◌++◌, length, take, None, Some, MatchOption}
+use Rattle.std.specs.Prelude.{Option, ◌≡◌, ℕ, ◌+◌, ◌-◌, ◌<◌, nat_le, nat_eq, if◌then◌else◌, ◌⊎◌, List, [], ◌∷◌, ◌++◌, length, take, Some}
 use Rattle.std.specs.Option.{option_map}
 use Rattle.st_base.specs.Records.{Rec}
 use Rattle.st_pcap.specs.declared.errors.PcapErr.{PcapErr}

@@ -1,5 +1,5 @@
 -- What a reader of pcap files stands for, and what its calls ensure.
-use Rattle.std.specs.Prelude.{Option, ◌≡◌, ℕ, ◌+◌, ◌*◌, ◌^◌, ◌≤◌, ◌⊎◌, List, [], ◌∷◌, ◌++◌, length, ⊤, None, Some, Result, Ok, Err}
+use Rattle.std.specs.Prelude.{Option, ◌≡◌, ℕ, ◌+◌, ◌*◌, ◌≤◌, ◌⊎◌, List, [], ◌∷◌, ◌++◌, length, ⊤, None, Some, Result, Ok, Err}
 use Rattle.st_base.specs.Faults.{Rose}
 use Rattle.st_base.specs.Records.{Rec}
 use Rattle.st_pcap.specs.declared.errors.PcapErr.{PcapErr}
@@ -8,7 +8,7 @@ use Rattle.st_pcap.specs.declared.reader.Phase.{Phase}
 use Rattle.st_pcap.specs.declared.reader.Phase.TheVariants.{Fresh, Open, Stopped}
 use Rattle.st_pcap.specs.declared.forms.TheConstants.{MAX_BODY, MAX_INPUT}
 use Rattle.st_pcap.specs.Heads.{IsFileHead}
-use Rattle.st_pcap.specs.Input.{Records, AllBegin, End, Whole, Refused, Input}
+use Rattle.st_pcap.specs.Input.{Records, AllBegin, Whole, Refused, Input}
 
 -- what a reader has come to, the bytes that it took and the records that it gave
 pub record Progress : Type 0 where

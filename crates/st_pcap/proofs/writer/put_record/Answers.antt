@@ -1,4 +1,4 @@
-use Rattle.std.proofs.Common.{subst, ap, sym}
+use Rattle.std.proofs.Common.{subst, ap}
 use Rattle.std.specs.Io.KnownBytes.{Appends}
 use Rattle.st_base.specs.Records.{Rec}
 use Rattle.st_base.specs.Pieces.{Puts, AppendsFront}

@@ -1,4 +1,4 @@
-use Rattle.std.proofs.Common.{◌≡◌, ◌+◌, Ok, ◌∙◌, subst, sym, ap}
+use Rattle.std.proofs.Common.{◌+◌, Ok, ◌∙◌, subst, sym, ap}
 use Rattle.st_pcap.specs.Reading.{Stands, Took, Progress}
 use Rattle.st_pcap.specs.Checks.{GivesRecord}
 use Rattle.st_pcap.proofs.Steps.{stands_more, stands_whole, stops_there}
