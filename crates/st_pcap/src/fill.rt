@@ -35,7 +35,8 @@ pub fn take_bytes<S: Source>(
     ensures came { IfOk result (λ n. (n ≤ length out.new) × (taken.new ≡ taken.old + n)
         × Consumes (S.left source.old) (S.left source.new) (take n out.new)
         × (n < length out.new → IsAtEnd (S.left source.new))) }
-    ensures fault { IfErr result (λ e. (e ≡ PcapErr.ReadFault) × Rose (S.faults source.old) (S.faults source.new)) }
+    ensures fault { IfErr result (λ e. (e ≡ PcapErr.ReadFault)
+        × Rose (S.faults source.old) (S.faults source.new)) }
     ensures taken { Took (S.left source.old) (S.left source.new) taken.old taken.new }
     ensures bound { taken.new ≤ taken.old + length out.old }
     ensures grows { taken.old ≤ taken.new }

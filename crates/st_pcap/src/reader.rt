@@ -75,14 +75,22 @@ impl PcapReader {
         alloc: Global,
         source: &mut S,
     ) -> Result<Option<Record>, PcapErr>
-        ensures gives { (bytes rest : List ℕ) (rs : List Rec) → S.left source.old ≡ Some rest → Stands self.old bytes rs rest → Gives bytes rs self.new (S.left source.new) result }
-        ensures stops { IfErr result (λ e. self.new.phase ≡ Phase.Stopped e) }
-        ensures again { (e : PcapErr) → self.old.phase ≡ Phase.Stopped e → (result ≡ Err e) × (self.new ≡ self.old) × (source.new ≡ source.old) }
-        ensures taken { Took (S.left source.old) (S.left source.new) self.old.taken self.new.taken }
-        ensures cause { HasReadCause (S.faults source.old) (S.faults source.new) self.old result }
+        // What it answers, where the source tells its bytes, and what it has come to then.
+        ensures gives { (bytes rest : List ℕ) (rs : List Rec) → S.left source.old ≡ Some rest
+            → Stands self.old bytes rs rest
+            → Gives bytes rs self.new (S.left source.new) result }
         ensures goes { OnOk result (IsGoing self.new.phase) }
+        ensures stops { IfErr result (λ e. self.new.phase ≡ Phase.Stopped e) }
+        ensures again { (e : PcapErr) → self.old.phase ≡ Phase.Stopped e
+            → (result ≡ Err e) × (self.new ≡ self.old) × (source.new ≡ source.old) }
+
+        // How much it took, by which a caller's loop ends.
+        ensures taken { Took (S.left source.old) (S.left source.new) self.old.taken self.new.taken }
         ensures grows { IfOk result (λ o. OnSome o (self.old.taken + 16 ≤ self.new.taken)) }
         ensures bound { self.new.taken ≤ MAX_INPUT + 16 + MAX_BODY }
+
+        // What the source's faults say, and what else of the source stays.
+        ensures cause { HasReadCause (S.faults source.old) (S.faults source.new) self.old result }
         ensures rest { S.beside source.new ≡ S.beside source.old }
     {
         self.next_into(source, Vec::new(alloc))
@@ -95,14 +103,22 @@ impl PcapReader {
         source: &mut S,
         body: Vec<u8>,
     ) -> Result<Option<Record>, PcapErr>
-        ensures gives { (bytes rest : List ℕ) (rs : List Rec) → S.left source.old ≡ Some rest → Stands self.old bytes rs rest → Gives bytes rs self.new (S.left source.new) result }
-        ensures stops { IfErr result (λ e. self.new.phase ≡ Phase.Stopped e) }
-        ensures again { (e : PcapErr) → self.old.phase ≡ Phase.Stopped e → (result ≡ Err e) × (self.new ≡ self.old) × (source.new ≡ source.old) }
-        ensures taken { Took (S.left source.old) (S.left source.new) self.old.taken self.new.taken }
-        ensures cause { HasReadCause (S.faults source.old) (S.faults source.new) self.old result }
+        // What it answers, where the source tells its bytes, and what it has come to then.
+        ensures gives { (bytes rest : List ℕ) (rs : List Rec) → S.left source.old ≡ Some rest
+            → Stands self.old bytes rs rest
+            → Gives bytes rs self.new (S.left source.new) result }
         ensures goes { OnOk result (IsGoing self.new.phase) }
+        ensures stops { IfErr result (λ e. self.new.phase ≡ Phase.Stopped e) }
+        ensures again { (e : PcapErr) → self.old.phase ≡ Phase.Stopped e
+            → (result ≡ Err e) × (self.new ≡ self.old) × (source.new ≡ source.old) }
+
+        // How much it took, by which a caller's loop ends.
+        ensures taken { Took (S.left source.old) (S.left source.new) self.old.taken self.new.taken }
         ensures grows { IfOk result (λ o. OnSome o (self.old.taken + 16 ≤ self.new.taken)) }
         ensures bound { self.new.taken ≤ MAX_INPUT + 16 + MAX_BODY }
+
+        // What the source's faults say, and what else of the source stays.
+        ensures cause { HasReadCause (S.faults source.old) (S.faults source.new) self.old result }
         ensures rest { S.beside source.new ≡ S.beside source.old }
     {
         let form = match self.open(source) {
@@ -124,14 +140,24 @@ impl PcapReader {
 
     /// The file's form, which the first call reads.
     fn open<S: Source>(&mut self, source: &mut S) -> Result<Form, PcapErr>
-        ensures opens { (bytes rest : List ℕ) (rs : List Rec) → S.left source.old ≡ Some rest → Stands self.old bytes rs rest → Opens bytes rs self.new (S.left source.new) result }
+        // Where it stands then, or why it has stopped.
+        ensures opens { (bytes rest : List ℕ) (rs : List Rec) → S.left source.old ≡ Some rest
+            → Stands self.old bytes rs rest
+            → Opens bytes rs self.new (S.left source.new) result }
         ensures phase { KeepsOpening self.new result }
-        ensures again { (e : PcapErr) → self.old.phase ≡ Phase.Stopped e → (result ≡ Err e) × (self.new ≡ self.old) × (source.new ≡ source.old) }
+        ensures again { (e : PcapErr) → self.old.phase ≡ Phase.Stopped e
+            → (result ≡ Err e) × (self.new ≡ self.old) × (source.new ≡ source.old) }
+
+        // How much it took.
         ensures taken { Took (S.left source.old) (S.left source.new) self.old.taken self.new.taken }
         ensures number { self.new.number ≡ self.old.number }
         ensures grows { self.old.taken ≤ self.new.taken }
         ensures bound { self.new.taken ≤ MAX_INPUT + 16 + MAX_BODY }
-        ensures fault { result ≡ Err PcapErr.ReadFault → Rose (S.faults source.old) (S.faults source.new) ⊎ (self.old.phase ≡ Phase.Stopped PcapErr.ReadFault) }
+
+        // What the source's faults say, and what else of the source stays.
+        ensures fault { result ≡ Err PcapErr.ReadFault
+            → Rose (S.faults source.old) (S.faults source.new)
+            ⊎ (self.old.phase ≡ Phase.Stopped PcapErr.ReadFault) }
         ensures later { S.faults source.old ≤ S.faults source.new }
         ensures rest { S.beside source.new ≡ S.beside source.old }
     {

@@ -14,7 +14,8 @@ use st_base::{Octets, Record, Source};
 /// its form. What came is counted in `taken`, in bytes.
 pub fn read_form<S: Source>(source: &mut S, taken: &mut u64) -> Result<Form, PcapErr>
     requires { taken.old ≤ MAX_INPUT + 16 + MAX_BODY }
-    ensures gives { (bytes : List ℕ) → S.left source.old ≡ Some bytes → GivesForm bytes (S.left source.new) result }
+    ensures gives { (bytes : List ℕ) → S.left source.old ≡ Some bytes
+        → GivesForm bytes (S.left source.new) result }
     ensures fault { result ≡ Err PcapErr.ReadFault → Rose (S.faults source.old) (S.faults source.new) }
     ensures taken { Took (S.left source.old) (S.left source.new) taken.old taken.new }
     ensures bound { taken.new ≤ taken.old + 24 }
@@ -38,7 +39,8 @@ pub fn read_record<S: Source>(
     taken: &mut u64,
 ) -> Result<Option<Record>, PcapErr>
     requires { taken.old ≤ MAX_INPUT + 16 + MAX_BODY }
-    ensures gives { (rest : List ℕ) → S.left source.old ≡ Some rest → GivesRecord form taken.old number rest (S.left source.new) result }
+    ensures gives { (rest : List ℕ) → S.left source.old ≡ Some rest
+        → GivesRecord form taken.old number rest (S.left source.new) result }
     ensures fault { result ≡ Err PcapErr.ReadFault → Rose (S.faults source.old) (S.faults source.new) }
     ensures taken { Took (S.left source.old) (S.left source.new) taken.old taken.new }
     ensures bound { taken.new ≤ MAX_INPUT + 16 + MAX_BODY }
@@ -83,7 +85,8 @@ fn read_body<S: Source>(
     requires room { taken.old ≤ MAX_INPUT + 16 }
     requires short { entry.now.captured ≤ MAX_BODY }
     requires below { entry.now.nsec < 1000000000 }
-    ensures gives { (rest : List ℕ) → S.left source.old ≡ Some rest → GivesBody entry.now number rest (S.left source.new) result }
+    ensures gives { (rest : List ℕ) → S.left source.old ≡ Some rest
+        → GivesBody entry.now number rest (S.left source.new) result }
     ensures fault { result ≡ Err PcapErr.ReadFault → Rose (S.faults source.old) (S.faults source.new) }
     ensures taken { Took (S.left source.old) (S.left source.new) taken.old taken.new }
     ensures bound { taken.new ≤ MAX_INPUT + 16 + MAX_BODY }
