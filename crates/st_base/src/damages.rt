@@ -1,0 +1,15 @@
+ghost use Rattle.std.specs.Prelude.{◌≢◌};
+
+/// Bytes that break their format: where the first check that fails looked, what it found there,
+/// and what the format wants.
+///
+/// `place` is an offset in bytes, unless the check that fails says otherwise. A check that can
+/// only hold or fail has `found` 0 and `want` 1.
+/// Source: docs/FORMAT.md, "Checks".
+#[derive(Clone, Copy, Debug, PartialEq, Eq)]
+pub struct Damage {
+    pub place: u64,
+    pub found: u64,
+    pub want: u64,
+    pub ghost differs: { found ≢ want },
+}

@@ -1,0 +1,96 @@
+ghost use Rattle.std.specs.Prelude.{◌≡◌, ◌+◌, ◌-◌, ◌^◌, ◌≤◌, ◌<◌, min, List, [], length, take, drop, IfOk, Some};
+
+use crate::failures::{Failed, NoMemory};
+use crate::readers::Reader;
+use std::alloc::Global;
+use std::marker::Model;
+
+/// A file in memory, which fails where it is told to.
+#[derive(Drop)]
+pub struct MemReader {
+    bytes: Vec<u8>,
+    fails: Vec<u32>,
+    reads: u64,
+    asked: u64,
+    faults: u64,
+}
+
+impl Model for MemReader {
+    ghost use Rattle.st_base.specs.Scripts.{HeldBytes};
+
+    ghost Value = { HeldBytes };
+
+    ghost view = { λ a. record {
+      content = a.bytes.items;
+      fails = a.fails.items;
+      reads = a.reads;
+      asked = a.asked;
+      faults = a.faults;
+    } };
+}
+
+impl MemReader {
+    /// A file of `bytes` that fails at the reads whose numbers stand in `fails`, counted from 0.
+    pub fn over(alloc: Global, bytes: &[u8], fails: &[u32]) -> Result<MemReader, NoMemory>
+        ensures { IfOk result (λ r. r ≡ record { content = bytes.now; fails = fails.now; reads = 0; asked = 0; faults = 0 }) }
+    {
+        let bytes = bytes.to_vec(alloc)?;
+        let fails = fails.to_vec(alloc)?;
+        Ok(MemReader {
+            bytes,
+            fails,
+            reads: 0,
+            asked: 0,
+            faults: 0,
+        })
+    }
+}
+
+impl Reader for MemReader {
+    ghost use Rattle.std.specs.Prelude.{Some, length};
+    ghost use Rattle.std.proofs.Common.{rules};
+
+    ghost Beside = { Unit {0} };
+
+    ghost content = { λ r. Some r.content };
+
+    ghost extent = { λ r. length r.content };
+
+    ghost faults = { λ r. r.faults };
+
+    ghost reads = { λ r. r.reads };
+
+    ghost asked = { λ r. r.asked };
+
+    ghost beside = { λ r. tt };
+
+    ghost told = { λ r bytes same. Prim.search rules };
+
+    fn size(&self) -> u64 {
+        self.bytes.len() as u64
+    }
+
+    fn read_at(&mut self, place: u64, out: &mut [u8]) -> Result<usize, Failed> {
+        let call = self.reads;
+        self.reads = call.saturating_add(1);
+        self.asked = self.asked.saturating_add(out.len() as u64);
+        if self.fails.iter().any(|number| u64::from(*number) == call) {
+            self.faults = self.faults.saturating_add(1);
+            return Err(Failed);
+        }
+        let rest = rest_from(self.bytes.as_slice(), place);
+        let taken = rest.len().min(out.len());
+        out.split_at_mut(taken)
+            .0
+            .copy_from_slice(rest.split_at(taken).0);
+        Ok(taken)
+    }
+}
+
+// the bytes from `place` on, none where it lies past the end
+fn rest_from(bytes: &[u8], place: u64) -> &[u8]
+    ensures { result.now ≡ drop place bytes.now }
+{
+    let at = (place as u128).min(bytes.len() as u128) as usize;
+    bytes.split_at(at).1
+}

@@ -1,0 +1,72 @@
+ghost use Rattle.std.specs.Prelude.{◌≡◌, ◌+◌, ◌^◌, ◌≤◌, ◌<◌, List, [], length, IfOk, Some};
+
+use crate::failures::{Failed, NoMemory};
+use crate::sinks::Sink;
+use std::alloc::Global;
+use std::marker::Model;
+
+/// A sink in memory, which keeps what is written and fails where it is told to.
+#[derive(Drop)]
+pub struct MemSink {
+    bytes: Vec<u8>,
+    fails: Vec<u32>,
+    calls: u64,
+    faults: u64,
+}
+
+impl Model for MemSink {
+    ghost use Rattle.st_base.specs.Scripts.{TakenBytes};
+
+    ghost Value = { TakenBytes };
+
+    ghost view = { λ a. record {
+      written = a.bytes.items;
+      fails = a.fails.items;
+      calls = a.calls;
+      faults = a.faults;
+    } };
+}
+
+impl MemSink {
+    /// A sink that has nothing yet, and fails at the calls whose numbers stand in `fails`, counted
+    /// from 0. Its `faults` rises at these and where a growth finds no memory.
+    pub fn new(alloc: Global, fails: &[u32]) -> Result<MemSink, NoMemory>
+        ensures { IfOk result (λ s. s ≡ record { written = []; fails = fails.now; calls = 0; faults = 0 }) }
+    {
+        let fails = fails.to_vec(alloc)?;
+        Ok(MemSink {
+            bytes: Vec::new(alloc),
+            fails,
+            calls: 0,
+            faults: 0,
+        })
+    }
+
+    /// All that was written.
+    pub fn bytes(&self) -> &[u8]
+        ensures { result.now ≡ self.now.written }
+    {
+        self.bytes.as_slice()
+    }
+}
+
+impl Sink for MemSink {
+    ghost Beside = { Unit {0} };
+
+    ghost written = { λ s. Some s.written };
+
+    ghost faults = { λ s. s.faults };
+
+    ghost beside = { λ s. tt };
+
+    fn write(&mut self, bytes: &[u8]) -> Result<usize, Failed> {
+        let call = self.calls;
+        self.calls = call.saturating_add(1);
+        let fails = self.fails.iter().any(|number| u64::from(*number) == call);
+        if fails || self.bytes.extend_from_slice(bytes).is_err() {
+            self.faults = self.faults.saturating_add(1);
+            return Err(Failed);
+        }
+        Ok(bytes.len())
+    }
+}

@@ -1,0 +1,125 @@
+ghost use Rattle.std.specs.Prelude.{◌≡◌, ◌+◌, ◌-◌, ◌^◌, ◌≤◌, ◌<◌, min, length, None};
+ghost use Rattle.std.specs.Io.KnownBytes.{Keeps};
+ghost use Rattle.st_base.specs.Faults.{HasCause};
+
+use crate::failures::Failed;
+use crate::sinks::Sink;
+use crate::sources::Source;
+use std::io::{ErrorKind, Read, Write};
+
+/// A reader of std as a source: standard input, or a file.
+///
+/// It reads nothing ahead of its reader, so that one wants a buffer. Each failure of the reader is
+/// a fault, but a read that a signal broke off is made again. It tells what its reader tells, which
+/// is nothing for a file or a stream.
+#[derive(Drop)]
+pub struct StreamSource<R> {
+    reader: R,
+    faults: u64,
+}
+
+impl<R: Read> StreamSource<R> {
+    /// A source that gives what `reader` gives.
+    pub fn over(reader: R) -> StreamSource<R>
+        ensures reader { result.reader ≡ reader }
+        ensures faults { result.faults ≡ 0 }
+    {
+        StreamSource { reader, faults: 0 }
+    }
+}
+
+impl<R: Read> Source for StreamSource<R> {
+    ghost Beside = { Unit {0} };
+
+    ghost left = { λ s. R.remaining s.reader };
+
+    ghost faults = { λ s. s.faults };
+
+    ghost beside = { λ s. tt };
+
+    fn read(&mut self, out: &mut [u8]) -> Result<usize, Failed> {
+        'tries: for _ in 0..u64::MAX {
+            match self.reader.read(out) {
+                Ok(taken) => return Ok(taken),
+                Err(error) => {
+                    if error.kind() != ErrorKind::Interrupted {
+                        break;
+                    }
+                }
+            }
+        }
+        self.faults = self.faults.saturating_add(1);
+        Err(Failed)
+    }
+}
+
+/// A writer of std as a sink: standard output, standard error, or a file.
+///
+/// Each failure of the writer is a fault, and so is a write that takes nothing of a piece with
+/// bytes; a write that a signal broke off is made again. It tells what its writer tells, which is
+/// nothing for a file or a stream.
+#[derive(Drop)]
+pub struct StreamSink<W> {
+    writer: W,
+    faults: u64,
+}
+
+impl<W: Write> StreamSink<W> {
+    /// A sink that gives `writer` what it is given.
+    pub fn over(writer: W) -> StreamSink<W>
+        ensures writer { result.writer ≡ writer }
+        ensures faults { result.faults ≡ 0 }
+    {
+        StreamSink { writer, faults: 0 }
+    }
+
+    /// Has the writer hand on what it buffered.
+    ///
+    /// `Failed` comes only where `faults` rose; how much the writer then handed on is not said.
+    pub fn flush(&mut self) -> Result<(), Failed>
+        ensures bytes { Keeps (W.contents self.old.writer) (W.contents self.new.writer) }
+        ensures cause { HasCause self.old.faults self.new.faults result }
+    {
+        'tries: for _ in 0..u64::MAX {
+            match self.writer.flush() {
+                Ok(()) => return Ok(()),
+                Err(error) => {
+                    if error.kind() != ErrorKind::Interrupted {
+                        break;
+                    }
+                }
+            }
+        }
+        self.faults = self.faults.saturating_add(1);
+        Err(Failed)
+    }
+}
+
+impl<W: Write> Sink for StreamSink<W> {
+    ghost Beside = { Unit {0} };
+
+    ghost written = { λ s. W.contents s.writer };
+
+    ghost faults = { λ s. s.faults };
+
+    ghost beside = { λ s. tt };
+
+    fn write(&mut self, bytes: &[u8]) -> Result<usize, Failed> {
+        'tries: for _ in 0..u64::MAX {
+            match self.writer.write(bytes) {
+                Ok(0) => break,
+                Ok(taken) => return Ok(taken),
+                Err(error) => {
+                    if error.kind() != ErrorKind::Interrupted {
+                        break;
+                    }
+                }
+            }
+        }
+        if bytes.is_empty() {
+            return Ok(0);
+        }
+        self.faults = self.faults.saturating_add(1);
+        Err(Failed)
+    }
+}
