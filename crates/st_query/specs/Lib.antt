@@ -5,3 +5,5 @@ pub mod Lexing
 pub mod Trees
 pub mod Grammar
 pub mod Machine
+pub mod Spelling
+pub mod Parsing

@@ -1,5 +1,5 @@
 -- What one word of a query stands for, where it is a number, an address, a net or a mask.
-use Rattle.std.specs.Prelude.{◌≡◌, ℕ, ◌+◌, ◌-◌, ◌*◌, ◌/◌, ◌^◌, ◌<◌, ◌≤◌, ◌≢◌, List, [], ◌∷◌, ◌++◌, length, codes, All}
+use Rattle.std.specs.Prelude.{◌≡◌, ℕ, ◌+◌, ◌-◌, ◌*◌, ◌/◌, ◌^◌, ◌<◌, ◌≤◌, ◌≢◌, List, [], ◌∷◌, ◌++◌, length, take, drop, codes, All, Contains}
 use Rattle.std.specs.Str.Parse.{IsNumeral, digits_value}
 use Rattle.std.specs.declared.net.ipv4_addr.Ipv4Addr.{Ipv4Addr}
 use Rattle.std.specs.declared.net.ipv6_addr.Ipv6Addr.{Ipv6Addr}
@@ -16,7 +16,7 @@ IsNumber most word n = IsNumeral 10 word × (length word ≤ most) × (digits_va
 -- stands for one zero group or more, and no group is written as decimal numbers.
 abbrev pub IsAddress : List ℕ → Addr → Type 0
 IsAddress word (V4 bits) = (ip : Ipv4Addr) × IsIpv4Text word ip × (bits ≡ ipv4_bits ip)
-IsAddress word (V6 bits) = (ip : Ipv6Addr) × IsIpv6Text word ip × All (λ b. b ≢ 46) word × (bits ≡ ipv6_bits ip)
+IsAddress word (V6 bits) = (ip : Ipv6Addr) × IsIpv6Text word ip × ¬ (Contains word 46) × (bits ≡ ipv6_bits ip)
 
 -- how many bits an address has
 abbrev pub width : Addr → ℕ
@@ -28,6 +28,11 @@ abbrev pub IsNet : List ℕ → Addr → ℕ → Type 0
 IsNet word a n =
     (address : List ℕ) × (digits : List ℕ) × (word ≡ address ++ codes "/" ++ digits)
     × IsAddress address a × IsNumber 3 digits n × (n ≤ width a)
+
+-- the text has a slash there, and none behind it
+abbrev pub EndsAtSlash : List ℕ → ℕ → Type 0
+EndsAtSlash word i =
+    (i < length word) × (word ≡ take i word ++ codes "/" ++ drop (i + 1) word) × All (λ b. b ≢ 47) (drop (i + 1) word)
 
 -- the number of so many bits, with all but its first n bits cleared
 abbrev pub cleared : ℕ → ℕ → ℕ → ℕ

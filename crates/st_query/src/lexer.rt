@@ -6,7 +6,8 @@ ghost use Rattle.st_query.specs.Lexing.{Next, Front};
 
 use crate::addrs::Addr;
 use crate::tokens::{Keyword, Token};
-use crate::words::{address, instant, mask_bits, net, number, span};
+use crate::times::{instant, span};
+use crate::words::{address, mask_bits, net, number};
 
 /// A token of a text, with the places of its first byte and of the byte behind it.
 #[derive(Clone, Copy)]

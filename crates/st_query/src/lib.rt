@@ -2,11 +2,16 @@
 #![tactic(auto)]
 
 mod addrs;
+mod errors;
 mod grammar;
 mod lexer;
 mod nodes;
+mod parser;
 mod tokens;
+mod times;
 mod words;
 
 pub use addrs::Addr;
-pub use nodes::{Node, When};
+pub use errors::QueryErr;
+pub use nodes::{Node, Query, When};
+pub use parser::parse;

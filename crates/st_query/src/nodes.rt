@@ -3,6 +3,7 @@ ghost use Rattle.std.specs.Prelude.{◌≡◌, IfOk, if◌then◌else◌};
 ghost use Rattle.st_query.specs.Trees.{tree, both, either, one};
 
 use std::alloc::{AllocError, Global};
+use std::marker::Model;
 
 use sqlite_items::Boxed;
 
@@ -72,5 +73,45 @@ pub fn joined(alloc: Global, left: Node, and: bool, right: Node) -> Result<Node,
         Ok(Node::And { left, right })
     } else {
         Ok(Node::Or { left, right })
+    }
+}
+
+/// A query that can be asked. Contracts see it as its node.
+#[derive(Drop)]
+pub struct Query {
+    node: Node,
+}
+
+impl Model for Query {
+    ghost use Rattle.std.specs.Coded.{codes};
+    ghost use Rattle.st_query.specs.contracts.nodes.Node as e;
+    ghost use Rattle.st_query.specs.declared.nodes.Node.{Node};
+    ghost use Rattle.st_query.specs.Trees.{IsSound, tree};
+
+    ghost Value = { Node };
+
+    ghost coded = { Prim.hlevel (codes, e.the_row.coded) };
+
+    ghost view = { λ a. a.node };
+
+    ghost invariant = { λ a. IsSound (tree a.node) };
+}
+
+impl Query {
+    ghost use Rattle.st_query.specs.Trees.{IsSound, tree};
+
+    pub(crate) fn of(node: Node) -> Query
+        requires { IsSound (tree node) }
+        ensures { result ≡ node }
+    {
+        Query { node }
+    }
+
+    /// The query's outermost node.
+    pub fn node(&self) -> &Node
+        ensures same { result.now ≡ self.now }
+        ensures sound { IsSound (tree self.now) }
+    {
+        &self.node
     }
 }
