@@ -8,11 +8,11 @@ use Rattle.st_query.specs.declared.tokens.Token.TheVariants as token
 use Rattle.st_query.specs.declared.tokens.Token.{Token}
 use Rattle.st_query.specs.declared.tokens.Keyword.TheVariants as key
 use Rattle.st_query.specs.declared.nodes.Primitive.{Primitive}
-use Rattle.st_query.specs.Words.{network, width}
+use Rattle.st_query.specs.Words.{network, width, FitsAddr}
 use Rattle.st_query.specs.Times.{IsInYears}
 use Rattle.st_query.specs.Tokens.{keyword, IsValue, IsWord, IsPiece}
 use Rattle.st_query.specs.Spelling.{Starts, IsSpelled}
-use Rattle.st_query.specs.Trees.{Tree, both, either, one, FitsAddr, FitsPrimitive, InRange, is_joined, inside, depth, IsSound}
+use Rattle.st_query.specs.Trees.{Tree, both, either, one, FitsPrimitive, InRange, is_joined, inside, depth, IsSound}
 use Rattle.st_query.specs.Grammar.{Prim, host, net, masked, port, proto, vlan, mpls, icmp, tcp, udp, before_at, before_ago, after_at, after_ago, Item, primitive, paren, Query, item, and, or}
 use Rattle.st_query.proofs.WordRanges.{address_fits, network_fits, network_twice, width_network, instant_in_years}
 

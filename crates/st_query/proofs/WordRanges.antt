@@ -4,7 +4,7 @@ use Rattle.st_query.specs.declared.addrs.Addr.{Addr}
 use Rattle.st_query.specs.declared.addrs.Addr.TheVariants.{V4, V6}
 use Rattle.st_query.specs.Words.{IsAddress, IsNet, network, width}
 use Rattle.st_query.specs.Times.{IsInstant, IsInYears, IsSpan}
-use Rattle.st_query.specs.Trees.{FitsAddr}
+use Rattle.st_query.specs.Words.{FitsAddr}
 
 pub address_fits : (word : List ℕ) (a : Addr) → IsAddress word a → FitsAddr a
 address_fits word a h = ?

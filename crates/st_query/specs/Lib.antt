@@ -1,5 +1,6 @@
 pub mod Words
 pub mod Times
+pub mod TimeReading
 pub mod Tokens
 pub mod Lexing
 pub mod Trees
@@ -7,3 +8,5 @@ pub mod Grammar
 pub mod Machine
 pub mod Spelling
 pub mod Parsing
+pub mod Meaning
+pub mod Matching

@@ -4,7 +4,7 @@ use Rattle.st_query.specs.declared.addrs.Addr.{Addr}
 use Rattle.st_query.specs.declared.addrs.Addr.TheVariants.{V4, V6}
 use Rattle.st_query.specs.declared.nodes.When.{When}
 use Rattle.st_query.specs.declared.nodes.When.TheVariants.{At, Ago}
-use Rattle.st_query.specs.Words.{width, network}
+use Rattle.st_query.specs.Words.{width, network, FitsAddr}
 use Rattle.st_query.specs.Times.{IsInYears}
 use Rattle.st_query.specs.declared.nodes.Primitive.{Primitive}
 use Rattle.st_query.specs.declared.nodes.Primitive.TheVariants as prim
@@ -31,11 +31,6 @@ tree_step (Node-F.After when) = one (prim.After when)
 -- the tree that a node is
 abbrev pub tree : Node → Tree
 tree = fold-Node Tree tree_step
-
--- the number is an address of its family
-abbrev pub FitsAddr : Addr → Type 0
-FitsAddr (V4 bits) = bits < 2 ^ 32
-FitsAddr (V6 bits) = bits < 2 ^ 128
 
 abbrev pub FitsWhen : When → Type 0
 FitsWhen (At second) = IsInYears second

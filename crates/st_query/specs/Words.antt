@@ -51,3 +51,8 @@ IsOnes width n bits = (n ≤ width) × (bits + 2 ^ (width - n) ≡ 2 ^ width)
 abbrev pub IsMask : Addr → ℕ → Type 0
 IsMask (V4 bits) n = IsOnes 32 n bits
 IsMask (V6 bits) n = IsOnes 128 n bits
+
+-- the number is an address of its family
+abbrev pub FitsAddr : Addr → Type 0
+FitsAddr (V4 bits) = bits < 2 ^ 32
+FitsAddr (V6 bits) = bits < 2 ^ 128

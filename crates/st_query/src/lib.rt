@@ -5,6 +5,7 @@ mod addrs;
 mod errors;
 mod grammar;
 mod lexer;
+mod meaning;
 mod nodes;
 mod parser;
 mod tokens;
@@ -13,5 +14,6 @@ mod words;
 
 pub use addrs::Addr;
 pub use errors::QueryErr;
+pub use meaning::matches;
 pub use nodes::{Node, Query, When};
 pub use parser::parse;
