@@ -1,11 +1,11 @@
 -- An instant as it is read against how it is written.
-use Rattle.std.proofs.Common.{◌≡◌, ◌≢◌, ℕ, ◌+◌, ◌-◌, ◌*◌, ◌/◌, ◌%◌, ◌<◌, ◌≤◌, ◌⊎◌, Bool, true, false, List, [], ◌∷◌, ◌++◌, length, take, drop, get_or, codes, refl, sym, ap, ◌∙◌, subst, arith, inl, inr, ℤ, pos, negsuc, neg_ℤ, ◌+ℤ◌, ◌-ℤ◌, ◌*ℤ◌, ◌≤ℤ◌, take-append-drop}
+use Rattle.std.proofs.Common.{◌≡◌, ℕ, ◌+◌, ◌*◌, ◌/◌, ◌%◌, ◌<◌, true, List, [], ◌∷◌, ◌++◌, length, take, drop, get_or, codes, refl, sym, ap, ◌∙◌, subst, arith, inl, inr, ℤ, pos, neg_ℤ, ◌+ℤ◌, ◌-ℤ◌, ◌*ℤ◌, take-append-drop}
 use Rattle.std.proofs.lemmas.Int.{ints}
-use Rattle.jiff_core.specs.Calendar.{IsYear, IsCivilDate, days_from_civil, days_in_month}
+use Rattle.jiff_core.specs.Calendar.{IsCivilDate, days_from_civil}
 use Rattle.jiff_core.proofs.CalendarLemmas.{days_in_month_bounds}
-use Rattle.st_query.specs.Times.{two, four, date_text, minute_text, clock_text, IsOffset, IsInstant, IsInYears}
+use Rattle.st_query.specs.Times.{two, minute_text, IsOffset, IsInstant, IsInYears}
 use Rattle.st_query.specs.TimeReading.{fits, two_at, year_at, HasShape, HasDate, HasClock, IsDayOf, IsClockOf}
-use Rattle.st_query.proofs.TimeShape.{Two, Mark, fits_two, fits_mark, fits_end, two_fits, two_back}
+use Rattle.st_query.proofs.TimeShape.{fits_two, fits_mark, fits_end, two_fits, two_back}
 
 -- `YYYY-MM-DDThh:mm:ss` of pairs of digits, and more
 abbrev pub stamp : ℕ → ℕ → ℕ → ℕ → ℕ → ℕ → ℕ → List ℕ → List ℕ
@@ -135,7 +135,7 @@ stamp_fits c y m d h mi s c< y< m< d< h< mi< s< =
     ∙ two_fits s [] [] s<
 
 -- a year of the calendar that is no negative number has four digits, and months and days have two
-year_small : (year month day : ℕ) → IsCivilDate (pos year) month day → (year < 10000) × (month < 100) × (day < 100)
+pub year_small : (year month day : ℕ) → IsCivilDate (pos year) month day → (year < 10000) × (month < 100) × (day < 100)
 year_small year month day date =
     let days = days_in_month_bounds (pos year) month in
     (omega (arith, ints), omega arith, omega arith)

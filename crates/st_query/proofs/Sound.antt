@@ -14,7 +14,7 @@ use Rattle.st_query.specs.Tokens.{keyword, IsValue, IsWord, IsPiece}
 use Rattle.st_query.specs.Spelling.{Starts, IsSpelled}
 use Rattle.st_query.specs.Trees.{Tree, both, either, one, FitsPrimitive, InRange, is_joined, inside, depth, IsSound}
 use Rattle.st_query.specs.Grammar.{Prim, host, net, masked, port, proto, vlan, mpls, icmp, tcp, udp, before_at, before_ago, after_at, after_ago, Item, primitive, paren, Query, item, and, or}
-use Rattle.st_query.proofs.WordRanges.{address_fits, network_fits, network_twice, width_network, instant_in_years}
+use Rattle.st_query.proofs.WordLaws.{address_fits, network_fits, network_twice, width_network, instant_in_years}
 
 -- the numbers of a token are in their ranges
 abbrev pub FitsToken : Token → Type 0

@@ -1,9 +1,11 @@
 pub mod Words
 pub mod Times
 pub mod TimeReading
+pub mod WordText
 pub mod Tokens
 pub mod Lexing
 pub mod Trees
+pub mod Printing
 pub mod Grammar
 pub mod Machine
 pub mod Spelling

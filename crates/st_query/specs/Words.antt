@@ -1,5 +1,5 @@
 -- What one word of a query stands for, where it is a number, an address, a net or a mask.
-use Rattle.std.specs.Prelude.{◌≡◌, ℕ, ◌+◌, ◌-◌, ◌*◌, ◌/◌, ◌^◌, ◌<◌, ◌≤◌, ◌≢◌, List, [], ◌∷◌, ◌++◌, length, take, drop, codes, All, Contains}
+use Rattle.std.specs.Prelude.{◌≡◌, ℕ, ◌+◌, ◌-◌, ◌*◌, ◌/◌, ◌^◌, ◌<◌, ◌≤◌, ◌≢◌, List, ◌++◌, length, take, drop, codes, All, Contains}
 use Rattle.std.specs.Str.Parse.{IsNumeral, digits_value}
 use Rattle.std.specs.declared.net.ipv4_addr.Ipv4Addr.{Ipv4Addr}
 use Rattle.std.specs.declared.net.ipv6_addr.Ipv6Addr.{Ipv6Addr}
@@ -22,6 +22,11 @@ IsAddress word (V6 bits) = (ip : Ipv6Addr) × IsIpv6Text word ip × ¬ (Contains
 abbrev pub width : Addr → ℕ
 width (V4 bits) = 32
 width (V6 bits) = 128
+
+-- the address has no more bits
+abbrev pub FitsAddr : Addr → Type 0
+FitsAddr (V4 bits) = bits < 2 ^ 32
+FitsAddr (V6 bits) = bits < 2 ^ 128
 
 -- an address, a slash, and the number of bits in one to three digits
 abbrev pub IsNet : List ℕ → Addr → ℕ → Type 0
@@ -51,8 +56,3 @@ IsOnes width n bits = (n ≤ width) × (bits + 2 ^ (width - n) ≡ 2 ^ width)
 abbrev pub IsMask : Addr → ℕ → Type 0
 IsMask (V4 bits) n = IsOnes 32 n bits
 IsMask (V6 bits) n = IsOnes 128 n bits
-
--- the number is an address of its family
-abbrev pub FitsAddr : Addr → Type 0
-FitsAddr (V4 bits) = bits < 2 ^ 32
-FitsAddr (V6 bits) = bits < 2 ^ 128

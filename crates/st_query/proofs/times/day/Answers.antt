@@ -1,4 +1,4 @@
-use Rattle.std.proofs.Common.{◌<◌, ◌≤◌, ◌+◌, ◌*◌, ◌^◌, ◌≡◌, ◌∙◌, sym, arith, pos, w16}
+use Rattle.std.proofs.Common.{◌+◌, ◌*◌, ◌∙◌, arith, w16}
 use Rattle.std.proofs.lemmas.Int.{ints, to_z_pos}
 use Rattle.jiff_core.proofs.DateLemmas.{min-lt-epoch_day}
 use Rattle.st_query.proofs.times.day.Goals as goal

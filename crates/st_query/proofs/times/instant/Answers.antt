@@ -1,4 +1,4 @@
-use Rattle.std.proofs.Common.{◌≡◌, ◌∙◌, arith, drop, subst, sym, pos, ◌-ℤ◌, w64, to_z, of_z}
+use Rattle.std.proofs.Common.{◌≡◌, arith, subst, sym, w64, to_z, of_z}
 use Rattle.std.proofs.lemmas.Int.{ints, to_z-of_z}
 use Rattle.std.proofs.lemmas.List.{take_rest}
 use Rattle.st_query.specs.Times.{IsOffset, IsInYears}

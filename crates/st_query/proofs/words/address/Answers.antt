@@ -1,4 +1,3 @@
-use Rattle.std.proofs.Common.{rules, ◌≡◌, length}
 use Rattle.st_query.proofs.Addresses.{contains, none_with_dot, none_of_both}
 use Rattle.st_query.proofs.words.address.Goals as goal
 

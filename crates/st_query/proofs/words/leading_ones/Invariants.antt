@@ -1,4 +1,4 @@
-use Rattle.std.proofs.Common.{◌≡◌, ℕ, ◌<◌, ◌+◌}
+use Rattle.std.proofs.Common.{ℕ, ◌<◌}
 use Rattle.st_query.specs.Words.{IsOnes}
 use Rattle.st_query.proofs.words.leading_ones.Given as goal
 

@@ -1,4 +1,4 @@
-use Rattle.std.proofs.Common.{ap, subst, sym, ◌∙◌, take, drop, arith, ◌+◌, ◌<◌}
+use Rattle.std.proofs.Common.{subst, sym, ◌∙◌, ◌+◌, ◌<◌}
 use Rattle.std.proofs.lemmas.List.{take_rest}
 use Rattle.st_query.specs.Words.{width, IsNumber}
 use Rattle.st_query.proofs.Addresses.{net_parts, none_too_long}

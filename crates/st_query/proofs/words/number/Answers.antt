@@ -1,5 +1,4 @@
-use Rattle.std.proofs.Common.{◌≤◌, ◌+◌, ◌*◌, arith, length, take, rules, ap, ◌∙◌}
-use Rattle.std.specs.Str.Parse.{AllDigits}
+use Rattle.std.proofs.Common.{◌+◌, ◌*◌, arith, rules, ap, ◌∙◌}
 use Rattle.std.proofs.lemmas.Str.Parse.{digit_at}
 use Rattle.st_query.proofs.Numerals.{small, value_more, digits_on}
 use Rattle.st_query.proofs.words.number.Goals as goal
