@@ -1,5 +1,5 @@
 -- Counts of faults, by which a caller tells a failure of the outside from one of its own.
-use Rattle.std.specs.Prelude.{ℕ, ◌+◌, ◌-◌, ◌^◌, ◌<◌, ◌≤◌, ◌≡◌, min, List, length, Result, OnErr, IfOk}
+use Rattle.std.specs.Prelude.{ℕ, ◌+◌, ◌-◌, ◌^◌, ◌<◌, ◌≤◌, ◌≡◌, min, max, List, length, Result, OnErr, IfOk}
 
 -- the count rose, or stands at the last value that a u64 has
 abbrev pub Rose : ℕ → ℕ → Type 0
@@ -16,4 +16,4 @@ TakesSome before now piece result = IfOk result (λ n. n ≡ 0 → 0 < length pi
 
 -- a count rose by so many, but stops at the last value that a u64 has
 abbrev pub CountsOn : ℕ → ℕ → ℕ → Type 0
-CountsOn before now by = now ≡ min (before + by) (2 ^ 64 - 1)
+CountsOn before now by = now ≡ max before (min (before + by) (2 ^ 64 - 1))

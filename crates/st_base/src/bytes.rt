@@ -38,6 +38,14 @@ impl Octets {
         Octets { bytes }
     }
 
+    /// The vector of the bytes, without a copy.
+    pub fn into_bytes(self) -> Vec<u8>
+        ensures { result.items ≡ self }
+    {
+        let Octets { bytes } = self;
+        bytes
+    }
+
     /// All the bytes.
     pub fn bytes(&self) -> &[u8]
         ensures { result.now ≡ self.now }

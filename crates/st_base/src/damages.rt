@@ -1,7 +1,7 @@
 ghost use Rattle.std.specs.Prelude.{◌≢◌};
 
-/// Bytes that break their format: where the first check that fails looked, what it found there,
-/// and what the format wants.
+/// Bytes that break their format: where a check that fails looked, what it found there, and what
+/// the format wants.
 ///
 /// `place` is an offset in bytes, unless the check that fails says otherwise. A check that can
 /// only hold or fail has `found` 0 and `want` 1.

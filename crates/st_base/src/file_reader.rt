@@ -1,4 +1,4 @@
-ghost use Rattle.std.specs.Prelude.{◌≡◌, ◌+◌, ◌-◌, ◌^◌, ◌≤◌, ◌<◌, min, length, take, None, IfOk};
+ghost use Rattle.std.specs.Prelude.{◌≡◌, ◌+◌, ◌-◌, ◌^◌, ◌≤◌, ◌<◌, min, length, take, None};
 
 use crate::failures::Failed;
 use crate::readers::Reader;
@@ -7,8 +7,8 @@ use std::os::unix::fs::FileExt;
 
 /// A file of the machine that is read at places, each read by one system call and nothing ahead.
 ///
-/// Its size is the one that it had when it was handed in; a file that turns out shorter is a
-/// fault. It tells no bytes.
+/// Its size is the one that it was handed in with; a file that turns out shorter is a fault. It
+/// tells no bytes.
 #[derive(Drop)]
 pub struct FileReader {
     file: File,
@@ -19,21 +19,19 @@ pub struct FileReader {
 }
 
 impl FileReader {
-    /// A reader over an open file. `Failed` where its size can't be had.
-    pub fn over(file: File) -> Result<FileReader, Failed>
-        ensures reads { IfOk result (λ r. r.reads ≡ 0) }
-        ensures asked { IfOk result (λ r. r.asked ≡ 0) }
-        ensures faults { IfOk result (λ r. r.faults ≡ 0) }
+    /// A reader over an open file of `size` bytes.
+    pub fn over(file: File, size: u64) -> FileReader
+        ensures size { result.size ≡ size }
+        ensures reads { result.reads ≡ 0 }
+        ensures asked { result.asked ≡ 0 }
+        ensures faults { result.faults ≡ 0 }
     {
-        match file.metadata() {
-            Ok(metadata) => Ok(FileReader {
-                size: metadata.len(),
-                file,
-                reads: 0,
-                asked: 0,
-                faults: 0,
-            }),
-            Err(_) => Err(Failed),
+        FileReader {
+            file,
+            size,
+            reads: 0,
+            asked: 0,
+            faults: 0,
         }
     }
 }

@@ -36,9 +36,12 @@ mod memory_sink;
 mod memory_source;
 mod readers;
 mod records;
+mod scripts;
 mod sinks;
 mod sources;
 mod streams;
+#[cfg(test)]
+mod tests;
 
 pub use bytes::Octets;
 pub use clocks::Clock;

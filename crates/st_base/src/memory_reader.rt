@@ -2,6 +2,7 @@ ghost use Rattle.std.specs.Prelude.{◌≡◌, ◌+◌, ◌-◌, ◌^◌, ◌≤
 
 use crate::failures::{Failed, NoMemory};
 use crate::readers::Reader;
+use crate::scripts::{after, is_listed};
 use std::alloc::Global;
 use std::marker::Model;
 
@@ -47,7 +48,10 @@ impl MemReader {
 }
 
 impl Reader for MemReader {
-    ghost use Rattle.std.specs.Prelude.{Some, length};
+    ghost use Rattle.std.specs.Prelude.{Some, length, ◌≡◌};
+    ghost use Rattle.st_base.specs.Places.{ReadsAt};
+    ghost use Rattle.st_base.specs.Faults.{HasCause, CountsOn};
+    ghost use Rattle.st_base.specs.Scripts.{ReadsOrFails};
     ghost use Rattle.std.proofs.Common.{rules};
 
     ghost Beside = { Unit {0} };
@@ -70,12 +74,18 @@ impl Reader for MemReader {
         self.bytes.len() as u64
     }
 
-    fn read_at(&mut self, place: u64, out: &mut [u8]) -> Result<usize, Failed> {
+    fn read_at(&mut self, place: u64, out: &mut [u8]) -> Result<usize, Failed>
+        ensures bytes { ReadsAt (Some self.old.content) (length self.old.content) place result out.new }
+        ensures cause { HasCause self.old.faults self.new.faults result }
+        ensures reads { CountsOn self.old.reads self.new.reads 1 }
+        ensures asked { CountsOn self.old.asked self.new.asked (length out.old) }
+        ensures exact { ReadsOrFails self.old self.new out.old result }
+    {
         let call = self.reads;
-        self.reads = call.saturating_add(1);
+        self.reads = after(call);
         self.asked = self.asked.saturating_add(out.len() as u64);
-        if self.fails.iter().any(|number| u64::from(*number) == call) {
-            self.faults = self.faults.saturating_add(1);
+        if is_listed(self.fails.as_slice(), call) {
+            self.faults = after(self.faults);
             return Err(Failed);
         }
         let rest = rest_from(self.bytes.as_slice(), place);

@@ -1,6 +1,11 @@
 ghost use Rattle.std.specs.Prelude.{◌≡◌, ◌+◌, ◌^◌, ◌≤◌, ◌<◌, List, [], length, IfOk, Some};
+ghost use Rattle.std.specs.Io.{WritesAtMost};
+ghost use Rattle.std.specs.Io.KnownBytes.{WriteAppends};
+ghost use Rattle.st_base.specs.Faults.{HasCause, TakesSome};
+ghost use Rattle.st_base.specs.Scripts.{TakesOrFails};
 
 use crate::failures::{Failed, NoMemory};
+use crate::scripts::{after, is_listed};
 use crate::sinks::Sink;
 use std::alloc::Global;
 use std::marker::Model;
@@ -59,12 +64,18 @@ impl Sink for MemSink {
 
     ghost beside = { λ s. tt };
 
-    fn write(&mut self, bytes: &[u8]) -> Result<usize, Failed> {
+    fn write(&mut self, bytes: &[u8]) -> Result<usize, Failed>
+        ensures bound { WritesAtMost result bytes.now }
+        ensures bytes { WriteAppends (Some self.old.written) (Some self.new.written) result bytes.now }
+        ensures some { TakesSome self.old.faults self.new.faults bytes.now result }
+        ensures cause { HasCause self.old.faults self.new.faults result }
+        ensures exact { TakesOrFails self.old self.new bytes.now result }
+    {
         let call = self.calls;
-        self.calls = call.saturating_add(1);
-        let fails = self.fails.iter().any(|number| u64::from(*number) == call);
+        self.calls = after(call);
+        let fails = is_listed(self.fails.as_slice(), call);
         if fails || self.bytes.extend_from_slice(bytes).is_err() {
-            self.faults = self.faults.saturating_add(1);
+            self.faults = after(self.faults);
             return Err(Failed);
         }
         Ok(bytes.len())

@@ -1,8 +1,11 @@
 ghost use Rattle.std.specs.Prelude.{◌≡◌, ◌-◌, ◌+◌, ◌^◌, ◌≤◌, ◌<◌, min, List, [], length, take, drop, IfOk, OnErr, Contains, Some};
 ghost use Rattle.std.specs.Io.{ReadsAtMost};
 ghost use Rattle.std.specs.Io.KnownBytes.{ReadConsumes};
+ghost use Rattle.st_base.specs.Faults.{HasCause};
+ghost use Rattle.st_base.specs.Scripts.{GivesOrFails};
 
 use crate::failures::{Failed, NoMemory};
+use crate::scripts::{after, is_listed};
 use crate::sources::Source;
 use std::alloc::Global;
 use std::marker::Model;
@@ -69,11 +72,16 @@ impl Source for MemSource {
 
     ghost beside = { λ s. tt };
 
-    fn read(&mut self, out: &mut [u8]) -> Result<usize, Failed> {
+    fn read(&mut self, out: &mut [u8]) -> Result<usize, Failed>
+        ensures bound { ReadsAtMost result out.new }
+        ensures bytes { ReadConsumes (Some self.old.left) (Some self.new.left) result out.new }
+        ensures cause { HasCause self.old.faults self.new.faults result }
+        ensures exact { GivesOrFails self.old self.new out.old result }
+    {
         let call = self.calls;
-        self.calls = call.saturating_add(1);
-        if self.fails.iter().any(|number| u64::from(*number) == call) {
-            self.faults = self.faults.saturating_add(1);
+        self.calls = after(call);
+        if is_listed(self.fails.as_slice(), call) {
+            self.faults = after(self.faults);
             return Err(Failed);
         }
         let rest = self.bytes.as_slice().split_at(self.at).1;

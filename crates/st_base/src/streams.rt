@@ -55,8 +55,8 @@ impl<R: Read> Source for StreamSource<R> {
 
 /// A writer of std as a sink: standard output, standard error, or a file.
 ///
-/// Each failure of the writer is a fault, and so is a write that takes nothing of a piece with
-/// bytes; a write that a signal broke off is made again. It tells what its writer tells, which is
+/// Each failure to write a piece with bytes or to flush is a fault, and so is a write that takes
+/// nothing of such a piece; a write that a signal broke off is made again. It tells what its writer tells, which is
 /// nothing for a file or a stream.
 #[derive(Drop)]
 pub struct StreamSink<W> {
