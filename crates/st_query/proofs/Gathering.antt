@@ -1,5 +1,5 @@
 -- Items that are stored one behind another.
-use Rattle.std.proofs.Common.{◌≡◌, ℕ, ◌+◌, ◌<◌, List, [], ◌∷◌, ◌++◌, length, take, set, sym, ◌∙◌, ap, append_assoc, append-nil}
+use Rattle.std.proofs.Common.{◌≡◌, ℕ, ◌+◌, ◌<◌, List, [], ◌∷◌, ◌++◌, length, take, set, sym, append_assoc, append-nil}
 use Rattle.std.proofs.lemmas.List.{take_more_set}
 
 -- the item that was left first is now the last that is stored

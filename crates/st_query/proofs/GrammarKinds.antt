@@ -1,6 +1,5 @@
 -- Where the pass refuses a token nothing goes on, and the kind is what was wanted.
-use Rattle.std.proofs.Common.{◌≡◌, ℕ, ℤ, pos, Bool, true, false, List, [], ◌∷◌, ◌++◌, length, Option, Some, None, refl, sym, ◌∙◌, ap, subst, append_assoc, append-nil, option_and_then, inl, inr}
-use Rattle.std.specs.Prelude.{⊤}
+use Rattle.std.proofs.Common.{◌≡◌, ℕ, ℤ, pos, List, [], ◌∷◌, ◌++◌, Option, Some, None, refl, sym, ◌∙◌, ap, subst, append_assoc, append-nil, option_and_then, inl, inr}
 use Rattle.st_query.specs.declared.addrs.Addr.{Addr}
 use Rattle.st_query.specs.declared.addrs.Addr.TheVariants.{V4, V6}
 use Rattle.st_query.specs.declared.tokens.Token.TheVariants as token
@@ -8,7 +7,6 @@ use Rattle.st_query.specs.declared.tokens.Token.{Token}
 use Rattle.st_query.specs.declared.tokens.Keyword.TheVariants as key
 use Rattle.st_query.specs.declared.grammar.Want.{Want}
 use Rattle.st_query.specs.declared.grammar.Want.TheVariants as want
-use Rattle.st_query.specs.declared.grammar.Kind.{Kind}
 use Rattle.st_query.specs.declared.grammar.Kind.TheVariants as kind
 use Rattle.st_query.specs.Trees.{Tree}
 use Rattle.st_query.specs.Grammar.{Query, CanGoOn, WantsNumber, WantsAddress, WantsTime, WantsItem, HasKind}
@@ -20,8 +18,8 @@ pub run_append : (ts us : List Token) (fs : List (Option Left)) (s : Spot) → r
 run_append [] us fs s = refl
 run_append (t ∷ ts) us fs s =
     elim (step fs s t) as (λ o. option_and_then (λ (x : State). run x.1 x.0 (ts ++ us)) o ≡ option_and_then (λ (x : State). run x.1 x.0 us) (option_and_then (λ (x : State). run x.1 x.0 ts) o)) [
-        None ↦ refl
-        | Some x ↦ run_append ts us x.1 x.0
+      | None ↦ refl
+      | Some x ↦ run_append ts us x.1 x.0
     ]
 
 -- the tokens so far stand where the pass came to
@@ -49,10 +47,11 @@ abbrev Facts : List Token → List (Option Left) → Spot → Type 0
 Facts ts fs s = (run [] start ts ≡ Some (s, fs)) × Stands fs s ts
 
 none_wanted : (ts : List Token) (fs : List (Option Left)) (s : Spot) → Facts ts fs s → ((n : ℕ) → step fs s (token.Number n) ≡ None) → ((a : Addr) (m : Option ℕ) → step fs s (token.Address a m) ≡ None) → ((t : ℤ) → step fs s (token.Instant t) ≡ None) → (WantsNumber ts → ⊥) × (WantsAddress ts → ⊥) × (WantsTime ts → ⊥)
-none_wanted ts fs s (e, h) number address time =
-    (λ (n, more). stops ts (token.Number n) fs s e (number n) more,
-    λ (a, m, more). stops ts (token.Address a m) fs s e (address a m) more,
-    λ (t, more). stops ts (token.Instant t) fs s e (time t) more)
+none_wanted ts fs s (e, h) number address time = (
+  λ (n, more). stops ts (token.Number n) fs s e (number n) more,
+  λ (a, m, more). stops ts (token.Address a m) fs s e (address a m) more,
+  λ (t, more). stops ts (token.Instant t) fs s e (time t) more,
+)
 
 no_item : (ts : List Token) (fs : List (Option Left)) (s : Spot) (t : Option Token) → Facts ts fs s → step fs s (token.Key key.Icmp) ≡ None → t ≡ Some token.Open → WantsItem ts → ⊥
 no_item ts fs s t (e, h) none k more = stops ts (token.Key key.Icmp) fs s e none more

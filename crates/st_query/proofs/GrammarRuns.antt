@@ -1,18 +1,13 @@
 -- The pass goes through whatever the grammar derives.
-use Rattle.std.proofs.Common.{◌≡◌, ℕ, suc, ℤ, ◌+◌, ◌≤◌, ◌<◌, nat_le, nat_lt, Bool, true, false, cond, List, [], ◌∷◌, ◌++◌, length, Option, Some, None, refl, sym, ◌∙◌, ap, subst, arith, append_assoc, append-nil}
-use Rattle.st_query.specs.declared.addrs.Addr.{Addr}
+use Rattle.std.proofs.Common.{◌≡◌, ℕ, suc, ◌≤◌, ◌<◌, nat_le, nat_lt, true, false, List, [], ◌∷◌, ◌++◌, length, Option, Some, None, refl, ◌∙◌, ap, arith, append_assoc}
 use Rattle.st_query.specs.declared.addrs.Addr.TheVariants.{V4, V6}
 use Rattle.st_query.specs.declared.tokens.Token.TheVariants as token
 use Rattle.st_query.specs.declared.tokens.Token.{Token}
 use Rattle.st_query.specs.declared.nodes.Primitive.{Primitive}
-use Rattle.st_query.specs.declared.nodes.Primitive.TheVariants as prim
 use Rattle.st_query.specs.declared.grammar.Want.TheVariants as want
-use Rattle.st_query.specs.declared.grammar.Taken.{Taken}
-use Rattle.st_query.specs.declared.grammar.Taken.TheVariants as taken
-use Rattle.st_query.specs.Words.{network}
-use Rattle.st_query.specs.Trees.{Tree, both, either, one}
-use Rattle.st_query.specs.Grammar.{SameFamily, Prim, host, net, masked, port, proto, vlan, mpls, icmp, tcp, udp, before_at, before_ago, after_at, after_ago, Item, primitive, paren, Query, item, and, or}
-use Rattle.st_query.specs.Machine.{at_most, read, Left, Spot, Reading, Joined, join, State, start, after, step, run}
+use Rattle.st_query.specs.Trees.{Tree, one}
+use Rattle.st_query.specs.Grammar.{Prim, host, net, masked, port, proto, vlan, mpls, icmp, tcp, udp, before_at, before_ago, after_at, after_ago, Item, primitive, paren, Query, item, and, or}
+use Rattle.st_query.specs.Machine.{Left, Reading, Joined, join, start, run}
 use Rattle.std.proofs.lemmas.Bool.Decides.{nat_tests}
 
 -- a test that holds
@@ -21,7 +16,6 @@ le_true n most h = grind (arith, nat_tests)
 
 pub lt_true : (n most : ℕ) → n < most → nat_lt n most ≡ true
 lt_true n most h = grind (arith, nat_tests)
-
 
 pub prim_runs : {us : List Token} {p : Primitive} → Prim us p → (fs : List (Option Left)) (half : Option Left) (rest : List Token) → run fs (Reading want.Item half) (us ++ rest) ≡ run fs (Joined (join half (one p))) rest
 prim_runs (host e) fs half rest = rw e refl

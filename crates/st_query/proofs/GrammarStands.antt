@@ -1,8 +1,7 @@
 -- What the state of the pass says of the tokens so far: they can always go on to a query.
-use Rattle.std.proofs.Common.{◌≡◌, ℕ, suc, ℤ, ◌+◌, ◌≤◌, ◌<◌, nat_le, nat_lt, Bool, true, false, if◌then◌else◌, List, [], ◌∷◌, ◌++◌, length, Option, Some, None, refl, sym, ◌∙◌, ap, subst, arith, append_assoc, append-nil, option_and_then}
+use Rattle.std.proofs.Common.{◌≡◌, ℕ, suc, ◌≤◌, ◌<◌, nat_le, nat_lt, Bool, true, false, if◌then◌else◌, List, [], ◌∷◌, ◌++◌, length, Option, Some, None, refl, sym, subst, arith, append_assoc, append-nil, option_and_then}
 use Rattle.std.specs.Prelude.{⊤}
 use Rattle.std.proofs.lemmas.Bool.Decides.{nat_tests}
-use Rattle.st_query.specs.declared.addrs.Addr.{Addr}
 use Rattle.st_query.specs.declared.addrs.Addr.TheVariants.{V4, V6}
 use Rattle.st_query.specs.declared.tokens.Token.TheVariants as token
 use Rattle.st_query.specs.declared.tokens.Token.{Token}
@@ -15,7 +14,7 @@ use Rattle.st_query.specs.declared.grammar.Taken.{Taken}
 use Rattle.st_query.specs.declared.grammar.Taken.TheVariants as taken
 use Rattle.st_query.specs.Words.{network}
 use Rattle.st_query.specs.Trees.{Tree, both, either, one}
-use Rattle.st_query.specs.Grammar.{SameFamily, Prim, host, net, masked, port, proto, vlan, mpls, icmp, tcp, udp, before_at, before_ago, after_at, after_ago, Item, primitive, paren, Query, item, and, or, CanGoOn}
+use Rattle.st_query.specs.Grammar.{Prim, host, net, masked, port, proto, vlan, mpls, icmp, tcp, udp, before_at, before_ago, after_at, after_ago, Item, primitive, paren, Query, item, and, or, CanGoOn}
 use Rattle.st_query.specs.Machine.{at_most, read, Left, Spot, Reading, Joined, join, State, start, after, step, run}
 
 -- the tokens of a primitive that were taken where this is wanted
@@ -44,8 +43,8 @@ Took taken.Refused vs = ⊤
 took_most : (most n : ℕ) (p : Primitive) (vs : List Token) → (n ≤ most → Prim vs p) → Took (at_most most n p) vs
 took_most most n p vs h =
     elim (nat_le n most) as (λ b. nat_le n most ≡ b → Took (if b then taken.Done p else taken.Refused) vs) [
-        true ↦ λ e. h (grind (arith, nat_tests))
-        | false ↦ λ e. tt
+      | true ↦ λ e. h (grind (arith, nat_tests))
+      | false ↦ λ e. tt
     ] refl
 
 pub took : (w : Want) (t : Token) (us : List Token) → IsSoFar w us → Took (read w t) (us ++ t ∷ [])
@@ -133,8 +132,8 @@ level_item : (d : ℕ) (half : Option Left) (us vs : List Token) (q : Tree) → 
 level_item d None us vs q h i = rw h (item i)
 level_item d (Some half) us vs q (ws, query, e) i =
     elim (half.and) as (λ b. (us ≡ ws ++ joiner b ∷ []) → Query d (us ++ vs) (if b then both half.left q else either half.left q)) [
-        true ↦ λ k. and query i (rw k (append_assoc ws (token.And ∷ []) vs))
-        | false ↦ λ k. or query i (rw k (append_assoc ws (token.Or ∷ []) vs))
+      | true ↦ λ k. and query i (rw k (append_assoc ws (token.And ∷ []) vs))
+      | false ↦ λ k. or query i (rw k (append_assoc ws (token.Or ∷ []) vs))
     ] e
 
 -- behind an item a query ends
@@ -160,9 +159,9 @@ Kept (Some x) ts = Stands x.1 x.0 ts
 kept_deeper : (fs : List (Option Left)) (half : Option Left) (ts : List Token) → AtItem fs half ts → Kept (after fs half taken.Deeper) (ts ++ token.Open ∷ [])
 kept_deeper fs half ts at =
     elim (nat_lt (length fs) 64) as (λ b. nat_lt (length fs) 64 ≡ b → Kept (if b then Some (start, half ∷ fs) else None) (ts ++ token.Open ∷ [])) [
-        true ↦ λ e. let room : length fs < 64 = grind (arith, nat_tests) in
-            (ts ++ token.Open ∷ [], [], (ts, [], at, room, refl, refl), refl, sym (append-nil (ts ++ token.Open ∷ [])))
-        | false ↦ λ e. tt
+      | true ↦ λ e. let room : length fs < 64 = grind (arith, nat_tests) in
+          (ts ++ token.Open ∷ [], [], (ts, [], at, room, refl, refl), refl, sym (append-nil (ts ++ token.Open ∷ [])))
+      | false ↦ λ e. tt
     ] refl
 
 kept_after : (fs : List (Option Left)) (half : Option Left) (outer vs : List Token) (k : Taken) → AtItem fs half outer → Took k vs → Kept (after fs half k) (outer ++ vs)
@@ -202,6 +201,6 @@ pub run_kept : (ts : List Token) (fs : List (Option Left)) (s : Spot) (before : 
 run_kept [] fs s before h = rw (append-nil before) h
 run_kept (t ∷ ts) fs s before h =
     elim (step fs s t) as (λ o. Kept o (before ++ t ∷ []) → Kept (option_and_then (λ (x : State). run x.1 x.0 ts) o) (before ++ (t ∷ ts))) [
-        None ↦ λ k. tt
-        | Some x ↦ λ k. subst (λ (ws : List Token). Kept (run x.1 x.0 ts) ws) (append_assoc before (t ∷ []) ts) (run_kept ts x.1 x.0 (before ++ t ∷ []) k)
+      | None ↦ λ k. tt
+      | Some x ↦ λ k. subst (λ (ws : List Token). Kept (run x.1 x.0 ts) ws) (append_assoc before (t ∷ []) ts) (run_kept ts x.1 x.0 (before ++ t ∷ []) k)
     ] (keeps fs s before t h)

@@ -1,5 +1,5 @@
 -- What the keys of a frame say of a primitive.
-use Rattle.std.proofs.Common.{◌≡◌, ℕ, ◌+◌, ◌<◌, ◌↔◌, Bool, true, false, IsTrue, List, length, Contains, refl, sym, inl, inr, get_or, MatchBool, arith, subst, Option, Some, None, MatchOption, unwrap_or, is_some, take, ◌≤◌, ◌∙◌}
+use Rattle.std.proofs.Common.{◌≡◌, ℕ, ◌<◌, ◌↔◌, Bool, true, false, IsTrue, List, length, Contains, refl, sym, inl, inr, get_or, MatchBool, arith, subst, Option, Some, None, MatchOption, unwrap_or, is_some, take, ◌≤◌, ◌∙◌}
 use Rattle.std.specs.Prelude.{⊤}
 use Rattle.std.proofs.lemmas.List.{get_or_default}
 use Rattle.std.specs.List.{HoldsAt, AllWithin}
@@ -10,7 +10,7 @@ use Rattle.st_walk.specs.declared.text.Key.TheVariants as key
 use Rattle.st_query.specs.declared.addrs.Addr.{Addr}
 use Rattle.st_query.specs.declared.addrs.Addr.TheVariants.{V4, V6}
 use Rattle.st_query.specs.Words.{network}
-use Rattle.st_query.specs.Meaning.{addr_key, IsInNet}
+use Rattle.st_query.specs.Meaning.{IsInNet}
 use Rattle.st_query.specs.Matching.{KeysAre, KeyIsIn, FrameIsIn}
 
 -- a key that is no second is the frame's
@@ -35,9 +35,10 @@ pub in_net : (a : Addr) (n : ℕ) (r : Rec) → FrameIsIn r.body (network a n) n
 in_net a n r = (to a n r, back a n r)
 
 pub in_net_by : (a : Addr) (n : ℕ) (p : Rec) (r : Bool) (ks : List Key) → KeysAre p.body ks → IsTrue r ↔ ((k : Key) × KeyIsIn (network a n) n k × Contains ks k) → IsTrue r ↔ IsInNet a n p
-in_net_by a n p r ks are e =
-    (λ h. let (k, i, c) = e.0 h in (in_net a n p).0 (k, i, (are k).0 c),
-    λ h. let (k, i, f) = (in_net a n p).1 h in e.1 (k, i, (are k).1 f))
+in_net_by a n p r ks are e = (
+  λ h. let (k, i, c) = e.0 h in (in_net a n p).0 (k, i, (are k).0 c),
+  λ h. let (k, i, f) = (in_net a n p).1 h in e.1 (k, i, (are k).1 f),
+)
 
 pub in_net_walked : (a : Addr) (n : ℕ) (p : Rec) (body : List ℕ) (r : Bool) → body ≡ p.body → IsTrue r ↔ FrameIsIn body (network a n) n → IsTrue r ↔ IsInNet a n p
 in_net_walked a n p body r same e =
@@ -50,9 +51,10 @@ found_by frame net n true ks are (i, inside, h) =
     let k = get_or ks i (key.Proto 0) in
     let there : Contains ks k = (i, inside, get_or_default ks i k (key.Proto 0) inside) in
     (λ e. (k, h (key.Proto 0), (are k).0 there), λ f. refl)
-found_by frame net n false ks are h =
-    (λ e. let never : false ≡ true = e in cc,
-    λ (k, i, f). let (j, inside, e) = (are k).1 f in absurd (h j k (omega arith) inside (subst (λ (x : Key). KeyIsIn net n x) (sym e) i)))
+found_by frame net n false ks are h = (
+  λ e. let never : false ≡ true = e in cc,
+  λ (k, i, f). let (j, inside, e) = (are k).1 f in absurd (h j k (omega arith) inside (subst (λ (x : Key). KeyIsIn net n x) (sym e) i)),
+)
 
 -- what was gathered are the frame's keys
 pub told_by : (o : Option ℕ) (frame body : List ℕ) (room : List Key) (n : ℕ) (whole : Bool) → MatchOption o ⊤ (λ m. (m ≤ length room) × KeysAre frame (take m room)) → n ≡ unwrap_or o 0 → whole ≡ is_some o → frame ≡ body → IsTrue whole → KeysAre body (take n room)

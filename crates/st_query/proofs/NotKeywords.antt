@@ -1,12 +1,12 @@
 -- No value's word is a keyword: each has a byte below the lower-case letters.
-use Rattle.std.proofs.Common.{◌≡◌, ℕ, ◌+◌, ◌<◌, ◌≤◌, Bool, true, false, if◌then◌else◌, List, [], ◌∷◌, ◌++◌, length, Option, Some, None, MatchOption, refl, sym, subst, arith, codes, All, Contains, inl, inr, lit≤, lit<, ap, get_or, ℤ}
+use Rattle.std.proofs.Common.{◌≡◌, ℕ, ◌<◌, ◌≤◌, Bool, true, false, if◌then◌else◌, List, [], ◌∷◌, length, Option, Some, None, MatchOption, refl, sym, subst, arith, codes, All, Contains, lit≤, lit<, ℤ}
 use Rattle.std.specs.Prelude.{⊤}
 use Rattle.std.specs.Str.{bytes_eq}
 use Rattle.std.specs.Char.{digit_value}
 use Rattle.std.proofs.lemmas.Bool.Decides.{nat_tests}
 use Rattle.std.specs.Str.Parse.{AllDigits}
 use Rattle.std.proofs.lemmas.Slice.Eq.{bytes_eq-Decides}
-use Rattle.std.proofs.lemmas.List.Elements.{All-from_recursion, All-contains, All-nil, All-same, Contains-append_left}
+use Rattle.std.proofs.lemmas.List.Elements.{All-from_recursion, All-contains, All-same, Contains-append_left}
 use Rattle.st_query.specs.declared.addrs.Addr.{Addr}
 use Rattle.st_query.specs.declared.addrs.Addr.TheVariants.{V4, V6}
 use Rattle.st_query.specs.declared.tokens.Token.TheVariants as token
@@ -28,8 +28,8 @@ high_or : (w word : List ℕ) (t : Token) (o : Option Token) → All High word �
 unfolding AreHigh
 high_or w word t o high h =
     elim (bytes_eq w word) as (λ b. bytes_eq w word ≡ b → MatchOption (if b then Some t else o) ⊤ (λ k. All High w)) [
-        true ↦ λ e. All-same High w word ((bytes_eq-Decides w word).0 e) high
-        | false ↦ λ e. h
+      | true ↦ λ e. All-same High w word ((bytes_eq-Decides w word).0 e) high
+      | false ↦ λ e. h
     ] refl
 
 end : (w : List ℕ) → AreHigh w None

@@ -1,6 +1,5 @@
 -- The printed form's tokens make the query again.
-use Rattle.std.proofs.Common.{◌≡◌, ℕ, suc, ℤ, ◌+◌, ◌-◌, ◌≤◌, ◌<◌, ◌^◌, Bool, true, false, if◌then◌else◌, nat_le, nat_lt, nat_eq, Contains, List, [], ◌∷◌, ◌++◌, ◌⊎◌, zero, length, Option, Some, None, refl, sym, ◌∙◌, ap, subst, arith, inl, inr, codes, decimal, IsTrue, All, append_assoc, append-nil, length-append, lit<}
-use Rattle.std.specs.Char.{digit_value}
+use Rattle.std.proofs.Common.{◌≡◌, ℕ, suc, ℤ, ◌+◌, ◌-◌, ◌≤◌, ◌<◌, ◌^◌, Bool, true, false, if◌then◌else◌, nat_le, nat_lt, nat_eq, Contains, List, [], ◌∷◌, ◌++◌, ◌⊎◌, zero, length, Option, Some, None, refl, ap, subst, arith, inl, inr, codes, decimal, IsTrue, All, append_assoc, append-nil, length-append, lit<}
 use Rattle.std.proofs.lemmas.Bool.Decides.{nat_tests}
 use Rattle.std.proofs.lemmas.List.Elements.{All-from_recursion, All-nil, All-cons}
 use Rattle.st_query.specs.declared.addrs.Addr.{Addr}
@@ -8,20 +7,19 @@ use Rattle.st_query.specs.declared.addrs.Addr.TheVariants.{V4, V6}
 use Rattle.st_query.specs.declared.tokens.Token.TheVariants as token
 use Rattle.st_query.specs.declared.tokens.Token.{Token}
 use Rattle.st_query.specs.declared.tokens.Keyword.TheVariants as key
-use Rattle.st_query.specs.declared.nodes.When.{When}
 use Rattle.st_query.specs.declared.nodes.When.TheVariants as when
 use Rattle.st_query.specs.declared.nodes.Primitive.{Primitive}
 use Rattle.st_query.specs.declared.nodes.Primitive.TheVariants as prim
-use Rattle.st_query.specs.Words.{IsNumber, IsAddress, IsNet, IsOnes, IsMask, FitsAddr, width, network}
-use Rattle.st_query.specs.Times.{IsInYears, IsInstant, IsSpan}
+use Rattle.st_query.specs.Words.{IsAddress, IsOnes, FitsAddr, width}
+use Rattle.st_query.specs.Times.{IsInYears, IsSpan}
 use Rattle.st_query.specs.WordText.{address_text, instant_text}
-use Rattle.st_query.specs.Tokens.{is_space, is_word_byte, EndsRun, HasMask, IsBlank, IsWord, IsValue, keyword}
+use Rattle.st_query.specs.Tokens.{is_space, is_word_byte, EndsRun, HasMask, IsWord}
 use Rattle.st_query.specs.Spelling.{Starts, IsSpelled}
-use Rattle.st_query.specs.Trees.{Tree, both, either, one, FitsWhen, FitsPrimitive, InRange, is_joined, inside, depth, IsSound}
+use Rattle.st_query.specs.Trees.{Tree, both, either, one, FitsPrimitive, InRange, is_joined, inside, depth, IsSound}
 use Rattle.st_query.specs.Printing.{when_text, primitive_text, wrapped, printed}
-use Rattle.st_query.specs.Grammar.{Prim, host, net, masked, port, proto, vlan, mpls, icmp, tcp, udp, before_at, before_ago, after_at, after_ago, Item, primitive, paren, Query, item, and, or}
+use Rattle.st_query.specs.Grammar.{Prim, host, net, port, proto, vlan, mpls, before_at, before_ago, after_at, after_ago, Item, primitive, paren, Query, item, and, or}
 use Rattle.st_query.proofs.WordLaws.{dotted_has, colons_have, net_has}
-use Rattle.st_query.proofs.WordBytes.{OfDigits, decimal_all, number_all, span_all}
+use Rattle.st_query.proofs.WordBytes.{OfDigits, decimal_all, span_all}
 use Rattle.st_query.proofs.WordTextLaws.{number_spells, span_spells, address_spells, net_spells, instant_spells, address_text_all, net_text_all, instant_text_all}
 use Rattle.st_query.proofs.NotKeywords.{number_is_none, address_is_none, net_is_none, instant_is_none, span_is_none, value_word}
 
@@ -67,9 +65,15 @@ apart_space a behind ends = refl
 
 firm_open : (a : List ℕ) (ts : List Token) → Firm a ts → Firm (codes "(" ++ (a ++ codes ")")) (token.Open ∷ (ts ++ token.Close ∷ []))
 unfolding Firm Apart
-firm_open a ts f behind ends =
-    ([], codes "(", (a ++ codes ")") ++ behind, refl, All-nil (λ b. IsTrue (is_space b)), inl (refl, refl),
-    firm_append a (codes ")") ts (token.Close ∷ []) f (λ b e. ([], codes ")", b, refl, All-nil (λ c. IsTrue (is_space c)), inr (inl (refl, refl)), refl)) (λ b e. refl) behind ends)
+firm_open a ts f behind ends = (
+  [],
+  codes "(",
+  (a ++ codes ")") ++ behind,
+  refl,
+  All-nil (λ b. IsTrue (is_space b)),
+  inl (refl, refl),
+  firm_append a (codes ")") ts (token.Close ∷ []) f (λ b e. ([], codes ")", b, refl, All-nil (λ c. IsTrue (is_space c)), inr (inl (refl, refl)), refl)) (λ b e. refl) behind ends,
+)
 
 -- the words of the grammar
 
@@ -118,26 +122,26 @@ word_number : (n : ℕ) → n < 2 ^ 32 → TextWord (decimal n) (token.Number n)
 word_number n h =
     let spells = number_spells n (omega arith) in
     record {
-        some = spells.0.0;
-        bytes = decimal_all (λ b. IsTrue (is_word_byte b)) word_digit n (omega arith);
-        word = value_word (decimal n) (token.Number n) (number_is_none 10 (decimal n) n spells) spells;
+      some = spells.0.0;
+      bytes = decimal_all (λ b. IsTrue (is_word_byte b)) word_digit n (omega arith);
+      word = value_word (decimal n) (token.Number n) (number_is_none 10 (decimal n) n spells) spells;
     }
 
 decide : (w bits k : ℕ) → IsOnes w k bits ⊎ (IsOnes w k bits → ⊥)
 decide w bits k =
     elim (nat_le k w) as (λ b. nat_le k w ≡ b → IsOnes w k bits ⊎ (IsOnes w k bits → ⊥)) [
-        true ↦ λ e. elim (nat_eq (bits + 2 ^ (w - k)) (2 ^ w)) as (λ b. nat_eq (bits + 2 ^ (w - k)) (2 ^ w) ≡ b → IsOnes w k bits ⊎ (IsOnes w k bits → ⊥)) [
-            true ↦ λ f. inl (grind (arith, nat_tests), grind (arith, nat_tests))
-            | false ↦ λ f. inr (λ h. let same = h.1 in absurd (grind (arith, nat_tests)))
-        ] refl
-        | false ↦ λ e. inr (λ h. let most = h.0 in absurd (grind (arith, nat_tests)))
+      | true ↦ λ e. elim (nat_eq (bits + 2 ^ (w - k)) (2 ^ w)) as (λ b. nat_eq (bits + 2 ^ (w - k)) (2 ^ w) ≡ b → IsOnes w k bits ⊎ (IsOnes w k bits → ⊥)) [
+        | true ↦ λ f. inl (grind (arith, nat_tests), grind (arith, nat_tests))
+        | false ↦ λ f. inr (λ h. let same = h.1 in absurd (grind (arith, nat_tests)))
+      ] refl
+      | false ↦ λ e. inr (λ h. let most = h.0 in absurd (grind (arith, nat_tests)))
     ] refl
 
 le_cases : (k n : ℕ) → k ≤ n → (n ≡ k) ⊎ (suc k ≤ n)
 le_cases k n h =
     elim (nat_lt k n) as (λ b. nat_lt k n ≡ b → (n ≡ k) ⊎ (suc k ≤ n)) [
-        true ↦ λ e. let more : k < n = grind (arith, nat_tests) in inr (omega arith)
-        | false ↦ λ e. let less : n ≤ k = grind (arith, nat_tests) in inl (omega arith)
+      | true ↦ λ e. let more : k < n = grind (arith, nat_tests) in inr (omega arith)
+      | false ↦ λ e. let less : n ≤ k = grind (arith, nat_tests) in inl (omega arith)
     ] refl
 
 other_mask : (w bits k n : ℕ) → (IsOnes w k bits → ⊥) → ((m : ℕ) → suc k ≤ m → IsOnes w m bits → ⊥) → k ≤ n → IsOnes w n bits → ⊥
@@ -152,8 +156,8 @@ search_mask : (w bits k : ℕ) → ((n : ℕ) → k ≤ n → IsOnes w n bits �
 search_mask w bits zero none = inl (λ n h. none n (omega arith) h)
 search_mask w bits (suc k) none =
     elim (decide w bits k) [
-        inl h ↦ inr (k, h)
-        | inr no_mask ↦ search_mask w bits k (λ n most h. other_mask w bits k n no_mask none most h)
+      | inl h ↦ inr (k, h)
+      | inr no_mask ↦ search_mask w bits k (λ n most h. other_mask w bits k n no_mask none most h)
     ]
 
 some_mask : (a : Addr) → (m : Option ℕ) × HasMask a m
@@ -174,9 +178,9 @@ word_address : (a : Addr) (m : Option ℕ) → FitsAddr a → HasMask a m → Te
 word_address a m h mask =
     let spells = address_spells a h in
     record {
-        some = address_some (address_text a) a spells;
-        bytes = address_text_all (λ b. IsTrue (is_word_byte b)) word_digit refl refl a h;
-        word = value_word (address_text a) (token.Address a m) (address_is_none (address_text a) a spells) (spells, mask);
+      some = address_some (address_text a) a spells;
+      bytes = address_text_all (λ b. IsTrue (is_word_byte b)) word_digit refl refl a h;
+      word = value_word (address_text a) (token.Address a m) (address_is_none (address_text a) a spells) (spells, mask);
     }
 
 value_net : (a : Addr) (n : ℕ) → FitsAddr a → n ≤ width a → TextWord (address_text a ++ codes "/" ++ decimal n) (token.Net a n)
@@ -184,25 +188,25 @@ value_net a n h most =
     let text = address_text a ++ codes "/" ++ decimal n in
     let spells = net_spells a n h most in
     record {
-        some = has_some text 47 (net_has text a n spells);
-        bytes = net_text_all (λ b. IsTrue (is_word_byte b)) word_digit refl refl refl a n h most;
-        word = value_word text (token.Net a n) (net_is_none text a n spells) spells;
+      some = has_some text 47 (net_has text a n spells);
+      bytes = net_text_all (λ b. IsTrue (is_word_byte b)) word_digit refl refl refl a n h most;
+      word = value_word text (token.Net a n) (net_is_none text a n spells) spells;
     }
 
 word_instant : (t : ℤ) → IsInYears t → TextWord (instant_text t) (token.Instant t)
 word_instant t years =
     let spells = instant_spells t years in
     record {
-        some = lit< tt;
-        bytes = instant_text_all (λ b. IsTrue (is_word_byte b)) word_digit refl refl refl refl refl t years;
-        word = value_word (instant_text t) (token.Instant t) (instant_is_none (instant_text t) t spells) spells;
+      some = lit< tt;
+      bytes = instant_text_all (λ b. IsTrue (is_word_byte b)) word_digit refl refl refl refl refl t years;
+      word = value_word (instant_text t) (token.Instant t) (instant_is_none (instant_text t) t spells) spells;
     }
 
 span_word : (n : ℕ) (hours : Bool) (text : List ℕ) → IsSpan text n hours → TextWord text (token.Span n hours)
 span_word n hours text spells = record {
-    some = span_some text n hours spells;
-    bytes = span_all (λ b. IsTrue (is_word_byte b)) word_digit refl refl text n hours spells;
-    word = value_word text (token.Span n hours) (span_is_none text n hours spells) spells;
+  some = span_some text n hours spells;
+  bytes = span_all (λ b. IsTrue (is_word_byte b)) word_digit refl refl text n hours spells;
+  word = value_word text (token.Span n hours) (span_is_none text n hours spells) spells;
 }
 
 word_span : (n : ℕ) (hours : Bool) → n < 2 ^ 32 → TextWord (decimal n ++ (if hours then codes "h" else codes "m")) (token.Span n hours)
@@ -233,9 +237,12 @@ make_prim : (p : Primitive) → FitsPrimitive p → Made p
 make_prim (prim.Host a) h =
     let m = some_mask a in
     (token.Key key.Host, token.Address a m.0 ∷ [], two_words (codes "host") (address_text a) (token.Key key.Host) (token.Address a m.0) word_host (word_address a m.0 h m.1), host {a = a} {m = m.0} refl)
-make_prim (prim.Net a n) h =
-    (token.Key key.Net, token.Net a n ∷ [], two_words (codes "net") (address_text a ++ codes "/" ++ decimal n) (token.Key key.Net) (token.Net a n) word_net (value_net a n h.0 h.1),
-    subst (λ (b : Addr). Prim (token.Key key.Net ∷ token.Net a n ∷ []) (prim.Net b n)) h.2 (net {a = a} {n = n} refl))
+make_prim (prim.Net a n) h = (
+  token.Key key.Net,
+  token.Net a n ∷ [],
+  two_words (codes "net") (address_text a ++ codes "/" ++ decimal n) (token.Key key.Net) (token.Net a n) word_net (value_net a n h.0 h.1),
+  subst (λ (b : Addr). Prim (token.Key key.Net ∷ token.Net a n ∷ []) (prim.Net b n)) h.2 (net {a = a} {n = n} refl),
+)
 make_prim (prim.Port n) h =
     (token.Key key.Port, token.Number n ∷ [], two_words (codes "port") (decimal n) (token.Key key.Port) (token.Number n) word_port (word_number n (omega arith)), port h refl)
 make_prim (prim.Proto n) h =
@@ -282,14 +289,20 @@ makes : (q : Tree) (d : ℕ) → InRange q → depth q + d ≤ 64 → IsMade d q
 makes (one p) d range h = let (t, ts, firm, made) = make_prim p range in (t, ts, firm, item (primitive made))
 makes (both a b) d (left, right) h =
     let (t, ts, firm, query) = makes a d left (omega arith) in
-    let (u, us, side, made) = make_side d b right (omega arith) (λ e k. makes b e right k) in
-    (t, ts ++ token.And ∷ (u ∷ us), joined_firm (printed a) (wrapped (is_joined b) (printed b)) (codes "and") token.And t u ts us firm word_and side,
-    and query made refl)
+    let (u, us, side, made) = make_side d b right (omega arith) (λ e k. makes b e right k) in (
+      t,
+      ts ++ token.And ∷ (u ∷ us),
+      joined_firm (printed a) (wrapped (is_joined b) (printed b)) (codes "and") token.And t u ts us firm word_and side,
+      and query made refl,
+    )
 makes (either a b) d (left, right) h =
     let (t, ts, firm, query) = makes a d left (omega arith) in
-    let (u, us, side, made) = make_side d b right (omega arith) (λ e k. makes b e right k) in
-    (t, ts ++ token.Or ∷ (u ∷ us), joined_firm (printed a) (wrapped (is_joined b) (printed b)) (codes "or") token.Or t u ts us firm word_or side,
-    or query made refl)
+    let (u, us, side, made) = make_side d b right (omega arith) (λ e k. makes b e right k) in (
+      t,
+      ts ++ token.Or ∷ (u ∷ us),
+      joined_firm (printed a) (wrapped (is_joined b) (printed b)) (codes "or") token.Or t u ts us firm word_or side,
+      or query made refl,
+    )
 
 -- the printed form of a sound query spells it
 pub printed_spells : (q : Tree) → IsSound q → IsSpelled (printed q) q

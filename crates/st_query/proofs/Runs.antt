@@ -1,5 +1,5 @@
 -- The longest front of a list that passes a test.
-use Rattle.std.proofs.Common.{append-nil, ◌∙◌, ◌≡◌, ℕ, suc, ◌+◌, ◌<◌, Bool, true, false, cond, List, [], ◌∷◌, ◌++◌, length, take, drop, get_or, refl, arith, All, IsTrue, sym, ap, subst}
+use Rattle.std.proofs.Common.{append-nil, ◌∙◌, ◌≡◌, ℕ, suc, ◌+◌, Bool, true, false, cond, List, [], ◌∷◌, ◌++◌, take, drop, refl, arith, All, IsTrue, sym}
 use Rattle.std.specs.List.{prefix_len}
 use Rattle.std.proofs.lemmas.Grind.{common_steps}
 use Rattle.std.proofs.lemmas.List.{take-append-drop}
@@ -16,8 +16,8 @@ pub run_ends : (p : ℕ → Bool) (xs : List ℕ) → EndsRun p (drop (prefix_le
 run_ends p [] = tt
 run_ends p (x ∷ xs) =
     elim (p x) as (λ b. p x ≡ b → EndsRun p (drop (cond b (1 + prefix_len p xs) 0) (x ∷ xs))) [
-        true ↦ λ _. let step : 1 + prefix_len p xs ≡ suc (prefix_len p xs) = omega arith in rw step (run_ends p xs)
-        | false ↦ λ e. e
+      | true ↦ λ _. let step : 1 + prefix_len p xs ≡ suc (prefix_len p xs) = omega arith in rw step (run_ends p xs)
+      | false ↦ λ e. e
     ] refl
 
 -- where nothing is behind the front, all bytes pass

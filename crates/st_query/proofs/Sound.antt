@@ -1,5 +1,5 @@
 -- What a text spells is in range, and its printed form doesn't go too deep.
-use Rattle.std.proofs.Common.{◌≡◌, ℕ, ℤ, suc, max, ◌+◌, ◌≤◌, ◌<◌, ◌^◌, Bool, true, false, if◌then◌else◌, List, [], ◌∷◌, ◌++◌, length, Option, Some, None, refl, sym, ◌∙◌, ap, subst, arith, inl, inr, codes, MatchOption}
+use Rattle.std.proofs.Common.{◌≡◌, ℕ, suc, ◌+◌, ◌≤◌, ◌<◌, ◌^◌, Bool, true, false, if◌then◌else◌, List, [], ◌∷◌, ◌++◌, Option, Some, None, arith, inl, inr, codes, MatchOption}
 use Rattle.std.specs.Prelude.{⊤}
 use Rattle.std.specs.Str.{bytes_eq}
 use Rattle.st_query.specs.declared.addrs.Addr.{Addr}
@@ -12,7 +12,7 @@ use Rattle.st_query.specs.Words.{network, width, FitsAddr}
 use Rattle.st_query.specs.Times.{IsInYears}
 use Rattle.st_query.specs.Tokens.{keyword, IsValue, IsWord, IsPiece}
 use Rattle.st_query.specs.Spelling.{Starts, IsSpelled}
-use Rattle.st_query.specs.Trees.{Tree, both, either, one, FitsPrimitive, InRange, is_joined, inside, depth, IsSound}
+use Rattle.st_query.specs.Trees.{Tree, FitsPrimitive, InRange, is_joined, inside, depth, IsSound}
 use Rattle.st_query.specs.Grammar.{Prim, host, net, masked, port, proto, vlan, mpls, icmp, tcp, udp, before_at, before_ago, after_at, after_ago, Item, primitive, paren, Query, item, and, or}
 use Rattle.st_query.proofs.WordLaws.{address_fits, network_fits, network_twice, width_network, instant_in_years}
 
@@ -76,8 +76,8 @@ value_fits w _ h = tt
 word_fits : (w : List ℕ) (t : Token) → IsWord w t → FitsToken t
 word_fits w t h =
     elim (keyword w) as (λ o. KeyFits o → MatchOption o (IsValue w t) (λ k. t ≡ k) → FitsToken t) [
-        None ↦ λ a b. value_fits w t b
-        | Some k ↦ λ a b. rw b a
+      | None ↦ λ a b. value_fits w t b
+      | Some k ↦ λ a b. rw b a
     ] (keyword_fits w) h
 
 piece_fits : (t : Token) (piece more : List ℕ) → IsPiece t piece more → FitsToken t
@@ -163,6 +163,6 @@ mutual
 
 pub sound : (text : List ℕ) (q : Tree) → IsSpelled text q → IsSound q
 sound text q (ts, rest, starts, blank, query) = record {
-    in_range = query_fits query (starts_fit text ts rest starts);
-    shallow = omega (arith, query_depth {d = 0} {q = q} (omega arith) query);
+  in_range = query_fits query (starts_fit text ts rest starts);
+  shallow = omega (arith, query_depth {d = 0} {q = q} (omega arith) query);
 }

@@ -1,5 +1,5 @@
 -- The pass over a text, from one token to the next.
-use Rattle.std.proofs.Common.{◌≡◌, ℕ, ◌+◌, ◌-◌, ◌≤◌, ◌<◌, Bool, true, false, List, [], ◌∷◌, ◌++◌, length, take, drop, Option, Some, None, refl, sym, ◌∙◌, ap, subst, arith, append_assoc, append-nil, option_and_then, inl, inr, ◌⊎◌, IsTrue, codes, length-append, length-drop, map}
+use Rattle.std.proofs.Common.{◌≡◌, ℕ, ◌+◌, ◌-◌, ◌≤◌, ◌<◌, List, [], ◌∷◌, ◌++◌, length, drop, Option, Some, None, refl, sym, ◌∙◌, ap, subst, arith, option_and_then, inl, inr, length-append, length-drop, map}
 use Rattle.std.proofs.lemmas.List.{drop-drop, length-reverse, length-map}
 use Rattle.std.proofs.Math.Seq.{drop-append-add, drop-append_seam}
 use Rattle.st_query.specs.declared.tokens.Token.{Token}
@@ -16,11 +16,10 @@ use Rattle.std.specs.Option.{option_map}
 use Rattle.st_query.specs.Tokens.{IsBlank, IsPiece}
 use Rattle.st_query.specs.Lexing.{Next}
 use Rattle.st_query.specs.Trees.{Tree, tree}
-use Rattle.st_query.specs.Grammar.{Query, CanGoOn, HasKind}
-use Rattle.st_query.specs.Machine.{Left, Spot, Reading, Joined, State, start, step, run, refusal, left_of, spot, frames}
-use Rattle.st_query.specs.Spelling.{Starts, IsSpelled, StopsAt, EndsAt, IsRefused, Refuses}
+use Rattle.st_query.specs.Machine.{Left, Spot, Joined, State, start, step, run, refusal, left_of, spot, frames}
+use Rattle.st_query.specs.Spelling.{Starts, IsSpelled, IsRefused, Refuses}
 use Rattle.st_query.specs.Parsing.{Stood, error_at}
-use Rattle.st_query.proofs.GrammarStands.{Stands, can_go_on}
+use Rattle.st_query.proofs.GrammarStands.{can_go_on}
 use Rattle.st_query.proofs.GrammarKinds.{run_append, stands, stops, kinds, whole_query, no_query, IsWhole}
 
 -- one more token
@@ -50,11 +49,11 @@ behind text at f gap piece more inside split from to some =
     let counted : length text - at ≡ length gap + (length piece + length more) = sym (length-drop at text) ∙ ap length split ∙ length-append gap (piece ++ more) ∙ ap (λ n. length gap + n) (length-append piece more) in
     let two : f.end ≡ at + (length gap + length piece) = omega arith in
     record {
-        on = omega arith;
-        within = omega arith;
-        rest = ap (λ (n : ℕ). drop n text) two ∙ sym (drop-drop (length gap + length piece) at text)
-            ∙ ap (drop (length gap + length piece)) split ∙ drop-append-add gap (piece ++ more) (length piece) ∙ drop-append_seam piece more;
-        left = omega arith;
+      on = omega arith;
+      within = omega arith;
+      rest = ap (λ (n : ℕ). drop n text) two ∙ sym (drop-drop (length gap + length piece) at text)
+          ∙ ap (drop (length gap + length piece)) split ∙ drop-append-add gap (piece ++ more) (length piece) ∙ drop-append_seam piece more;
+      left = omega arith;
     }
 
 -- what the next token says of its place
@@ -64,40 +63,59 @@ next_behind text at f inside (gap, piece, more, split, blank, from, to, is_piece
 
 pub stood_on : (text : List ℕ) (at : ℕ) (f : Found) (s t : Spot) (fs gs : List (Option Left)) → at ≤ length text → Next at (drop at text) (Some f) → Stood text at s fs → step fs s f.token ≡ Some (t, gs) → Stood text f.end t gs
 stood_on text at f s t fs gs inside (gap, piece, more, split, blank, from, to, is_piece) (ts, starts, e) taken =
-    let b = behind text at f gap piece more inside split from to (piece_length f.token piece more is_piece) in
-    (ts ++ f.token ∷ [],
-    rw b.rest (starts_on text ts (drop at text) f.token gap piece more starts split blank is_piece),
-    run_append ts (f.token ∷ []) [] start ∙ ap (λ (o : Option State). option_and_then (λ (x : State). run x.1 x.0 (f.token ∷ [])) o) e ∙ ap (λ (o : Option State). option_and_then (λ (x : State). run x.1 x.0 []) o) taken)
+    let b = behind text at f gap piece more inside split from to (piece_length f.token piece more is_piece) in (
+      ts ++ f.token ∷ [],
+      rw b.rest (starts_on text ts (drop at text) f.token gap piece more starts split blank is_piece),
+      run_append ts (f.token ∷ []) [] start ∙ ap (λ (o : Option State). option_and_then (λ (x : State). run x.1 x.0 (f.token ∷ [])) o) e ∙ ap (λ (o : Option State). option_and_then (λ (x : State). run x.1 x.0 []) o) taken,
+    )
 
 -- the refusal of a token
 pub token_refused : (text : List ℕ) (at : ℕ) (f : Found) (s : Spot) (fs : List (Option Left)) → length text ≤ 4096 → at ≤ length text → Next at (drop at text) (Some f) → Stood text at s fs → step fs s f.token ≡ None → IsRefused text f.start (refusal s (Some f.token))
 token_refused text at f s fs short inside (gap, piece, more, split, blank, from, to, is_piece) (ts, starts, e) none =
     let b = behind text at f gap piece more inside split from to (piece_length f.token piece more is_piece) in
-    let left : f.start + (length piece + length more) ≡ length text = omega (arith, b.left) in
-    (short, (ts, drop at text, length piece + length more, starts, can_go_on fs s ts (stands ts fs s e), left,
-    inl (record {
-        gap = gap;
-        piece = piece;
-        more = more;
-        token = f.token;
-        split = split;
-        blank = blank;
-        is_piece = is_piece;
-        place = refl;
-        stops = stops ts f.token fs s e none;
-        has_kind = kinds ts fs s (Some f.token) e;
-    })))
+    let left : f.start + (length piece + length more) ≡ length text = omega (arith, b.left) in (
+      short,
+      (
+        ts,
+        drop at text,
+        length piece + length more,
+        starts,
+        can_go_on fs s ts (stands ts fs s e),
+        left,
+        inl (record {
+          gap = gap;
+          piece = piece;
+          more = more;
+          token = f.token;
+          split = split;
+          blank = blank;
+          is_piece = is_piece;
+          place = refl;
+          stops = stops ts f.token fs s e none;
+          has_kind = kinds ts fs s (Some f.token) e;
+        }),
+      ),
+    )
 
 -- the refusal of the end
 pub end_refused : (text : List ℕ) (at : ℕ) (s : Spot) (fs : List (Option Left)) → length text ≤ 4096 → Next at (drop at text) None → Stood text at s fs → (IsWhole fs s → ⊥) → IsRefused text (length text) (refusal s None)
-end_refused text at s fs short blank (ts, starts, e) unfinished =
-    (short, (ts, drop at text, 0, starts, can_go_on fs s ts (stands ts fs s e), omega arith,
+end_refused text at s fs short blank (ts, starts, e) unfinished = (
+  short,
+  (
+    ts,
+    drop at text,
+    0,
+    starts,
+    can_go_on fs s ts (stands ts fs s e),
+    omega arith,
     inr (record {
-        blank = blank;
-        place = refl;
-        unfinished = no_query ts fs s e unfinished;
-        has_kind = kinds ts fs s None e;
-    })))
+      blank = blank;
+      place = refl;
+      unfinished = no_query ts fs s e unfinished;
+      has_kind = kinds ts fs s None e;
+    }),
+  ),
+)
 
 pub spelled : (text : List ℕ) (at : ℕ) (q : Tree) → Next at (drop at text) None → Stood text at (Joined q) [] → IsSpelled text q
 spelled text at q blank (ts, starts, e) = (ts, drop at text, starts, blank, whole_query ts q e)

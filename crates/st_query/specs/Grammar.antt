@@ -3,7 +3,7 @@
 --     query   = item { joiner item }       equal precedence, the chain nests to the left
 --     joiner  = "and" | "&&" | "or" | "||"
 --     item    = "(" query ")" | primitive
-use Rattle.std.specs.Prelude.{◌≡◌, ℕ, suc, ℤ, ◌+◌, ◌≤◌, ◌<◌, Bool, true, false, List, [], ◌∷◌, ◌++◌, length, Option, Some, None, ◌⊎◌}
+use Rattle.std.specs.Prelude.{◌≡◌, ℕ, suc, ℤ, ◌≤◌, ◌<◌, Bool, List, [], ◌∷◌, ◌++◌, Option, Some, ◌⊎◌}
 use Rattle.st_query.specs.declared.addrs.Addr.{Addr}
 use Rattle.st_query.specs.declared.addrs.Addr.TheVariants.{V4, V6}
 use Rattle.st_query.specs.declared.tokens.Token.TheVariants as token
@@ -45,6 +45,7 @@ mutual
   pub data Item : ℕ → List Token → Tree → Type 0 where
     primitive : {d : ℕ} {us : List Token} {l : Primitive} → Prim us l → Item d us (one l)
     paren : {d : ℕ} {ts us : List Token} {q : Tree} → d < 64 → Query (suc d) ts q → us ≡ token.Open ∷ (ts ++ token.Close ∷ []) → Item d us q
+
   pub data Query : ℕ → List Token → Tree → Type 0 where
     item : {d : ℕ} {us : List Token} {q : Tree} → Item d us q → Query d us q
     and : {d : ℕ} {ts us ws : List Token} {a b : Tree} → Query d ts a → Item d us b → ws ≡ ts ++ (token.And ∷ us) → Query d ws (both a b)

@@ -12,3 +12,5 @@ pub mod Spelling
 pub mod Parsing
 pub mod Meaning
 pub mod Matching
+pub mod Answer
+pub mod Laws

@@ -1,8 +1,7 @@
 -- What the calls of the module `grammar` ensure: one pass over the tokens, with a stack of the
 -- queries that stand open.
-use Rattle.std.specs.Prelude.{◌≡◌, ℕ, ◌≤◌, ◌<◌, nat_le, nat_lt, IsTrue, Bool, true, false, if◌then◌else◌, List, [], ◌∷◌, ◌++◌, length, reverse, map, Option, Some, None, option_and_then}
+use Rattle.std.specs.Prelude.{◌≡◌, ℕ, nat_le, nat_lt, IsTrue, Bool, true, false, if◌then◌else◌, List, [], ◌∷◌, length, reverse, map, Option, Some, None, option_and_then}
 use Rattle.std.specs.Option.{option_map}
-use Rattle.st_query.specs.declared.addrs.Addr.{Addr}
 use Rattle.st_query.specs.declared.addrs.Addr.TheVariants.{V4, V6}
 use Rattle.st_query.specs.declared.tokens.Token.TheVariants as token
 use Rattle.st_query.specs.declared.tokens.Token.{Token}

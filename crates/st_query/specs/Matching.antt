@@ -7,7 +7,6 @@ use Rattle.st_query.specs.declared.addrs.Addr.{Addr}
 use Rattle.st_query.specs.declared.addrs.Addr.TheVariants.{V4, V6}
 use Rattle.st_query.specs.declared.meaning.Packet.{Packet}
 use Rattle.st_query.specs.Words.{network}
-use Rattle.st_query.specs.Meaning.{addr_key}
 
 -- these are the keys of the frame
 abbrev pub KeysAre : List ℕ → List Key → Type 0

@@ -1,11 +1,11 @@
 -- What the calls of the module `parser` ensure.
-use Rattle.std.specs.Prelude.{◌≡◌, ℕ, ◌⊎◌, List, [], drop, Option, Some, Result, Ok, Err}
+use Rattle.std.specs.Prelude.{◌≡◌, ℕ, List, [], drop, Option, Some}
 use Rattle.st_query.specs.declared.tokens.Token.{Token}
 use Rattle.st_query.specs.declared.errors.QueryErr.{QueryErr}
 use Rattle.st_query.specs.declared.errors.QueryErr.TheVariants as err
 use Rattle.st_query.specs.declared.grammar.Kind.{Kind}
 use Rattle.st_query.specs.declared.grammar.Kind.TheVariants as kind
-use Rattle.st_query.specs.Machine.{Spot, Left, State, start, run}
+use Rattle.st_query.specs.Machine.{Spot, Left, start, run}
 use Rattle.st_query.specs.Spelling.{Starts}
 
 -- the refusal of this kind at this place

@@ -1,5 +1,5 @@
 -- The tokens of a text: marks, words and stray bytes, with white space between them.
-use Rattle.std.specs.Prelude.{◌≡◌, ℕ, ◌+◌, ◌≤◌, ◌<◌, Bool, true, false, ◌||◌, ◌&&◌, ◌==◌, nat_le, IsTrue, IsFalse, List, [], ◌∷◌, ◌++◌, length, take, drop, codes, Option, Some, None, MatchOption, if◌then◌else◌, ⊤, ℤ, All, ◌⊎◌}
+use Rattle.std.specs.Prelude.{◌≡◌, ℕ, ◌<◌, Bool, ◌||◌, ◌&&◌, ◌==◌, nat_le, IsTrue, IsFalse, List, [], ◌∷◌, ◌++◌, length, take, codes, Option, Some, None, MatchOption, if◌then◌else◌, ⊤, ℤ, All, ◌⊎◌}
 use Rattle.std.specs.Str.{bytes_eq}
 use Rattle.st_query.specs.declared.addrs.Addr.{Addr}
 use Rattle.st_query.specs.declared.tokens.Token.TheVariants as token

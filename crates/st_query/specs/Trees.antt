@@ -1,7 +1,5 @@
 -- A query as a tree: primitives, joined by `and` and `or`.
-use Rattle.std.specs.Prelude.{◌≡◌, ℕ, suc, max, ◌+◌, ◌≤◌, ◌<◌, ◌^◌, Bool, true, false, if◌then◌else◌}
-use Rattle.st_query.specs.declared.addrs.Addr.{Addr}
-use Rattle.st_query.specs.declared.addrs.Addr.TheVariants.{V4, V6}
+use Rattle.std.specs.Prelude.{◌≡◌, ℕ, suc, max, ◌≤◌, ◌<◌, ◌^◌, Bool, true, false, if◌then◌else◌}
 use Rattle.st_query.specs.declared.nodes.When.{When}
 use Rattle.st_query.specs.declared.nodes.When.TheVariants.{At, Ago}
 use Rattle.st_query.specs.Words.{width, network, FitsAddr}

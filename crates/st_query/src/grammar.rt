@@ -8,14 +8,12 @@ ghost use Rattle.st_query.specs.Machine.{read, kind_of, refusal, at_most, spot, 
 ghost use Rattle.st_query.specs.Trees.{tree};
 ghost use Rattle.st_query.specs.Words.{network};
 
-use std::alloc::{AllocError, Global};
-
-use sqlite_items::Items;
-
 use crate::addrs::Addr;
 use crate::nodes::{Node, Primitive, When, joined, node_of};
 use crate::tokens::{Keyword, Token};
 use crate::words::network;
+use sqlite_items::Items;
+use std::alloc::{AllocError, Global};
 
 /// How many parentheses may stand open at once.
 const MOST_OPEN: usize = 64;
@@ -192,8 +190,13 @@ fn read_keyword(want: Want, keyword: Keyword) -> Taken
     match (want, keyword) {
         (Want::MaskWord(addr), Keyword::Mask) => Taken::Go(Want::MaskOf(addr)),
         (Want::ProtoWord, Keyword::Proto) => Taken::Go(Want::Proto),
-        (Want::BeforeAgo { count, hours }, Keyword::Ago) => Taken::Done(Primitive::Before(When::Ago { count, hours })),
-        (Want::AfterAgo { count, hours }, Keyword::Ago) => Taken::Done(Primitive::After(When::Ago { count, hours })),
+        (Want::BeforeAgo { count, hours }, Keyword::Ago) => Taken::Done(Primitive::Before(
+            When::Ago { count, hours },
+        )),
+        (Want::AfterAgo { count, hours }, Keyword::Ago) => Taken::Done(Primitive::After(When::Ago {
+            count,
+            hours,
+        })),
         _ => Taken::Refused,
     }
 }
@@ -216,10 +219,11 @@ pub fn read(want: Want, token: Token) -> Taken
         Want::Mpls => read_mpls(token),
         Want::Before => read_before(token),
         Want::After => read_after(token),
-        Want::MaskWord(_) | Want::ProtoWord | Want::BeforeAgo { .. } | Want::AfterAgo { .. } => match token {
-            Token::Key(keyword) => read_keyword(want, keyword),
-            _ => Taken::Refused,
-        },
+        Want::MaskWord(_) | Want::ProtoWord | Want::BeforeAgo { .. } | Want::AfterAgo { .. } =>
+            match token {
+                Token::Key(keyword) => read_keyword(want, keyword),
+                _ => Taken::Refused,
+            },
     }
 }
 
@@ -262,13 +266,22 @@ fn join(alloc: Global, half: Option<Half>, right: Node) -> Result<Node, AllocErr
 }
 
 /// Goes on by one token, or answers None where it is refused.
-pub fn step(alloc: Global, stack: &mut Items<Option<Half>>, place: Place, token: Token) -> Result<Option<Place>, AllocError>
+pub fn step(
+    alloc: Global,
+    stack: &mut Items<Option<Half>>,
+    place: Place,
+    token: Token,
+) -> Result<Option<Place>, AllocError>
     ensures { IfOk result (λ o. Steps (frames stack.old) (spot place) token (option_map spot o) (frames stack.new)) }
 {
     match place {
         Place::Reading { want, left } => match read(want, token) {
             Taken::Go(next) => Ok(Some(Place::Reading { want: next, left })),
-            Taken::Done(primitive) => Ok(Some(Place::Joined(join(alloc, left, node_of(primitive))?))),
+            Taken::Done(primitive) => Ok(Some(Place::Joined(join(
+                alloc,
+                left,
+                node_of(primitive),
+            )?))),
             Taken::Deeper => deeper(stack, left),
             Taken::Refused => Ok(None),
         },

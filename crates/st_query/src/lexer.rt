@@ -5,8 +5,8 @@ ghost use Rattle.st_query.specs.Tokens.{is_space, is_word_byte, keyword, Begins,
 ghost use Rattle.st_query.specs.Lexing.{Next, Front};
 
 use crate::addrs::Addr;
-use crate::tokens::{Keyword, Token};
 use crate::times::{instant, span};
+use crate::tokens::{Keyword, Token};
 use crate::words::{address, mask_bits, net, number};
 
 /// A token of a text, with the places of its first byte and of the byte behind it.
@@ -123,7 +123,10 @@ fn word_token(word: &[u8]) -> Token
         return Token::Number(number);
     }
     if let Some(addr) = address(word) {
-        return Token::Address { addr, mask: mask_bits(addr) };
+        return Token::Address {
+            addr,
+            mask: mask_bits(addr),
+        };
     }
     if let Some((addr, bits)) = net(word) {
         return Token::Net { addr, bits };

@@ -7,12 +7,11 @@ ghost use Rattle.st_query.specs.Matching.{KeysAre, KeyIsIn, FrameIsIn, IsTold};
 ghost use Rattle.st_query.specs.Words.{network};
 ghost use Rattle.st_query.specs.Trees.{tree};
 
-use st_base::RecordRef;
-use st_walk::{Key, has_key, keys};
-
 use crate::addrs::Addr;
 use crate::nodes::{Node, Query, When};
 use crate::words::network;
+use st_base::RecordRef;
+use st_walk::{Key, has_key, keys};
 
 /// How many keys of a frame are kept: more than a frame of IPv4 under two tags has.
 const MOST_KEYS: usize = 12;
@@ -143,8 +142,10 @@ fn holds(node: &Node, now: u64, packet: &Packet<'_>) -> bool
 {
     let record = packet.record;
     match node {
-        Node::And { left, right } => holds(left.get(), now, packet) && holds(right.get(), now, packet),
-        Node::Or { left, right } => holds(left.get(), now, packet) || holds(right.get(), now, packet),
+        Node::And { left, right } => holds(left.get(), now, packet)
+            && holds(right.get(), now, packet),
+        Node::Or { left, right } => holds(left.get(), now, packet)
+            || holds(right.get(), now, packet),
         Node::Host(addr) => has(packet, key_of(*addr)),
         Node::Net { addr, bits } => is_in_net(packet, *addr, *bits),
         Node::Port(port) => has(packet, Key::Port(*port)),

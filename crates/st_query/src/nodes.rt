@@ -2,12 +2,10 @@
 ghost use Rattle.std.specs.Prelude.{◌≡◌, IfOk, if◌then◌else◌};
 ghost use Rattle.st_query.specs.Trees.{tree, both, either, one};
 
+use crate::addrs::Addr;
+use sqlite_items::Boxed;
 use std::alloc::{AllocError, Global};
 use std::marker::Model;
-
-use sqlite_items::Boxed;
-
-use crate::addrs::Addr;
 
 /// A moment: a second since 1970, or so many hours or minutes before the clock's second.
 #[derive(Clone, Copy)]
@@ -35,10 +33,19 @@ pub enum Primitive {
 /// `mpls` label below 2^20.
 #[derive(Drop)]
 pub enum Node {
-    And { left: Boxed<Node>, right: Boxed<Node> },
-    Or { left: Boxed<Node>, right: Boxed<Node> },
+    And {
+        left: Boxed<Node>,
+        right: Boxed<Node>,
+    },
+    Or {
+        left: Boxed<Node>,
+        right: Boxed<Node>,
+    },
     Host(Addr),
-    Net { addr: Addr, bits: u8 },
+    Net {
+        addr: Addr,
+        bits: u8,
+    },
     Port(u16),
     Proto(u8),
     Vlan(u16),

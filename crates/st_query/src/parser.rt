@@ -1,16 +1,14 @@
 //! A text as the query that it spells, or its refusal.
-ghost use Rattle.std.specs.Prelude.{◌≡◌, ◌⊎◌, IfOk, IfErr};
+ghost use Rattle.std.specs.Prelude.{◌≡◌, ◌≢◌, IfOk, IfErr};
 ghost use Rattle.st_query.specs.Spelling.{Spells, Refuses};
 ghost use Rattle.st_query.specs.Parsing.{error_at};
-
-use std::alloc::Global;
-
-use sqlite_items::Items;
 
 use crate::errors::QueryErr;
 use crate::grammar::{Kind, Place, Want, refusal, step};
 use crate::lexer::next_token;
 use crate::nodes::Query;
+use sqlite_items::Items;
+use std::alloc::Global;
 
 /// How many bytes a text may have.
 const MOST_BYTES: usize = 4096;
@@ -33,8 +31,8 @@ fn error_at(kind: Kind, place: usize) -> QueryErr
 /// refusal but `NoMemory` is that of the first token which no further tokens make a query, or of the
 /// end of the text, by docs/QUERY.md, "Refusals".
 pub fn parse(alloc: Global, text: &[u8]) -> Result<Query, QueryErr>
-    ensures spelled { IfOk result (λ q. Spells text.now q) }
-    ensures refused { IfErr result (λ e. (e ≡ QueryErr.NoMemory) ⊎ Refuses text.now e) }
+    ensures spells { IfOk result (λ q. Spells text.now q) }
+    ensures refuses { IfErr result (λ e. e ≢ QueryErr.NoMemory → Refuses text.now e) }
 {
     if text.len() > MOST_BYTES {
         return Err(QueryErr::Long { len: text.len() });
@@ -62,6 +60,9 @@ pub fn parse(alloc: Global, text: &[u8]) -> Result<Query, QueryErr>
             }
             Err(error_at(kind, text.len()))
         }
-        Place::Reading { want: _want, left: _left } => Err(error_at(kind, text.len())),
+        Place::Reading {
+            want: _want,
+            left: _left,
+        } => Err(error_at(kind, text.len())),
     }
 }

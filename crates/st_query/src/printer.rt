@@ -5,13 +5,11 @@ ghost use Rattle.st_query.specs.Printing.{printed, wrapped, when_text};
 ghost use Rattle.st_query.specs.Spelling.{Spells};
 ghost use Rattle.st_query.specs.Trees.{tree, is_joined, InRange, FitsWhen};
 
-use std::alloc::{AllocError, Global};
-
-use st_base::{NoMemory, Octets};
-
 use crate::addrs::Addr;
 use crate::nodes::{Node, Query, When};
 use crate::word_text::{put_address, put_instant};
+use st_base::{NoMemory, Octets};
+use std::alloc::{AllocError, Global};
 
 fn put_ago(alloc: Global, count: u32, hours: bool, out: &mut Vec<u8>) -> Result<(), AllocError>
     ensures { OnOk result (out.new.items ≡ out.old.items ++ when_text (When.Ago count hours)) }
@@ -104,7 +102,15 @@ fn put_side(alloc: Global, node: &Node, out: &mut Vec<u8>) -> Result<(), AllocEr
     requires { InRange (tree node.now) }
     ensures { OnOk result (out.new.items ≡ out.old.items ++ wrapped (is_joined (tree node.now)) (printed (tree node.now))) }
 {
-    if let Node::And { left: _left, right: _right } | Node::Or { left: _left, right: _right } = node {
+    if let Node::And {
+        left: _left,
+        right: _right,
+    }
+    | Node::Or {
+        left: _left,
+        right: _right,
+    } = node
+    {
         out.push(b'(')?;
         put_node(alloc, node, out)?;
         out.push(b')')?;

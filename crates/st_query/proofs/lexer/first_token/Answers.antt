@@ -1,5 +1,4 @@
-use Rattle.std.proofs.Common.{◌≡◌, inl, inr, length, take, drop, rules, arith, IsTrue, All, sym, subst, List, [], ℕ}
-use Rattle.std.specs.List.{prefix_len}
+use Rattle.std.proofs.Common.{◌≡◌, take, drop, arith, IsTrue, All, sym, subst, [], ℕ}
 use Rattle.std.proofs.lemmas.Grind.{common_steps}
 use Rattle.std.proofs.lemmas.List.{take_rest}
 use Rattle.st_query.specs.Tokens.{is_space, EndsRun}
@@ -27,7 +26,13 @@ returns-in-Some c =
     let value = c.space_len-gap.ensures.value in
     let fits = c.space_len-gap.ensures.bound in
     let front = rw (take_rest text gap) at c.in-Some.ensures in
-    let inside = front.1 in
-    (take gap text, take len (drop gap text), drop len (drop gap text), three_parts gap len text,
-    subst (λ (n : ℕ). All (λ b. IsTrue (is_space b)) (take n text)) (sym value) (run_all is_space text),
-    grind (arith, common_steps), grind (arith, common_steps), front.2)
+    let inside = front.1 in (
+      take gap text,
+      take len (drop gap text),
+      drop len (drop gap text),
+      three_parts gap len text,
+      subst (λ (n : ℕ). All (λ b. IsTrue (is_space b)) (take n text)) (sym value) (run_all is_space text),
+      grind (arith, common_steps),
+      grind (arith, common_steps),
+      front.2,
+    )

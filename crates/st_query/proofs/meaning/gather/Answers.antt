@@ -1,4 +1,4 @@
-use Rattle.std.proofs.Common.{◌≡◌, ◌+◌, ◌≤◌, ◌<◌, ◌++◌, length, take, arith, List, subst, length-set}
+use Rattle.std.proofs.Common.{arith, List, subst, length-set}
 use Rattle.st_walk.specs.Listing.{keys_left}
 use Rattle.st_walk.specs.declared.text.Key.{Key}
 use Rattle.st_query.specs.Matching.{KeysAre}
@@ -14,11 +14,13 @@ loop-key-init c =
 pub loop-key-preserved : goal.loop-key-preserved
 loop-key-preserved c =
     let room = c.loop-key.room in
-    let len = c.loop-key.len in
-    (omega (arith, length-set room len c.in-Some.key, c.if-len-room.false),
-    subst (λ (ks : List Key). KeysAre c.args.frame.now ks) (gathered room (keys_left c.loop-key.key-iterator) (keys_left c.next.new.self) len c.in-Some.key c.if-len-room.false c.in-Some.ensures.steps) c.loop-key.invariant.1)
+    let len = c.loop-key.len in (
+      omega (arith, length-set room len c.in-Some.key, c.if-len-room.false),
+      subst (λ (ks : List Key). KeysAre c.args.frame.now ks) (gathered room (keys_left c.loop-key.key-iterator) (keys_left c.next.new.self) len c.in-Some.key c.if-len-room.false c.in-Some.ensures.steps) c.loop-key.invariant.1,
+    )
 
 pub returns : goal.returns
-returns c =
-    (c.loop-key.invariant.0,
-    subst (λ (ks : List Key). KeysAre c.args.frame.now ks) (all_gathered c.loop-key.room (keys_left c.loop-key.key-iterator) c.loop-key.len c.in-None.ensures.steps.0) c.loop-key.invariant.1)
+returns c = (
+  c.loop-key.invariant.0,
+  subst (λ (ks : List Key). KeysAre c.args.frame.now ks) (all_gathered c.loop-key.room (keys_left c.loop-key.key-iterator) c.loop-key.len c.in-None.ensures.steps.0) c.loop-key.invariant.1,
+)
