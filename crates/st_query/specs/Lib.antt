@@ -1,0 +1,16 @@
+pub mod Words
+pub mod Times
+pub mod TimeReading
+pub mod WordText
+pub mod Tokens
+pub mod Lexing
+pub mod Trees
+pub mod Printing
+pub mod Grammar
+pub mod Machine
+pub mod Spelling
+pub mod Parsing
+pub mod Meaning
+pub mod Matching
+pub mod Answer
+pub mod Laws
