@@ -1,0 +1,104 @@
+-- From an answer that was written to what a run leaves.
+use Rattle.std.proofs.Common.{◌≡◌, ◌≢◌, ◌⊎◌, ℕ, List, [], ◌∷◌, ◌++◌, Option, Some, None, String, Global, string_bytes, refl, sym, ap, subst, ◌∙◌, inl, inr}
+use Rattle.std.specs.Io.KnownBytes.{Keeps, Appends}
+use Rattle.std.proofs.KnownBytes.{Appends-nil, Keeps-refl}
+use Rattle.st_base.specs.Faults.{Rose}
+use Rattle.st_base.specs.Records.{Rec}
+use Rattle.st_pcap.specs.declared.errors.PcapErr.{PcapErr}
+use Rattle.st_pcap.specs.Heads.{IsOfFileHead}
+use Rattle.st_pcap.specs.Input.{Input, End, Whole, Refused}
+use Rattle.st_pcap.proofs.Uniqueness.{one_input}
+use Rattle.st_query.specs.declared.errors.QueryErr.{QueryErr}
+use Rattle.st_query.specs.declared.nodes.Node.{Node}
+use Rattle.st_query.specs.Spelling.{Spells, Refuses}
+use Rattle.st_query.proofs.Readings.{not_both}
+use Rattle.steno.specs.declared.ending.Ending.{Ending}
+use Rattle.steno.specs.declared.status.Status.{Status}
+use Rattle.steno.specs.declared.status.Status.TheVariants.{Done, Usage, BadInput, BadQuery, ReadFault, WriteFault, DiskFault, Damaged, NoMemory, StampsSpent}
+use Rattle.steno.specs.Jobs.{IsReply, IsJob, Leaves, IsSilent}
+use Rattle.steno.specs.Messages.{line_of, input_line}
+use Rattle.steno.specs.Plans.{IsPlan}
+use Rattle.steno.specs.Running.{plain_of, Writes, Finishes}
+
+-- what an ending leaves
+abbrev pub LeavesReply : Node → ℕ → List ℕ → Option (List ℕ) → Option (List ℕ) → Ending → Type 0
+LeavesReply q now bytes old new e = Leaves (IsReply q now bytes) e.status (line_of e) old new
+
+-- the answer over a whole input
+pub done_leaves : (q : Node) (now : ℕ) (bytes : List ℕ) (rs : List Rec) (old new : Option (List ℕ)) (result : Ending)
+    → Input bytes rs Whole → Writes q now rs old new (plain_of Done) result → LeavesReply q now bytes old new result
+done_leaves q now bytes rs old new result h (inl w) =
+    subst (LeavesReply q now bytes old new) (sym w.0) (w.1.0, (rs, h, w.1.1, refl), w.1.2)
+done_leaves q now bytes rs old new result h (inr (inl w)) =
+    subst (LeavesReply q now bytes old new) (sym w.0) (w.1.0, Done, [], (rs, h, w.1.1, refl), w.1.2, refl)
+done_leaves q now bytes rs old new result h (inr (inr w)) = subst (LeavesReply q now bytes old new) (sym w.0) (w.1, refl)
+
+-- an input that is refused, with this text for its line
+abbrev pub cut_of : String Global → Ending
+cut_of text = record { status = BadInput; line = Some text }
+
+-- the answer over the records before one that is refused
+pub cut_leaves : (q : Node) (now : ℕ) (bytes : List ℕ) (rs : List Rec) (cause : PcapErr) (text : String Global) (old new : Option (List ℕ)) (result : Ending)
+    → Input bytes rs (Refused cause) → (IsOfFileHead cause → ⊥) → string_bytes text ≡ input_line cause
+    → Writes q now rs old new (cut_of text) result → LeavesReply q now bytes old new result
+cut_leaves q now bytes rs cause text old new result h behind said (inl w) =
+    subst (LeavesReply q now bytes old new) (sym w.0) (w.1.0, (rs, cause, h, inr (behind, w.1.0, w.1.1), said), w.1.2)
+cut_leaves q now bytes rs cause text old new result h behind said (inr (inl w)) =
+    subst (LeavesReply q now bytes old new) (sym w.0) (w.1.0, BadInput, input_line cause, (rs, cause, h, inr (behind, w.1.1), refl), w.1.2, refl)
+cut_leaves q now bytes rs cause text old new result h behind said (inr (inr w)) = subst (LeavesReply q now bytes old new) (sym w.0) (w.1, refl)
+
+-- nothing where the file head is refused
+pub head_leaves : (q : Node) (now : ℕ) (bytes : List ℕ) (rs : List Rec) (cause : PcapErr) (text : String Global) (old : Option (List ℕ))
+    → Input bytes rs (Refused cause) → IsOfFileHead cause → string_bytes text ≡ input_line cause → LeavesReply q now bytes old old (cut_of text)
+head_leaves q now bytes rs cause text old h head said = ([], (rs, cause, h, inl (head, refl), said), Appends-nil old)
+
+-- a reply to the query that the words ask is what they ask for
+pub job_of_reply : (words : List (List ℕ)) (text : List ℕ) (q : Node) (now : ℕ) (bytes output : List ℕ) (status : Status) (message : List ℕ)
+    → IsPlan words text → Spells text q → IsReply q now bytes output status message → IsJob words now bytes output status message
+job_of_reply words text q now bytes output Done message plan spelled reply = (text, q, plan, spelled, reply)
+job_of_reply words text q now bytes output BadInput message plan spelled reply = (text, q, plan, spelled, reply)
+job_of_reply words text q now bytes output Usage message plan spelled reply = absurd reply
+job_of_reply words text q now bytes output BadQuery message plan spelled reply = absurd reply
+job_of_reply words text q now bytes output ReadFault message plan spelled reply = absurd reply
+job_of_reply words text q now bytes output WriteFault message plan spelled reply = absurd reply
+job_of_reply words text q now bytes output DiskFault message plan spelled reply = absurd reply
+job_of_reply words text q now bytes output Damaged message plan spelled reply = absurd reply
+job_of_reply words text q now bytes output NoMemory message plan spelled reply = absurd reply
+job_of_reply words text q now bytes output StampsSpent message plan spelled reply = absurd reply
+
+pub job_leaves : (words : List (List ℕ)) (text : List ℕ) (q : Node) (now : ℕ) (bytes : List ℕ) (status : Status) (message : List ℕ) (old new : Option (List ℕ))
+    → IsPlan words text → Spells text q → Leaves (IsReply q now bytes) status message old new → Leaves (IsJob words now bytes) status message old new
+job_leaves words text q now bytes Done message old new plan spelled (output, reply, put) = (output, (text, q, plan, spelled, reply), put)
+job_leaves words text q now bytes BadInput message old new plan spelled (output, reply, put) = (output, (text, q, plan, spelled, reply), put)
+job_leaves words text q now bytes WriteFault message old new plan spelled (output, status, silenced, reply, put, said) =
+    (output, status, silenced, job_of_reply words text q now bytes output status silenced plan spelled reply, put, said)
+job_leaves words text q now bytes ReadFault message old new plan spelled h = h
+job_leaves words text q now bytes NoMemory message old new plan spelled h = h
+job_leaves words text q now bytes Usage message old new plan spelled h = absurd h.1
+job_leaves words text q now bytes BadQuery message old new plan spelled h = absurd h.1
+job_leaves words text q now bytes DiskFault message old new plan spelled h = absurd h.1
+job_leaves words text q now bytes Damaged message old new plan spelled h = absurd h.1
+job_leaves words text q now bytes StampsSpent message old new plan spelled h = absurd h.1
+
+texts_same : (a b : List ℕ) (words : List (List ℕ)) → IsPlan words a → IsPlan words b → a ≡ b
+texts_same a b words p r = cc
+
+whole_only : (bytes : List ℕ) (rs qs : List Rec) (cause : PcapErr) → Input bytes rs Whole → Input bytes qs (Refused cause) → ⊥
+whole_only bytes rs qs cause h k = let bad : Whole ≡ Refused cause = (one_input bytes rs qs Whole (Refused cause) h k).1 in cc
+
+-- where the words ask a query, the input is whole and nothing fails, all is done, but for want of memory
+pub completes : (words : List (List ℕ)) (text : List ℕ) (q : Node) (now : ℕ) (bytes : List ℕ) (rs : List Rec) (status : Status) (message : List ℕ) (old new : Option (List ℕ))
+    → IsPlan words text → Spells text q → Input bytes rs Whole → (status ≡ ReadFault → ⊥) → (status ≡ WriteFault → ⊥)
+    → Leaves (IsJob words now bytes) status message old new → (status ≡ Done) ⊎ (status ≡ NoMemory)
+completes words text q now bytes rs Done message old new plan spelled whole read write h = inl refl
+completes words text q now bytes rs NoMemory message old new plan spelled whole read write h = inr refl
+completes words text q now bytes rs ReadFault message old new plan spelled whole read write h = absurd (read refl)
+completes words text q now bytes rs WriteFault message old new plan spelled whole read write h = absurd (write refl)
+completes words text q now bytes rs Usage message old new plan spelled whole read write h = absurd (h.1.0 text plan)
+completes words text q now bytes rs BadQuery message old new plan spelled whole read write (output, (other, e, asked, refused, empty, said), put) =
+    absurd (not_both other q e (subst (λ t. Spells t q) (texts_same text other words plan asked) spelled) refused)
+completes words text q now bytes rs BadInput message old new plan spelled whole read write (output, (other, p, asked, said, (qs, cause, cut, reply)), put) =
+    absurd (whole_only bytes rs qs cause whole cut)
+completes words text q now bytes rs DiskFault message old new plan spelled whole read write (output, (other, p, asked, said, reply), put) = absurd reply
+completes words text q now bytes rs Damaged message old new plan spelled whole read write (output, (other, p, asked, said, reply), put) = absurd reply
+completes words text q now bytes rs StampsSpent message old new plan spelled whole read write (output, (other, p, asked, said, reply), put) = absurd reply

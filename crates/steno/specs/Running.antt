@@ -1,0 +1,55 @@
+-- What the calls of a run ensure.
+use Rattle.std.specs.Prelude.{◌≡◌, ◌≢◌, ◌⊎◌, ℕ, List, Option, None}
+use Rattle.std.specs.Io.KnownBytes.{Keeps, Appends}
+use Rattle.st_base.specs.Faults.{Rose}
+use Rattle.st_base.specs.Pieces.{AppendsFront}
+use Rattle.st_base.specs.Records.{Rec}
+use Rattle.st_base.specs.Ticks.{Ticks}
+use Rattle.st_query.specs.declared.errors.QueryErr.{QueryErr}
+use Rattle.st_query.specs.declared.errors.QueryErr.TheVariants as refusal
+use Rattle.st_query.specs.declared.nodes.Node.{Node}
+use Rattle.steno.specs.declared.ending.Ending.{Ending}
+use Rattle.steno.specs.declared.status.Status.{Status}
+use Rattle.steno.specs.declared.status.Status.TheVariants.{Usage, BadQuery, WriteFault, NoMemory}
+use Rattle.steno.specs.Jobs.{IsAnswered, IsJob, Leaves}
+use Rattle.steno.specs.Messages.{line_of, query_line}
+
+-- the message stands behind what was there, or a front of it where the count of faults rose
+abbrev pub Tells : Option (List ℕ) → Option (List ℕ) → ℕ → ℕ → List ℕ → Type 0
+Tells old new before after message = Appends old new message ⊎ (AppendsFront old new message × Rose before after)
+
+-- the clock was asked once, but not at all where the words ask for nothing
+abbrev pub AsksClock : Option (List ℕ) → Option (List ℕ) → Status → ℕ → Type 0
+AsksClock old new Usage now = new ≡ old
+AsksClock old new status now = Ticks old new now
+
+-- a run of these words over these bytes ended so, with this line: the clock and the output
+abbrev pub Ends : List (List ℕ) → Option (List ℕ) → Option (List ℕ) → List ℕ → Option (List ℕ) → Option (List ℕ) → Status → List ℕ → Type 0
+Ends words clock ticked bytes old new status line =
+    (now : ℕ) × AsksClock clock ticked status now × Leaves (IsJob words now bytes) status line old new
+
+-- a run of these words over these bytes ended so: the clock, the output and the message
+abbrev pub Runs : List (List ℕ) → Option (List ℕ) → Option (List ℕ) → List ℕ → Option (List ℕ) → Option (List ℕ)
+    → Option (List ℕ) → Option (List ℕ) → ℕ → ℕ → Status → Type 0
+Runs words clock ticked bytes old new err told before after status =
+    (message : List ℕ) × Ends words clock ticked bytes old new status message × Tells err told before after message
+
+-- the ending whose line its status says
+abbrev pub plain_of : Status → Ending
+plain_of status = record { status = status; line = None }
+
+-- the answer over these records was written, or a front of it, or nothing for want of memory
+abbrev pub Writes : Node → ℕ → List Rec → Option (List ℕ) → Option (List ℕ) → Ending → Ending → Type 0
+Writes q now rs old new ending result =
+    ((result ≡ ending) × ((output : List ℕ) × IsAnswered q now rs output × Appends old new output))
+    ⊎ (((result ≡ plain_of WriteFault) × ((output : List ℕ) × IsAnswered q now rs output × AppendsFront old new output))
+    ⊎ ((result ≡ plain_of NoMemory) × Keeps old new))
+
+-- it ended as it was to, or the output failed, or memory was wanting before anything was written
+abbrev pub Finishes : Option (List ℕ) → Option (List ℕ) → ℕ → ℕ → Ending → Ending → Type 0
+Finishes old new before after ending result =
+    (result ≡ ending) ⊎ (((result ≡ plain_of WriteFault) × Rose before after) ⊎ ((result ≡ plain_of NoMemory) × Keeps old new))
+
+-- the query is refused with its line, or memory was wanting
+abbrev pub Speaks : QueryErr → Ending → Type 0
+Speaks e result = (result ≡ plain_of NoMemory) ⊎ ((e ≢ refusal.NoMemory) × (result.status ≡ BadQuery) × (line_of result ≡ query_line e))
