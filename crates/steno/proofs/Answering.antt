@@ -133,9 +133,10 @@ tails_same a b xs ys e = cc
 pub cut_at : (y : Rec) (ps : List Placed) (zs : List Rec) → y ∷ zs ≡ filter (ties earlier y) (packets ps) → Cut y ps
 cut_at y [] zs e = absurd (let bad : y ∷ zs ≡ [] = e in cc)
 cut_at y (p ∷ ps) zs e =
-    elim (ties earlier y p.packet) as (λ b. ties earlier y p.packet ≡ b → y ∷ zs ≡ cond b (p.packet ∷ filter (ties earlier y) (packets ps)) (filter (ties earlier y) (packets ps)) → Cut y (p ∷ ps))
-    [ true ↦ λ t f. cut_here y p ps (sym (heads_same y p.packet zs (filter (ties earlier y) (packets ps)) f))
-    | false ↦ λ t f. cut_later y p ps t (cut_at y ps zs f) ] refl e
+    elim (ties earlier y p.packet) as (λ b. ties earlier y p.packet ≡ b → y ∷ zs ≡ cond b (p.packet ∷ filter (ties earlier y) (packets ps)) (filter (ties earlier y) (packets ps)) → Cut y (p ∷ ps)) [
+      | true ↦ λ t f. cut_here y p ps (sym (heads_same y p.packet zs (filter (ties earlier y) (packets ps)) f))
+      | false ↦ λ t f. cut_later y p ps t (cut_at y ps zs f)
+    ] refl e
 
 -- what passes of a cut list
 split_filter : (t : Rec → Bool) (before : List Placed) (p : Placed) (after : List Placed)
@@ -152,9 +153,10 @@ none_passes t (p ∷ ps) h = rw (h p (head_in p ps)) (none_passes t ps (λ q c. 
 -- what ties with x ties with all that x ties with
 no_tie_on : (x y z : Rec) → ties earlier x y ≡ true → ties earlier y z ≡ false → ties earlier x z ≡ false
 no_tie_on x y z e f =
-    elim (ties earlier x z) as (λ b. ties earlier x z ≡ b → b ≡ false)
-    [ true ↦ λ g. let a = tie_then x y e in let b = tie_then x z g in let bad : true ≡ false = sym (tie_from y z (sym a.0 ∙ b.0, sym a.1 ∙ b.1)) ∙ f in cc
-    | false ↦ λ g. refl ] refl
+    elim (ties earlier x z) as (λ b. ties earlier x z ≡ b → b ≡ false) [
+      | true ↦ λ g. let a = tie_then x y e in let b = tie_then x z g in let bad : true ≡ false = sym (tie_from y z (sym a.0 ∙ b.0, sym a.1 ∙ b.1)) ∙ f in cc
+      | false ↦ λ g. refl
+    ] refl
 
 abbrev pub Stable : List Rec → List Placed → Type 0
 Stable ys ps = (x : Rec) → filter (ties earlier x) ys ≡ filter (ties earlier x) (packets ps)
@@ -164,16 +166,17 @@ stable_rest : (y : Rec) (ys : List Rec) (ps : List Placed) (cut : Cut y ps) → 
 stable_rest y ys ps cut h x =
     let t = ties earlier x in
     let whole : filter t (y ∷ ys) ≡ filter t (packets cut.before) ++ filter t (cut.middle.packet ∷ packets cut.after) =
-        h x ∙ (ap (λ l. filter t (packets l)) cut.whole ∙ split_filter t cut.before cut.middle cut.after) in
+    h x ∙ (ap (λ l. filter t (packets l)) cut.whole ∙ split_filter t cut.before cut.middle cut.after) in
     let at_y : filter t (y ∷ ys) ≡ filter t (packets cut.before) ++ filter t (y ∷ packets cut.after) =
-        subst (λ r. filter t (y ∷ ys) ≡ filter t (packets cut.before) ++ filter t (r ∷ packets cut.after)) cut.is whole in
+    subst (λ r. filter t (y ∷ ys) ≡ filter t (packets cut.before) ++ filter t (r ∷ packets cut.after)) cut.is whole in
     let goal = joined_filter t cut.before cut.after in
-    elim (t y) as (λ b. t y ≡ b → cond b (y ∷ filter t ys) (filter t ys) ≡ filter t (packets cut.before) ++ cond b (y ∷ filter t (packets cut.after)) (filter t (packets cut.after)) → filter t ys ≡ filter t (packets (cut.before ++ cut.after)))
-    [ true ↦ λ e f.
-        let gone : filter t (packets cut.before) ≡ [] = none_passes t cut.before (λ q c. no_tie_on x y q.packet e (cut.none q c)) in
-        let only : y ∷ filter t ys ≡ y ∷ filter t (packets cut.after) = f ∙ ap (λ l. l ++ y ∷ filter t (packets cut.after)) gone in
-        tails_same y y (filter t ys) (filter t (packets cut.after)) only ∙ sym (goal ∙ ap (λ l. l ++ filter t (packets cut.after)) gone)
-    | false ↦ λ e f. f ∙ sym goal ] refl at_y
+    elim (t y) as (λ b. t y ≡ b → cond b (y ∷ filter t ys) (filter t ys) ≡ filter t (packets cut.before) ++ cond b (y ∷ filter t (packets cut.after)) (filter t (packets cut.after)) → filter t ys ≡ filter t (packets (cut.before ++ cut.after))) [
+      | true ↦ λ e f.
+          let gone : filter t (packets cut.before) ≡ [] = none_passes t cut.before (λ q c. no_tie_on x y q.packet e (cut.none q c)) in
+          let only : y ∷ filter t ys ≡ y ∷ filter t (packets cut.after) = f ∙ ap (λ l. l ++ y ∷ filter t (packets cut.after)) gone in
+          tails_same y y (filter t ys) (filter t (packets cut.after)) only ∙ sym (goal ∙ ap (λ l. l ++ filter t (packets cut.after)) gone)
+      | false ↦ λ e f. f ∙ sym goal
+    ] refl at_y
 
 -- places rise over what is left of a cut list, and behind its middle lie higher ones
 all_without : (P : Placed → Type 0) (before : List Placed) (p : Placed) (after : List Placed) → All P (before ++ p ∷ after) → All P (before ++ after)
@@ -221,9 +224,10 @@ comes_before y ps cut climbs q later (inl c) =
     by_time cut.middle q (subst (λ r. Earlier r q.packet) (sym cut.is) (no_tie y q.packet (cut.none q c) later))
 comes_before y ps cut climbs q later (inr c) =
     let higher : cut.middle.place < q.place = All-contains (λ (x : Placed). cut.middle.place < x.place) cut.after q (climbs_behind cut.before cut.middle cut.after (subst Climbs cut.whole climbs)) c in
-    elim (ties earlier y q.packet) as (λ b. ties earlier y q.packet ≡ b → Before cut.middle q)
-    [ true ↦ λ e. let same = subst (λ r. Same r q.packet) (sym cut.is) (tie_then y q.packet e) in inr (same.0, inr (same.1, higher))
-    | false ↦ λ e. by_time cut.middle q (subst (λ r. Earlier r q.packet) (sym cut.is) (no_tie y q.packet e later)) ] refl
+    elim (ties earlier y q.packet) as (λ b. ties earlier y q.packet ≡ b → Before cut.middle q) [
+      | true ↦ λ e. let same = subst (λ r. Same r q.packet) (sym cut.is) (tie_then y q.packet e) in inr (same.0, inr (same.1, higher))
+      | false ↦ λ e. by_time cut.middle q (subst (λ r. Earlier r q.packet) (sym cut.is) (no_tie y q.packet e later))
+    ] refl
 
 put_in : (before : List Placed) (m : Placed) (after qs : List Placed) → ((p : Placed) → Contains qs p → Contains (before ++ after) p)
     → (p : Placed) → (m ≡ p) ⊎ Contains qs p → Contains (before ++ m ∷ after) p
@@ -248,14 +252,14 @@ ordered [] (p ∷ ps) o climbs h =
 ordered (y ∷ ys) ps o climbs h =
     let self : ties earlier y y ≡ true = tie_from y y (refl, refl) in
     let first : y ∷ filter (ties earlier y) ys ≡ filter (ties earlier y) (packets ps) =
-        sym (ap (λ b. cond b (y ∷ filter (ties earlier y) ys) (filter (ties earlier y) ys)) self) ∙ h y in
+    sym (ap (λ b. cond b (y ∷ filter (ties earlier y) ys) (filter (ties earlier y) ys)) self) ∙ h y in
     let cut = cut_at y ps (filter (ties earlier y) ys) first in
     let rest = ordered ys (cut.before ++ cut.after) o.1 (climbs_without cut.before cut.middle cut.after (subst Climbs cut.whole climbs)) (stable_rest y ys ps cut h) in
     let not_earlier : All (λ (q : Placed). earlier q.packet y ≡ false) rest.qs = all_of_packets (λ (z : Rec). earlier z y ≡ false) rest.qs (subst (NoneEarlier y) (sym rest.same) o.0) in
     let below : All (Before cut.middle) rest.qs =
-        All-weaker (Contains rest.qs) (Before cut.middle)
-        (λ q c. comes_before y ps cut climbs q (All-contains (λ (x : Placed). earlier x.packet y ≡ false) rest.qs q not_earlier c) (Contains-append_cases cut.before cut.after q (rest.there q c)))
-        rest.qs (All-contains_itself rest.qs) in
+    All-weaker (Contains rest.qs) (Before cut.middle)
+    (λ q c. comes_before y ps cut climbs q (All-contains (λ (x : Placed). earlier x.packet y ≡ false) rest.qs q not_earlier c) (Contains-append_cases cut.before cut.after q (rest.there q c)))
+    rest.qs (All-contains_itself rest.qs) in
     record {
       qs = cut.middle ∷ rest.qs;
       same = ap (λ r. r ∷ packets rest.qs) cut.is ∙ ap (λ l. y ∷ l) rest.same;

@@ -1,9 +1,10 @@
 -- From an answer that was written to what a run leaves.
-use Rattle.std.proofs.Common.{◌≡◌, ◌≢◌, ◌⊎◌, ℕ, List, [], ◌∷◌, ◌++◌, Option, Some, None, String, Global, string_bytes, refl, sym, ap, subst, ◌∙◌, inl, inr}
+use Rattle.std.proofs.Common.{◌≡◌, ◌≢◌, ◌⊎◌, ℕ, List, [], ◌∷◌, ◌++◌, Option, Some, None, String, Global, string_bytes, refl, sym, ap, subst, ◌∙◌, inl, inr, Bool, true, false}
 use Rattle.std.specs.Io.KnownBytes.{Keeps, Appends}
 use Rattle.std.proofs.KnownBytes.{Appends-nil, Keeps-refl}
 use Rattle.st_base.specs.Faults.{Rose}
 use Rattle.st_base.specs.Records.{Rec}
+use Rattle.st_base.specs.Ticks.{Ticks}
 use Rattle.st_pcap.specs.declared.errors.PcapErr.{PcapErr}
 use Rattle.st_pcap.specs.Heads.{IsOfFileHead}
 use Rattle.st_pcap.specs.Input.{Input, End, Whole, Refused}
@@ -18,7 +19,7 @@ use Rattle.steno.specs.declared.status.Status.TheVariants.{Done, Usage, BadInput
 use Rattle.steno.specs.Jobs.{IsReply, IsJob, Leaves, IsSilent}
 use Rattle.steno.specs.Messages.{line_of, input_line}
 use Rattle.steno.specs.Plans.{IsPlan}
-use Rattle.steno.specs.Running.{plain_of, Writes, Finishes}
+use Rattle.steno.specs.Running.{plain_of, Writes, Finishes, AsksClock}
 
 -- what an ending leaves
 abbrev pub LeavesReply : Node → ℕ → List ℕ → Option (List ℕ) → Option (List ℕ) → Ending → Type 0
@@ -42,7 +43,7 @@ pub cut_leaves : (q : Node) (now : ℕ) (bytes : List ℕ) (rs : List Rec) (caus
     → Input bytes rs (Refused cause) → (IsOfFileHead cause → ⊥) → string_bytes text ≡ input_line cause
     → Writes q now rs old new (cut_of text) result → LeavesReply q now bytes old new result
 cut_leaves q now bytes rs cause text old new result h behind said (inl w) =
-    subst (LeavesReply q now bytes old new) (sym w.0) (w.1.0, (rs, cause, h, inr (behind, w.1.0, w.1.1), said), w.1.2)
+    subst (LeavesReply q now bytes old new) (sym w.0) (w.1.0, (rs, cause, h, inr (behind, w.1.1), said), w.1.2)
 cut_leaves q now bytes rs cause text old new result h behind said (inr (inl w)) =
     subst (LeavesReply q now bytes old new) (sym w.0) (w.1.0, BadInput, input_line cause, (rs, cause, h, inr (behind, w.1.1), refl), w.1.2, refl)
 cut_leaves q now bytes rs cause text old new result h behind said (inr (inr w)) = subst (LeavesReply q now bytes old new) (sym w.0) (w.1, refl)
@@ -97,8 +98,24 @@ completes words text q now bytes rs WriteFault message old new plan spelled whol
 completes words text q now bytes rs Usage message old new plan spelled whole read write h = absurd (h.1.0 text plan)
 completes words text q now bytes rs BadQuery message old new plan spelled whole read write (output, (other, e, asked, refused, empty, said), put) =
     absurd (not_both other q e (subst (λ t. Spells t q) (texts_same text other words plan asked) spelled) refused)
-completes words text q now bytes rs BadInput message old new plan spelled whole read write (output, (other, p, asked, said, (qs, cause, cut, reply)), put) =
+completes words text q now bytes rs BadInput message old new plan spelled whole read write (output, (other, p, asked, said, (qs, cause, cut, reply, line)), put) =
     absurd (whole_only bytes rs qs cause whole cut)
 completes words text q now bytes rs DiskFault message old new plan spelled whole read write (output, (other, p, asked, said, reply), put) = absurd reply
 completes words text q now bytes rs Damaged message old new plan spelled whole read write (output, (other, p, asked, said, reply), put) = absurd reply
 completes words text q now bytes rs StampsSpent message old new plan spelled whole read write (output, (other, p, asked, said, reply), put) = absurd reply
+
+pub differ : (b : Bool) → b ≡ true → b ≡ false → ⊥
+differ b h k = let bad : true ≡ false = sym h ∙ k in cc
+
+-- the clock was asked, by words that ask for something
+pub asks_clock : (old new : Option (List ℕ)) (status : Status) (now : ℕ) → status ≢ Usage → Ticks old new now → AsksClock old new status now
+asks_clock old new Usage now other h = absurd (other refl)
+asks_clock old new Done now other h = h
+asks_clock old new BadInput now other h = h
+asks_clock old new BadQuery now other h = h
+asks_clock old new ReadFault now other h = h
+asks_clock old new WriteFault now other h = h
+asks_clock old new DiskFault now other h = h
+asks_clock old new Damaged now other h = h
+asks_clock old new NoMemory now other h = h
+asks_clock old new StampsSpent now other h = h

@@ -51,5 +51,6 @@ by_times = record {
 } where
   backwards : (x y : Rec) → Earlier x y → Earlier y x → ⊥
   backwards x y h k = grind arith
+
   between : (x y z : Rec) → (Earlier x y → ⊥) → (Earlier y z → ⊥) → Earlier x z → ⊥
   between x y z h k g = grind arith

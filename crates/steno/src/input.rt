@@ -5,11 +5,10 @@ ghost use Rattle.st_base.specs.Faults.{Rose};
 ghost use Rattle.st_query.specs.Meaning.{Matches};
 ghost use Rattle.steno.specs.Selects.{Gathers, KeepsMatch};
 
-use std::alloc::Global;
-
 use st_base::{NoMemory, Octets, Record, Source};
 use st_pcap::{PcapErr, PcapReader};
 use st_query::{Query, matches};
+use std::alloc::Global;
 
 /// The records of an input that match, in its order, and how the input ended: Ok where a record
 /// would begin.

@@ -3,14 +3,12 @@
 
 ghost use Rattle.std.specs.Prelude.{◌≡◌};
 
-use std::io::{self, BufReader, BufWriter};
-use std::process::ExitCode;
-
-use st_base::{MachineClock, Sink, StreamSink, StreamSource};
-
 use crate::ending::plain;
 use crate::runner::{run, tell};
 use crate::status::{Status, code};
+use st_base::{MachineClock, Sink, StreamSink, StreamSource};
+use std::io::{self, BufReader, BufWriter};
+use std::process::ExitCode;
 
 mod ending;
 mod input;

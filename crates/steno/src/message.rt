@@ -3,13 +3,11 @@
 ghost use Rattle.std.specs.Prelude.{◌≡◌, ◌+◌, ◌/◌, ◌%◌, IfOk, string_bytes};
 ghost use Rattle.steno.specs.Messages.{status_line, query_line, input_line, line_of, hex_byte};
 
-use std::alloc::{AllocError, Global};
-
-use st_pcap::PcapErr;
-use st_query::QueryErr;
-
 use crate::ending::Ending;
 use crate::status::Status;
+use st_pcap::PcapErr;
+use st_query::QueryErr;
+use std::alloc::{AllocError, Global};
 
 /// The bytes of an ending's line.
 pub fn line_bytes(ending: &Ending) -> &[u8]
@@ -90,7 +88,9 @@ fn not_pcap_text(alloc: Global, found: u32) -> Result<String, AllocError>
     let second = hex_text(alloc, (found / 65_536 % 256) as u8)?;
     let third = hex_text(alloc, (found / 256 % 256) as u8)?;
     let fourth = hex_text(alloc, (found % 256) as u8)?;
-    format!(in alloc; "steno: input is not a pcap file, it begins with 0x{first}{second}{third}{fourth}\n")
+    format!(in alloc;
+        "steno: input is not a pcap file, it begins with 0x{first}{second}{third}{fourth}\n"
+    )
 }
 
 #[tactic(auto, using(std::proofs::lemmas::Fmt::hex_byte))]

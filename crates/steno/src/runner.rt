@@ -16,12 +16,6 @@ ghost use Rattle.steno.specs.Plans.{IsPlan};
 ghost use Rattle.steno.specs.Running.{Runs, Ends, Tells, Speaks, Writes, Finishes};
 ghost use Rattle.steno.specs.Selects.{Gathers, Selects};
 
-use std::alloc::Global;
-
-use st_base::{Clock, Record, Sink, Source, put};
-use st_pcap::PcapErr;
-use st_query::{Query, QueryErr, parse};
-
 use crate::ending::{Ending, plain};
 use crate::input::gather;
 use crate::message::{input_text, line_bytes, query_text};
@@ -29,6 +23,10 @@ use crate::order::sort_by_time;
 use crate::output::put_answer;
 use crate::status::{Ended, Status};
 use crate::words::query_word;
+use st_base::{Clock, Record, Sink, Source, put};
+use st_pcap::PcapErr;
+use st_query::{Query, QueryErr, parse};
+use std::alloc::Global;
 
 /// Does what the words after the program's name ask for: `once QUERY` writes to `out` the packets
 /// of the pcap in `input` that match, by time, as a pcap with times in microseconds.

@@ -16,12 +16,12 @@ records-init g c = record {
 pub records-preserved : goal.records-preserved
 records-preserved g c = record {
   kept = λ bytes told.
-    let before = c.records.invariant.kept bytes told in
-    let given = c.in-Ok-Some.ensures.gives bytes before.0 before.1 before.2 before.3 in
-    let more = subst (λ o. Gives bytes before.1 c.next_into.new.self (g.I.Source.left c.next_into.new.source) (Ok o)) c.in-Ok-Some.field-0-is given in
-    let matching = Matches c.args.query.now c.args.now in
-    let kept = c.in-Ok.ensures in
-    (more.0, before.1 ++ c.in-Ok-Some.packet ∷ [], more.1, more.2, selects-more matching before.1 c.records.kept.items c.keep.new.kept.items c.in-Ok-Some.packet before.4 kept);
+      let before = c.records.invariant.kept bytes told in
+      let given = c.in-Ok-Some.ensures.gives bytes before.0 before.1 before.2 before.3 in
+      let more = subst (λ o. Gives bytes before.1 c.next_into.new.self (g.I.Source.left c.next_into.new.source) (Ok o)) c.in-Ok-Some.field-0-is given in
+      let matching = Matches c.args.query.now c.args.now in
+      let kept = c.in-Ok.ensures in
+      (more.0, before.1 ++ c.in-Ok-Some.packet ∷ [], more.1, more.2, selects-more matching before.1 c.records.kept.items c.keep.new.kept.items c.in-Ok-Some.packet before.4 kept);
   going = λ e h. subst IsGoing h c.in-Ok-Some.ensures.goes;
   later = omega (arith, c.records.invariant.later, c.in-Ok-Some.ensures.cause.later);
   rest = c.in-Ok-Some.ensures.rest ∙ c.records.invariant.rest;
