@@ -27,6 +27,8 @@ mod laws;
 mod meaning;
 mod nodes;
 mod parser;
+#[cfg(test)]
+mod tests;
 mod words;
 
 pub use errors::QueryErr;

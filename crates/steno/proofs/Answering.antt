@@ -1,15 +1,15 @@
 -- A stable sort by time of the records that match is the answer.
-use Rattle.std.proofs.Common.{◌≡◌, ℕ, zero, suc, ◌+◌, ◌<◌, List, [], ◌∷◌, ◌++◌, length, map, Bool, true, false, cond, refl, sym, ap, subst, ◌∙◌, inl, inr, ◌⊎◌, ◌↔◌, arith, All, Contains, Option, Some, None, get_or}
+use Rattle.std.proofs.Common.{◌≡◌, ℕ, zero, suc, ◌+◌, ◌<◌, List, [], ◌∷◌, ◌++◌, map, Bool, true, false, cond, refl, sym, ap, subst, ◌∙◌, inl, inr, ◌⊎◌, arith, All, Contains, Some, None}
 use Rattle.std.specs.Prelude.{slice_get, ⊤}
 use Rattle.std.specs.List.{filter}
-use Rattle.std.specs.List.Sorted.{ties, IsSortedBy}
-use Rattle.std.proofs.lemmas.List.{map-append, append_assoc}
+use Rattle.std.specs.List.Sorted.{ties}
+use Rattle.std.proofs.lemmas.List.{map-append}
 use Rattle.std.proofs.lemmas.List.Elements.{filter-append, All-cons, All-head, All-tail, All-weaker, All-contains, All-contains_itself, Contains-append_cases, Contains-append_left, Contains-append_right}
 use Rattle.st_base.specs.Records.{Rec}
 use Rattle.st_query.specs.Answer.{Placed, Before, Rises}
 use Rattle.st_query.proofs.Risen.{head_in, tail_in, none_in, in_cases}
 use Rattle.steno.specs.Selects.{Selects}
-use Rattle.steno.proofs.TimeOrder.{earlier, Earlier, Same, earlier_then, tie_then, tie_from, no_tie}
+use Rattle.steno.proofs.TimeOrder.{earlier, Earlier, Same, tie_then, tie_from, no_tie}
 
 abbrev pub packet : Placed → Rec
 packet p = p.packet

@@ -1,8 +1,6 @@
 -- From an answer that was written to what a run leaves.
-use Rattle.std.proofs.Common.{◌≡◌, ◌≢◌, ◌⊎◌, ℕ, List, [], ◌∷◌, ◌++◌, Option, Some, None, String, Global, string_bytes, refl, sym, ap, subst, ◌∙◌, inl, inr, Bool, true, false}
-use Rattle.std.specs.Io.KnownBytes.{Keeps, Appends}
-use Rattle.std.proofs.KnownBytes.{Appends-nil, Keeps-refl}
-use Rattle.st_base.specs.Faults.{Rose}
+use Rattle.std.proofs.Common.{◌≡◌, ◌≢◌, ℕ, List, [], Option, Some, String, Global, string_bytes, refl, sym, subst, ◌∙◌, inl, inr, Bool, true, false}
+use Rattle.std.proofs.KnownBytes.{Appends-nil}
 use Rattle.st_base.specs.Records.{Rec}
 use Rattle.st_base.specs.Ticks.{Ticks}
 use Rattle.st_pcap.specs.declared.errors.PcapErr.{PcapErr}
@@ -16,10 +14,10 @@ use Rattle.st_query.proofs.Readings.{not_both}
 use Rattle.steno.specs.declared.ending.Ending.{Ending}
 use Rattle.steno.specs.declared.status.Status.{Status}
 use Rattle.steno.specs.declared.status.Status.TheVariants.{Done, Usage, BadInput, BadQuery, ReadFault, WriteFault, DiskFault, Damaged, NoMemory, StampsSpent}
-use Rattle.steno.specs.Jobs.{IsReply, IsJob, Leaves, IsSilent}
+use Rattle.steno.specs.Jobs.{IsReply, IsJob, Leaves}
 use Rattle.steno.specs.Messages.{line_of, input_line}
 use Rattle.steno.specs.Plans.{IsPlan}
-use Rattle.steno.specs.Running.{plain_of, Writes, Finishes, AsksClock}
+use Rattle.steno.specs.Running.{plain_of, Writes, AsksClock, EndsBy}
 
 -- what an ending leaves
 abbrev pub LeavesReply : Node → ℕ → List ℕ → Option (List ℕ) → Option (List ℕ) → Ending → Type 0
@@ -84,25 +82,33 @@ job_leaves words text q now bytes StampsSpent message old new plan spelled h = a
 texts_same : (a b : List ℕ) (words : List (List ℕ)) → IsPlan words a → IsPlan words b → a ≡ b
 texts_same a b words p r = cc
 
+-- what the words ask is not both spelled and refused
+pub apart : (text other : List ℕ) (q : Node) (e : QueryErr) (words : List (List ℕ)) → IsPlan words text → IsPlan words other → Spells text q → Refuses other e → ⊥
+apart text other q e words plan asked spelled refused = not_both other q e (subst (λ t. Spells t q) (texts_same text other words plan asked) spelled) refused
+
 whole_only : (bytes : List ℕ) (rs qs : List Rec) (cause : PcapErr) → Input bytes rs Whole → Input bytes qs (Refused cause) → ⊥
 whole_only bytes rs qs cause h k = let bad : Whole ≡ Refused cause = (one_input bytes rs qs Whole (Refused cause) h k).1 in cc
 
--- where the words ask a query, the input is whole and nothing fails, all is done, but for want of memory
-pub completes : (words : List (List ℕ)) (text : List ℕ) (q : Node) (now : ℕ) (bytes : List ℕ) (rs : List Rec) (status : Status) (message : List ℕ) (old new : Option (List ℕ))
-    → IsPlan words text → Spells text q → Input bytes rs Whole → (status ≡ ReadFault → ⊥) → (status ≡ WriteFault → ⊥)
-    → Leaves (IsJob words now bytes) status message old new → (status ≡ Done) ⊎ (status ≡ NoMemory)
-completes words text q now bytes rs Done message old new plan spelled whole read write h = inl refl
-completes words text q now bytes rs NoMemory message old new plan spelled whole read write h = inr refl
-completes words text q now bytes rs ReadFault message old new plan spelled whole read write h = absurd (read refl)
-completes words text q now bytes rs WriteFault message old new plan spelled whole read write h = absurd (write refl)
-completes words text q now bytes rs Usage message old new plan spelled whole read write h = absurd (h.1.0 text plan)
-completes words text q now bytes rs BadQuery message old new plan spelled whole read write (output, (other, e, asked, refused, empty, said), put) =
-    absurd (not_both other q e (subst (λ t. Spells t q) (texts_same text other words plan asked) spelled) refused)
-completes words text q now bytes rs BadInput message old new plan spelled whole read write (output, (other, p, asked, said, (qs, cause, cut, reply, line)), put) =
-    absurd (whole_only bytes rs qs cause whole cut)
-completes words text q now bytes rs DiskFault message old new plan spelled whole read write (output, (other, p, asked, said, reply), put) = absurd reply
-completes words text q now bytes rs Damaged message old new plan spelled whole read write (output, (other, p, asked, said, reply), put) = absurd reply
-completes words text q now bytes rs StampsSpent message old new plan spelled whole read write (output, (other, p, asked, said, reply), put) = absurd reply
+-- where the words ask a query and nothing fails, the input's end decides, but for want of memory
+pub completes : (words : List (List ℕ)) (text : List ℕ) (q : Node) (now : ℕ) (bytes : List ℕ) (rs : List Rec) (end : End) (status : Status) (message : List ℕ) (old new : Option (List ℕ))
+    → IsPlan words text → Spells text q → Input bytes rs end → (status ≡ ReadFault → ⊥) → (status ≡ WriteFault → ⊥)
+    → Leaves (IsJob words now bytes) status message old new → EndsBy end status
+completes words text q now bytes rs Whole Done message old new plan spelled given read write h = inl refl
+completes words text q now bytes rs (Refused cause) BadInput message old new plan spelled given read write h = inl refl
+completes words text q now bytes rs Whole BadInput message old new plan spelled given read write (output, (other, p, asked, said, (qs, cause, cut, reply, line)), put) =
+    absurd (whole_only bytes rs qs cause given cut)
+completes words text q now bytes rs (Refused cause) Done message old new plan spelled given read write (output, (other, p, asked, said, (qs, whole, reply, line)), put) =
+    absurd (whole_only bytes qs rs cause whole given)
+completes words text q now bytes rs Whole NoMemory message old new plan spelled given read write h = inr refl
+completes words text q now bytes rs (Refused cause) NoMemory message old new plan spelled given read write h = inr refl
+completes words text q now bytes rs end ReadFault message old new plan spelled given read write h = absurd (read refl)
+completes words text q now bytes rs end WriteFault message old new plan spelled given read write h = absurd (write refl)
+completes words text q now bytes rs end Usage message old new plan spelled given read write h = absurd (h.1.0 text plan)
+completes words text q now bytes rs end BadQuery message old new plan spelled given read write (output, (other, e, asked, refused, empty, said), put) =
+    absurd (apart text other q e words plan asked spelled refused)
+completes words text q now bytes rs end DiskFault message old new plan spelled given read write (output, (other, p, asked, said, reply), put) = absurd reply
+completes words text q now bytes rs end Damaged message old new plan spelled given read write (output, (other, p, asked, said, reply), put) = absurd reply
+completes words text q now bytes rs end StampsSpent message old new plan spelled given read write (output, (other, p, asked, said, reply), put) = absurd reply
 
 pub differ : (b : Bool) → b ≡ true → b ≡ false → ⊥
 differ b h k = let bad : true ≡ false = sym h ∙ k in cc

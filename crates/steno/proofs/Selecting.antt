@@ -1,5 +1,5 @@
 -- Records are selected one after the other.
-use Rattle.std.proofs.Common.{◌≡◌, List, [], ◌∷◌, ◌++◌, refl, sym, ap, ◌∙◌, inl, inr, ◌⊎◌}
+use Rattle.std.proofs.Common.{List, [], ◌∷◌, ◌++◌, refl, ap, inl, inr}
 use Rattle.st_base.specs.Records.{Rec}
 use Rattle.steno.specs.Selects.{Selects, KeepsMatch}
 

@@ -1,16 +1,15 @@
 -- What std says of its stable sort makes the answer.
-use Rattle.std.proofs.Common.{◌≡◌, ℕ, zero, suc, ◌+◌, ◌<◌, ◌≤◌, List, [], ◌∷◌, length, get_or, Bool, true, false, refl, sym, ap, subst, ◌∙◌, arith, All, Contains, map, Some}
-use Rattle.std.specs.Cmp.{IsStrictWeakOrder}
+use Rattle.std.proofs.Common.{◌≡◌, ℕ, suc, ◌+◌, List, [], ◌∷◌, get_or, false, sym, ap, subst, ◌∙◌, arith, Some}
 use Rattle.std.specs.Prelude.{slice_get}
 use Rattle.std.specs.List.{filter}
 use Rattle.std.specs.List.Sorted.{ties, IsSortedBy, IsStableBy}
 use Rattle.std.proofs.lemmas.List.Sorted.{sorted_far}
 use Rattle.st_base.specs.Records.{Rec}
 use Rattle.st_query.specs.declared.nodes.Node.{Node}
-use Rattle.st_query.specs.Answer.{Placed, IsAnswer, AnswerOf}
+use Rattle.st_query.specs.Answer.{AnswerOf}
 use Rattle.st_query.specs.Meaning.{Matches}
 use Rattle.steno.specs.Selects.{Selects}
-use Rattle.steno.proofs.Answering.{packets, InOrder, NoneEarlier, Placement, placement, Ordered, ordered, Stable}
+use Rattle.steno.proofs.Answering.{InOrder, placement, ordered, Stable}
 use Rattle.steno.proofs.TimeOrder.{earlier, by_times}
 
 pub in_order : (ys : List Rec) → IsSortedBy earlier ys → InOrder ys

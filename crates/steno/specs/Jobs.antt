@@ -1,10 +1,8 @@
 -- What a run of `once` is asked for, and what it leaves.
-use Rattle.std.specs.Prelude.{◌≡◌, ◌≢◌, ◌⊎◌, ℕ, List, [], map, Option}
+use Rattle.std.specs.Prelude.{◌≡◌, ◌⊎◌, ℕ, List, [], Option}
 use Rattle.std.specs.Io.KnownBytes.{Keeps, Appends}
-use Rattle.st_base.specs.Faults.{Rose}
 use Rattle.st_base.specs.Pieces.{AppendsFront}
 use Rattle.st_base.specs.Records.{Rec}
-use Rattle.st_base.specs.Ticks.{Ticks}
 use Rattle.st_pcap.specs.declared.errors.PcapErr.{PcapErr}
 use Rattle.st_pcap.specs.declared.forms.Unit.TheVariants.{Micro}
 use Rattle.st_pcap.specs.Heads.{IsOfFileHead}
@@ -15,7 +13,7 @@ use Rattle.st_query.specs.declared.nodes.Node.{Node}
 use Rattle.st_query.specs.Answer.{AnswerOf}
 use Rattle.st_query.specs.Spelling.{Spells, Refuses}
 use Rattle.steno.specs.declared.status.Status.{Status}
-use Rattle.steno.specs.declared.status.Status.TheVariants.{Done, Usage, BadInput, BadQuery, ReadFault, WriteFault, DiskFault, Damaged, NoMemory, StampsSpent}
+use Rattle.steno.specs.declared.status.Status.TheVariants.{Done, Usage, BadInput, BadQuery, ReadFault, WriteFault, NoMemory}
 use Rattle.steno.specs.Messages.{status_line, query_line, input_line}
 use Rattle.steno.specs.Plans.{IsPlan}
 
@@ -53,10 +51,3 @@ Leaves job NoMemory message old new = Keeps old new × (message ≡ status_line 
 Leaves job WriteFault message old new =
     (output : List ℕ) × (status : Status) × (silenced : List ℕ) × job output status silenced × AppendsFront old new output × (message ≡ status_line WriteFault)
 Leaves job status message old new = (output : List ℕ) × job output status message × Appends old new output
-
--- ways to end in which nothing is written
-abbrev pub IsSilent : Status → Type 0
-IsSilent Done = ⊥
-IsSilent BadInput = ⊥
-IsSilent WriteFault = ⊥
-IsSilent status = Unit {0}

@@ -5,14 +5,17 @@ use Rattle.st_base.specs.Faults.{Rose}
 use Rattle.st_base.specs.Pieces.{AppendsFront}
 use Rattle.st_base.specs.Records.{Rec}
 use Rattle.st_base.specs.Ticks.{Ticks}
+use Rattle.st_pcap.specs.Input.{End, Whole, Refused}
 use Rattle.st_query.specs.declared.errors.QueryErr.{QueryErr}
 use Rattle.st_query.specs.declared.errors.QueryErr.TheVariants as refusal
 use Rattle.st_query.specs.declared.nodes.Node.{Node}
+use Rattle.st_query.specs.Spelling.{Refuses}
 use Rattle.steno.specs.declared.ending.Ending.{Ending}
 use Rattle.steno.specs.declared.status.Status.{Status}
-use Rattle.steno.specs.declared.status.Status.TheVariants.{Usage, BadQuery, WriteFault, NoMemory}
+use Rattle.steno.specs.declared.status.Status.TheVariants.{Done, Usage, BadInput, BadQuery, ReadFault, WriteFault, NoMemory}
 use Rattle.steno.specs.Jobs.{IsAnswered, IsJob, Leaves}
 use Rattle.steno.specs.Messages.{line_of, query_line}
+use Rattle.steno.specs.Plans.{IsPlan}
 
 -- the message stands behind what was there, or a front of it where the count of faults rose
 abbrev pub Tells : Option (List ℕ) → Option (List ℕ) → ℕ → ℕ → List ℕ → Type 0
@@ -33,6 +36,40 @@ abbrev pub Runs : List (List ℕ) → Option (List ℕ) → Option (List ℕ) �
     → Option (List ℕ) → Option (List ℕ) → ℕ → ℕ → Status → Type 0
 Runs words clock ticked bytes old new err told before after status =
     (message : List ℕ) × Ends words clock ticked bytes old new status message × Tells err told before after message
+
+-- A query is refused only where the words ask one that is, and where they do, all else comes only
+-- for want of memory.
+pub record HasQueryCause (words : List (List ℕ)) (status : Status) : Type 0 where
+  pub refused : status ≡ BadQuery → (text : List ℕ) × (e : QueryErr) × IsPlan words text × Refuses text e
+  pub exact : (text : List ℕ) (e : QueryErr) → IsPlan words text → Refuses text e → (status ≡ BadQuery) ⊎ (status ≡ NoMemory)
+
+-- a fault of the input or of the output comes only where its count rose
+pub record HasFaultCause (before after old new : ℕ) (status : Status) : Type 0 where
+  pub read : status ≡ ReadFault → Rose before after
+  pub write : status ≡ WriteFault → Rose old new
+
+-- neither count rose
+pub record NoneRose (before after old new : ℕ) : Type 0 where
+  pub read : Rose before after → ⊥
+  pub write : Rose old new → ⊥
+
+-- over an input with this end all is done, or the input is refused; else memory was wanting
+abbrev pub EndsBy : End → Status → Type 0
+EndsBy Whole status = (status ≡ Done) ⊎ (status ≡ NoMemory)
+EndsBy (Refused cause) status = (status ≡ BadInput) ⊎ (status ≡ NoMemory)
+
+-- ways to end in which nothing is written
+abbrev pub IsSilent : Status → Type 0
+IsSilent Done = ⊥
+IsSilent BadInput = ⊥
+IsSilent WriteFault = ⊥
+IsSilent status = Unit {0}
+
+-- ways to end in which the input is not touched
+abbrev pub IsUnread : Status → Type 0
+IsUnread Usage = Unit {0}
+IsUnread BadQuery = Unit {0}
+IsUnread status = ⊥
 
 -- the ending whose line its status says
 abbrev pub plain_of : Status → Ending

@@ -1,4 +1,30 @@
 //! steno: answers a query over captured packets, as a program.
+//!
+//! Its one command is `once QUERY`: it reads a pcap on standard input and writes those of its packets
+//! that match, by second, nanosecond and place, as a pcap with times in microseconds. A run ends by
+//! a status, whose number the process ends with, and by a line on standard error where it isn't 0:
+//! docs/FORMAT.md, "Statuses" and "Messages".
+//!
+//! # What it promises
+//!
+//! `run` says, over any streams and clock, by the words and the input's bytes:
+//!
+//! - What each way to end leaves at the output and as the message (`job`). The answer is the one
+//!   list of the input's records that rises strictly by second, nanosecond and place, and whose
+//!   members are exactly those that match.
+//! - When each way to end comes (`usage`, `query`, `fault`, `complete`). Want of memory alone may
+//!   come at any time.
+//! - Where nothing is written, and where the input is not even touched (`silent`, `unread`).
+//!
+//! # What it leaves to others
+//!
+//! What real streams give and take is not said: `main` makes them, with buffers, and takes a flush
+//! that fails after the run for a fault of the output.
+//!
+//! # Where to read
+//!
+//! `specs/Plans.antt`, `specs/Jobs.antt` and `specs/Messages.antt` say what is asked for and left;
+//! `specs/Running.antt` what the calls ensure. Then `runner`, and below it `input`, `order`, `output`.
 #![tactic(auto)]
 
 ghost use Rattle.std.specs.Prelude.{◌≡◌};
@@ -17,6 +43,8 @@ mod order;
 mod output;
 mod runner;
 mod status;
+#[cfg(test)]
+mod tests;
 mod words;
 
 /// The room of the buffers of standard input and output, in bytes.

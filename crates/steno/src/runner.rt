@@ -1,19 +1,18 @@
 //! A run of the program, over whatever its streams and clock are.
 
-ghost use Rattle.std.specs.Prelude.{◌≡◌, ◌⊎◌, ◌≢◌, ℕ, List, Some, Err, Result, map, string_bytes};
+ghost use Rattle.std.specs.Prelude.{◌≡◌, ◌≢◌, ◌↔◌, ℕ, List, Some, Err, Result, map, string_bytes};
 ghost use Rattle.std.specs.Io.KnownBytes.{Keeps};
 ghost use Rattle.st_base.specs.Faults.{Rose};
 ghost use Rattle.st_base.specs.Records.{Rec};
-ghost use Rattle.st_pcap.specs.Input.{Input, Whole};
+ghost use Rattle.st_pcap.specs.Input.{Input, End};
 ghost use Rattle.st_pcap.specs.Reading.{IsOutside};
-ghost use Rattle.st_query.specs.declared.errors.QueryErr.{QueryErr as QueryRefusal};
 ghost use Rattle.st_query.specs.declared.nodes.Node.{Node};
 ghost use Rattle.st_query.specs.Meaning.{Matches};
-ghost use Rattle.st_query.specs.Spelling.{Spells, Refuses};
-ghost use Rattle.steno.specs.Jobs.{IsReply, Leaves, IsSilent};
+ghost use Rattle.st_query.specs.Spelling.{Spells};
+ghost use Rattle.steno.specs.Jobs.{IsReply, Leaves};
 ghost use Rattle.steno.specs.Messages.{line_of};
 ghost use Rattle.steno.specs.Plans.{IsPlan};
-ghost use Rattle.steno.specs.Running.{Runs, Ends, Tells, Speaks, Writes, Finishes};
+ghost use Rattle.steno.specs.Running.{Runs, Ends, Tells, Speaks, Writes, Finishes, HasQueryCause, HasFaultCause, NoneRose, EndsBy, IsSilent, IsUnread};
 ghost use Rattle.steno.specs.Selects.{Gathers, Selects};
 
 use crate::ending::{Ending, plain};
@@ -46,15 +45,15 @@ pub fn run<I: Source, O: Sink, E: Sink, C: Clock>(
     // What it was asked for, over an input that tells its bytes.
     ensures job { (bytes : List ℕ) → I.left input.old ≡ Some bytes → Runs (map string_bytes words.now) (C.to_come clock.old) (C.to_come clock.new) bytes (O.written out.old) (O.written out.new) (E.written err.old) (E.written err.new) (E.faults err.old) (E.faults err.new) result.status }
 
-    // The causes, whatever the input tells.
-    ensures usage { (result.status ≡ Status.Usage → (text : List ℕ) → IsPlan (map string_bytes words.now) text → ⊥) × (((text : List ℕ) → IsPlan (map string_bytes words.now) text → ⊥) → result.status ≡ Status.Usage) }
-    ensures query { result.status ≡ Status.BadQuery → (text : List ℕ) × (e : QueryRefusal) × IsPlan (map string_bytes words.now) text × Refuses text e }
-    ensures read { result.status ≡ Status.ReadFault → Rose (I.faults input.old) (I.faults input.new) }
-    ensures write { result.status ≡ Status.WriteFault → Rose (O.faults out.old) (O.faults out.new) }
-    ensures complete { (text bytes : List ℕ) (q : Node) (rs : List Rec) → IsPlan (map string_bytes words.now) text → Spells text q → I.left input.old ≡ Some bytes → Input bytes rs Whole → (Rose (I.faults input.old) (I.faults input.new) → ⊥) → (Rose (O.faults out.old) (O.faults out.new) → ⊥) → (result.status ≡ Status.Done) ⊎ (result.status ≡ Status.NoMemory) }
+    // The causes.
+    ensures usage { (result.status ≡ Status.Usage) ↔ ((text : List ℕ) → IsPlan (map string_bytes words.now) text → ⊥) }
+    ensures query { HasQueryCause (map string_bytes words.now) result.status }
+    ensures fault { HasFaultCause (I.faults input.old) (I.faults input.new) (O.faults out.old) (O.faults out.new) result.status }
+    ensures complete { (text bytes : List ℕ) (q : Node) (rs : List Rec) (end : End) → IsPlan (map string_bytes words.now) text → Spells text q → I.left input.old ≡ Some bytes → Input bytes rs end → NoneRose (I.faults input.old) (I.faults input.new) (O.faults out.old) (O.faults out.new) → EndsBy end result.status }
 
-    // What it leaves as it was.
+    // What stays as it was.
     ensures silent { IsSilent result.status → Keeps (O.written out.old) (O.written out.new) }
+    ensures unread { IsUnread result.status → input.new ≡ input.old }
     ensures rest { (I.beside input.new ≡ I.beside input.old) × (O.beside out.new ≡ O.beside out.old) × (E.beside err.new ≡ E.beside err.old) }
 {
     let ending = once(alloc, words, input, out, clock);
@@ -81,11 +80,11 @@ fn once<I: Source, O: Sink, C: Clock>(
     clock: &mut C,
 ) -> Ending
     ensures job { (bytes : List ℕ) → I.left input.old ≡ Some bytes → Ends (map string_bytes words.now) (C.to_come clock.old) (C.to_come clock.new) bytes (O.written out.old) (O.written out.new) result.status (line_of result) }
-    ensures query { result.status ≡ Status.BadQuery → (text : List ℕ) × (e : QueryRefusal) × IsPlan (map string_bytes words.now) text × Refuses text e }
-    ensures usage { (result.status ≡ Status.Usage → (text : List ℕ) → IsPlan (map string_bytes words.now) text → ⊥) × (((text : List ℕ) → IsPlan (map string_bytes words.now) text → ⊥) → result.status ≡ Status.Usage) }
-    ensures read { result.status ≡ Status.ReadFault → Rose (I.faults input.old) (I.faults input.new) }
-    ensures write { result.status ≡ Status.WriteFault → Rose (O.faults out.old) (O.faults out.new) }
+    ensures usage { (result.status ≡ Status.Usage) ↔ ((text : List ℕ) → IsPlan (map string_bytes words.now) text → ⊥) }
+    ensures query { HasQueryCause (map string_bytes words.now) result.status }
+    ensures fault { HasFaultCause (I.faults input.old) (I.faults input.new) (O.faults out.old) (O.faults out.new) result.status }
     ensures silent { IsSilent result.status → Keeps (O.written out.old) (O.written out.new) }
+    ensures unread { IsUnread result.status → input.new ≡ input.old }
     ensures rest { (I.beside input.new ≡ I.beside input.old) × (O.beside out.new ≡ O.beside out.old) }
 {
     let Some(text) = query_word(words) else {
@@ -124,8 +123,7 @@ fn answer<I: Source, O: Sink>(
 ) -> Ending
     ensures job { (bytes : List ℕ) → I.left input.old ≡ Some bytes → Leaves (IsReply query.now now bytes) result.status (line_of result) (O.written out.old) (O.written out.new) }
     ensures asked { (result.status ≢ Status.Usage) × (result.status ≢ Status.BadQuery) }
-    ensures read { result.status ≡ Status.ReadFault → Rose (I.faults input.old) (I.faults input.new) }
-    ensures write { result.status ≡ Status.WriteFault → Rose (O.faults out.old) (O.faults out.new) }
+    ensures fault { HasFaultCause (I.faults input.old) (I.faults input.new) (O.faults out.old) (O.faults out.new) result.status }
     ensures silent { IsSilent result.status → Keeps (O.written out.old) (O.written out.new) }
     ensures rest { (I.beside input.new ≡ I.beside input.old) × (O.beside out.new ≡ O.beside out.old) }
 {

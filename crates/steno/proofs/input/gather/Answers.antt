@@ -1,6 +1,6 @@
-use Rattle.std.proofs.Common.{◌≡◌, List, [], ◌∷◌, ◌++◌, Ok, refl, sym, ap, subst, ◌∙◌, inl, inr, arith}
+use Rattle.std.proofs.Common.{◌≡◌, [], ◌∷◌, ◌++◌, Ok, refl, sym, ap, subst, ◌∙◌, inl, inr, arith}
 use Rattle.st_pcap.specs.declared.reader.Phase.TheVariants.{Fresh, Stopped}
-use Rattle.st_pcap.specs.Reading.{Progress, Stands, Gives, IsGoing, fresh}
+use Rattle.st_pcap.specs.Reading.{Progress, Stands, Gives, IsGoing}
 use Rattle.st_query.specs.Meaning.{Matches}
 use Rattle.steno.proofs.Selecting.{selects-more}
 use Rattle.steno.proofs.input.gather.Goals as goal

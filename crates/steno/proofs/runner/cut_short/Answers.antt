@@ -1,4 +1,4 @@
-use Rattle.std.proofs.Common.{inl, inr, sym, ◌∙◌, ◌≡◌, true, false}
+use Rattle.std.proofs.Common.{inl, inr}
 use Rattle.steno.proofs.Replying.{head_leaves, cut_leaves, differ}
 use Rattle.steno.proofs.runner.cut_short.Goals as goal
 

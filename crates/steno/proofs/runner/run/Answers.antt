@@ -7,7 +7,7 @@ pub returns-clause-job : goal.returns-clause-job
 returns-clause-job g c = λ bytes told. (line_of c.once-ending.result, c.once-ending.ensures.job bytes told, c.tell.ensures.line)
 
 pub returns-clause-complete : goal.returns-clause-complete
-returns-clause-complete g c = λ text bytes q rs plan spelled told whole read write.
+returns-clause-complete g c = λ text bytes q rs end plan spelled told given none.
     let ended = c.once-ending.ensures.job bytes told in
-    completes (map string_bytes c.args.words.now) text q ended.0 bytes rs c.once-ending.result.status (line_of c.once-ending.result) _ _ plan spelled whole
-    (λ fault. read (c.once-ending.ensures.read fault)) (λ fault. write (c.once-ending.ensures.write fault)) ended.2
+    completes (map string_bytes c.args.words.now) text q ended.0 bytes rs end c.once-ending.result.status (line_of c.once-ending.result) _ _ plan spelled given
+    (λ fault. none.read (c.once-ending.ensures.fault.read fault)) (λ fault. none.write (c.once-ending.ensures.fault.write fault)) ended.2
