@@ -1,8 +1,6 @@
-use std::test::Fail;
-
-use st_base::{Octets, Record};
-
 use crate::{Node, QueryErr, matches, one_answer, one_reading, parse};
+use st_base::{Octets, Record};
+use std::test::Fail;
 
 // UDP from 10.0.0.1 port 12345 to 10.0.0.2 port 53, written down by hand.
 const DNS: &[u8] = &[
@@ -28,7 +26,10 @@ fn a_port_is_read_and_asked(rt: HostRuntime) -> Result<(), Fail> {
         assert_eq!(rt; matches(&query, 0, packet.lend()), found);
     }
     for text in ["", "port", "port53", "port 65536", "port 5 3", "Port 53"] {
-        assert_eq!(rt; parse(alloc, text.as_bytes()).err(), Some(QueryErr::Syntax { place: 0 }));
+        assert_eq!(rt;
+            parse(alloc, text.as_bytes()).err(),
+            Some(QueryErr::Syntax { place: 0 })
+        );
     }
     Ok(())
 }
