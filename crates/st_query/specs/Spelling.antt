@@ -1,61 +1,65 @@
--- What a text spells, and how a text is refused.
-use Rattle.std.specs.Prelude.{◌≡◌, ◌≤◌, ◌<◌, ◌==◌, ◌||◌, ◌++◌, ℕ, Bool, List, [], ◌∷◌, length, drop, IsTrue, IsFalse, ⊤, codes}
-use Rattle.std.specs.List.{list_all, prefix_len}
+-- Which query a text spells, and how a text is refused.
+use Rattle.std.specs.Prelude.{◌≡◌, ℕ, ◌+◌, ◌≤◌, ◌<◌, List, [], ◌∷◌, ◌++◌, length, Some, None, ◌⊎◌}
+use Rattle.st_query.specs.declared.tokens.Token.{Token}
 use Rattle.st_query.specs.declared.errors.QueryErr.{QueryErr}
-use Rattle.st_query.specs.declared.errors.QueryErr.TheVariants.{Syntax, Long}
+use Rattle.st_query.specs.declared.errors.QueryErr.TheVariants.{Syntax, Number, Address, Time, Deep, Long, NoMemory}
+use Rattle.st_query.specs.declared.grammar.Kind.{Kind}
+use Rattle.st_query.specs.declared.grammar.Kind.TheVariants as kind
 use Rattle.st_query.specs.declared.nodes.Node.{Node}
-use Rattle.st_query.specs.Words.{IsNumber}
-use Rattle.st_query.specs.declared.nodes.Node.TheVariants.{Port}
+use Rattle.st_query.specs.Tokens.{IsBlank, IsPiece}
+use Rattle.st_query.specs.Trees.{Tree, tree}
+use Rattle.st_query.specs.Grammar.{Query, CanGoOn, HasKind}
 
--- space, tab, carriage return and line feed
-abbrev pub is_blank : ℕ → Bool
-is_blank b = (b == 32) || (b == 9) || (b == 13) || (b == 10)
+-- the text begins with these tokens, each behind white space or none, and goes on with the rest
+abbrev pub Starts : List ℕ → List Token → List ℕ → Type 0
+Starts text [] rest = text ≡ rest
+Starts text (t ∷ ts) rest =
+    (gap : List ℕ) × (piece : List ℕ) × (more : List ℕ) × (text ≡ gap ++ (piece ++ more)) × IsBlank gap
+    × IsPiece t piece more × Starts more ts rest
 
--- white space alone, or nothing
-abbrev pub IsBlank : List ℕ → Type 0
-IsBlank bytes = IsTrue (list_all is_blank bytes)
+-- the text's tokens are this query
+abbrev pub IsSpelled : List ℕ → Tree → Type 0
+IsSpelled text q =
+    (ts : List Token) × (rest : List ℕ) × Starts text ts rest × IsBlank rest × Query 0 ts q
 
--- a port's number: 1 to 10 decimal digits, of a value of at most 65535
-abbrev pub IsPortNumber : List ℕ → ℕ → Type 0
-IsPortNumber word n = IsNumber 10 word n × (n ≤ 65535)
+-- behind the tokens that may still become a query, the rest of the text begins with a token that no
+-- query has there
+pub record StopsAt (ts : List Token) (rest : List ℕ) (left : ℕ) (k : Kind) : Type 0 where
+  pub gap : List ℕ
+  pub piece : List ℕ
+  pub more : List ℕ
+  pub token : Token
+  pub split : rest ≡ gap ++ (piece ++ more)
+  pub blank : IsBlank gap
+  pub is_piece : IsPiece token piece more
+  pub place : left ≡ length piece + length more
+  pub stops : CanGoOn (ts ++ token ∷ []) → ⊥
+  pub has_kind : HasKind ts (Some token) k
 
--- without the white space that stands in front
-abbrev pub skipped : List ℕ → List ℕ
-skipped bytes = drop (prefix_len is_blank bytes) bytes
+-- only white space is left, and the tokens are no query yet
+pub record EndsAt (ts : List Token) (rest : List ℕ) (left : ℕ) (k : Kind) : Type 0 where
+  pub blank : IsBlank rest
+  pub place : left ≡ 0
+  pub unfinished : (q : Tree) → Query 0 ts q → ⊥
+  pub has_kind : HasKind ts None k
 
--- no white space comes first
-abbrev pub IsTight : List ℕ → Type 0
-IsTight [] = ⊤
-IsTight (b ∷ bytes) = IsFalse (is_blank b)
-
--- behind white space, the word `port` and more white space stands this
-pub record BehindPort (text words : List ℕ) : Type 0 where
-  pub before : List ℕ
-  pub between : List ℕ
-  pub whole : text ≡ before ++ (codes "port" ++ (between ++ words))
-  pub blank_before : IsBlank before
-  pub blank_between : IsBlank between
-  pub apart : 0 < length between
-  pub tight : IsTight words
-
--- one number, and then white space alone
-pub record IsOneNumber (words : List ℕ) (n : ℕ) : Type 0 where
-  pub word : List ℕ
-  pub behind : List ℕ
-  pub whole : words ≡ word ++ behind
-  pub number : IsPortNumber word n
-  pub blank_behind : IsBlank behind
-
--- the word `port` and a number, with white space between them and maybe around them
-abbrev pub IsPort : List ℕ → ℕ → Type 0
-IsPort text n = (words : List ℕ) × BehindPort text words × IsOneNumber words n
+-- the first token that no further tokens mend, or the end of the text, is at this place
+abbrev pub IsRefused : List ℕ → ℕ → Kind → Type 0
+IsRefused text place k =
+    (length text ≤ 4096)
+    × ((ts : List Token) × (rest : List ℕ) × (left : ℕ) × Starts text ts rest × CanGoOn ts
+    × (place + left ≡ length text) × (StopsAt ts rest left k ⊎ EndsAt ts rest left k))
 
 -- the text spells the query
 abbrev pub Spells : List ℕ → Node → Type 0
-Spells text (Port n) = (length text ≤ 4096) × IsPort text n
+Spells text q = (length text ≤ 4096) × IsSpelled text (tree q)
 
--- the text is refused with this kind and place
+-- the text is refused with this kind and place, or as too long
 abbrev pub Refuses : List ℕ → QueryErr → Type 0
+Refuses text (Syntax place) = IsRefused text place kind.Syntax
+Refuses text (Number place) = IsRefused text place kind.Number
+Refuses text (Address place) = IsRefused text place kind.Address
+Refuses text (Time place) = IsRefused text place kind.Time
+Refuses text (Deep place) = IsRefused text place kind.Deep
 Refuses text (Long len) = (4096 < length text) × (len ≡ length text)
-Refuses text (Syntax place) = (length text ≤ 4096) × (place ≡ 0) × ((q : Node) → Spells text q → ⊥)
-Refuses text e = ⊥
+Refuses text NoMemory = ⊥

@@ -1,14 +1,20 @@
-//! The query language: a text is read as a query, and a query says which packets it matches.
+//! The query language: a text is read as a query, printed again, and says which packets it matches.
 //!
-//! A query text is bytes, at most 4,096 of them. So far the language has one form, `port NUM`:
-//! docs/FORMAT.md, "Query language". A refusal has its kind and its place, an offset in the text in
-//! bytes.
+//! A text is bytes, at most 4,096 of them, with at most 64 parentheses open at once. The language is
+//! that of Stenographer's README in this project's profile: docs/QUERY.md. A refusal has its kind
+//! and its place, an offset in the text in bytes. Times are seconds since 1970.
 //!
 //! # What it promises
 //!
-//! - A text is read as the query that it spells, or refused as the definition refuses it (`parse`).
-//! - No text is both spelled and refused, and none spells two queries (`one_reading`).
-//! - A query matches exactly the packets of its meaning, at a clock's `now` (`matches`).
+//! - A text is read as the query that it spells, or refused with the kind and place that the
+//!   grammar gives (`parse`).
+//! - A text spells one query at most, has one refusal at most, and not both (`one_reading`).
+//! - The printed form is exact, and spells the query again where it has at most 4,096 bytes
+//!   (`print`).
+//! - A query matches exactly the packets of its meaning, at a clock's `now` (`matches`). It takes
+//!   no memory.
+//! - A query's numbers are in their ranges, its nets have no host bits, and its printed form opens
+//!   at most 64 parentheses at once (`Query::node`).
 //! - A list of records has one answer to a query at most (`one_answer`).
 //!
 //! # What it leaves to others
@@ -17,22 +23,31 @@
 //!
 //! # Where to read
 //!
-//! `specs/Spelling.antt` says what a text spells and how one is refused, `specs/Meaning.antt` what a
-//! query matches, and `specs/Answer.antt` what the answer over a list of records is. Then `nodes`,
-//! `parser`, `meaning`.
+//! `specs/Words.antt` and `specs/Times.antt` say what one word stands for, `specs/Tokens.antt` what
+//! a text's tokens are, and `specs/Grammar.antt` which tokens make a query. `specs/Spelling.antt`
+//! joins them: what a text spells and how one is refused. `specs/Meaning.antt` says what a query
+//! matches, `specs/Printing.antt` its printed form, and `specs/Answer.antt` what the answer over a
+//! list of records is. Then `parser`, `grammar`, `lexer`, `words`, `times`.
 #![tactic(auto)]
 
+mod addrs;
 mod errors;
+mod grammar;
 mod laws;
+mod lexer;
 mod meaning;
 mod nodes;
 mod parser;
-#[cfg(test)]
-mod tests;
+mod printer;
+mod times;
+mod tokens;
+mod word_text;
 mod words;
 
+pub use addrs::Addr;
 pub use errors::QueryErr;
 pub use laws::{one_answer, one_reading};
 pub use meaning::matches;
-pub use nodes::{Node, Query};
+pub use nodes::{Node, Query, When};
 pub use parser::parse;
+pub use printer::print;

@@ -1,14 +1,86 @@
-//! A query as it is kept.
+//! A query as its tree.
+ghost use Rattle.std.specs.Prelude.{◌≡◌, IfOk, if◌then◌else◌};
+ghost use Rattle.st_query.specs.Trees.{tree, both, either, one};
 
-ghost use Rattle.std.specs.Prelude.{◌≡◌};
-
+use crate::addrs::Addr;
+use sqlite_items::Boxed;
+use std::alloc::{AllocError, Global};
 use std::marker::Model;
 
-/// A query, or a part of one.
-#[derive(Debug, PartialEq, Eq, Drop)]
-pub enum Node {
-    /// The packet has this port, as its source's or its destination's.
+/// A moment: a second since 1970, or so many hours or minutes before the clock's second.
+#[derive(Clone, Copy)]
+pub enum When {
+    At(i64),
+    Ago { count: u32, hours: bool },
+}
+
+/// A query that is not joined from others.
+#[derive(Clone, Copy)]
+pub enum Primitive {
+    Host(Addr),
+    Net { addr: Addr, bits: u8 },
     Port(u16),
+    Proto(u8),
+    Vlan(u16),
+    Mpls(u32),
+    Before(When),
+    After(When),
+}
+
+/// A query, or a part of one.
+///
+/// `Net` has its first `bits` bits in `addr`, and zeros behind them. A `vlan` is below 2^12, an
+/// `mpls` label below 2^20.
+#[derive(Drop)]
+pub enum Node {
+    And {
+        left: Boxed<Node>,
+        right: Boxed<Node>,
+    },
+    Or {
+        left: Boxed<Node>,
+        right: Boxed<Node>,
+    },
+    Host(Addr),
+    Net {
+        addr: Addr,
+        bits: u8,
+    },
+    Port(u16),
+    Proto(u8),
+    Vlan(u16),
+    Mpls(u32),
+    Before(When),
+    After(When),
+}
+
+/// The node of a primitive.
+pub fn node_of(primitive: Primitive) -> Node
+    ensures { tree result ≡ one primitive }
+{
+    match primitive {
+        Primitive::Host(addr) => Node::Host(addr),
+        Primitive::Net { addr, bits } => Node::Net { addr, bits },
+        Primitive::Port(port) => Node::Port(port),
+        Primitive::Proto(proto) => Node::Proto(proto),
+        Primitive::Vlan(tag) => Node::Vlan(tag),
+        Primitive::Mpls(label) => Node::Mpls(label),
+        Primitive::Before(when) => Node::Before(when),
+        Primitive::After(when) => Node::After(when),
+    }
+}
+
+/// Two queries, joined by `and` or by `or`.
+pub fn joined(alloc: Global, left: Node, and: bool, right: Node) -> Result<Node, AllocError>
+    ensures { IfOk result (λ q. tree q ≡ (if and then both (tree left) (tree right) else either (tree left) (tree right))) }
+{
+    let left = Boxed::new(alloc, left)?;
+    let right = Boxed::new(alloc, right)?;
+    if and {
+        Ok(Node::And { left, right })
+    } else {
+        Ok(Node::Or { left, right })
+    }
 }
 
 /// A query that can be asked. Contracts see it as its node.
@@ -18,15 +90,25 @@ pub struct Query {
 }
 
 impl Model for Query {
+    ghost use Rattle.std.specs.Coded.{codes};
+    ghost use Rattle.st_query.specs.contracts.nodes.Node as e;
     ghost use Rattle.st_query.specs.declared.nodes.Node.{Node};
+    ghost use Rattle.st_query.specs.Trees.{IsSound, tree};
 
     ghost Value = { Node };
 
+    ghost coded = { Prim.hlevel (codes, e.the_row.coded) };
+
     ghost view = { λ a. a.node };
+
+    ghost invariant = { λ a. IsSound (tree a.node) };
 }
 
 impl Query {
+    ghost use Rattle.st_query.specs.Trees.{IsSound, tree};
+
     pub(crate) fn of(node: Node) -> Query
+        requires { IsSound (tree node) }
         ensures { result ≡ node }
     {
         Query { node }
@@ -34,7 +116,8 @@ impl Query {
 
     /// The query's outermost node.
     pub fn node(&self) -> &Node
-        ensures { result.now ≡ self.now }
+        ensures same { result.now ≡ self.now }
+        ensures sound { IsSound (tree self.now) }
     {
         &self.node
     }

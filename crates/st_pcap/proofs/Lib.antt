@@ -1,0 +1,11 @@
+pub mod Filling
+pub mod Heads
+pub mod Spellings
+pub mod Steps
+pub mod Writing
+pub mod Joining
+pub mod Splits
+pub mod Uniqueness
+pub mod Existence
+pub mod RoundTrip
+pub mod Causes

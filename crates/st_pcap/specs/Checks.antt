@@ -1,0 +1,47 @@
+-- What the checks of a head say of the fields that they read.
+use Rattle.std.specs.Prelude.{Option, ◌≡◌, ℕ, ◌+◌, ◌<◌, ◌≤◌, ◌⊎◌, List, ◌++◌, length, take, None, Some, Result, Ok, Err}
+use Rattle.st_base.specs.Records.{Rec}
+use Rattle.st_pcap.specs.declared.errors.PcapErr.{PcapErr}
+use Rattle.st_pcap.specs.declared.errors.PcapErr.TheVariants.{ReadFault}
+use Rattle.st_pcap.specs.declared.entries.Entry.{Entry}
+use Rattle.st_pcap.specs.declared.forms.Form.{Form}
+use Rattle.st_pcap.specs.declared.forms.TheConstants.{MAX_BODY, MAX_INPUT}
+use Rattle.st_pcap.specs.Forms.{field, fractions, nanoseconds}
+use Rattle.st_pcap.specs.Heads.{IsFileHead, IsRecordHead, refusal_of_file, refusal_of_size}
+use Rattle.st_pcap.specs.Input.{Whole, Refused, end_at}
+use Rattle.st_pcap.specs.Reading.{IsOutside}
+
+-- these fields stand in the 16 bytes, and are in range
+pub record IsEntry (form : Form) (head : List ℕ) (e : Entry) : Type 0 where
+  pub sec : field form.order 4 0 head ≡ e.sec
+  pub fraction : field form.order 4 4 head < fractions form.unit
+  pub nsec : nanoseconds form.unit (field form.order 4 4 head) ≡ e.nsec
+  pub below : e.nsec < 1000000000
+  pub captured : field form.order 4 8 head ≡ e.captured
+  pub short : e.captured ≤ MAX_BODY
+  pub orig : field form.order 4 12 head ≡ e.orig
+
+-- the bytes begin with a file head of the form, and what stands behind it is to come; or they
+-- begin with none
+abbrev pub GivesForm : List ℕ → Option (List ℕ) → Result Form PcapErr → Type 0
+GivesForm bytes left (Ok form) =
+    (head : List ℕ) × (text : List ℕ) × (bytes ≡ head ++ text) × (left ≡ Some text) × IsFileHead form.order form.unit head
+GivesForm bytes left (Err e) = (e ≡ ReadFault) ⊎ (refusal_of_file (take 24 bytes) ≡ Some e)
+
+-- the bytes begin with the body of the record whose head has these fields; or they are too few
+abbrev pub GivesBody : Entry → ℕ → List ℕ → Option (List ℕ) → Result Rec PcapErr → Type 0
+GivesBody entry number rest left (Ok r) =
+    (more : List ℕ) × (rest ≡ r.body ++ more) × (left ≡ Some more) × (length r.body ≡ entry.captured)
+    × (r.sec ≡ entry.sec) × (r.nsec ≡ entry.nsec) × (r.orig ≡ entry.orig)
+GivesBody entry number rest left (Err e) =
+    IsOutside e ⊎ (refusal_of_size number (16 + length rest) (16 + entry.captured) ≡ Some e)
+
+-- the bytes begin with a record; or what the order of checks finds there
+abbrev pub GivesRecord : Form → ℕ → ℕ → List ℕ → Option (List ℕ) → Result (Option Rec) PcapErr → Type 0
+GivesRecord form before number rest left (Ok None) =
+    (end_at form.order form.unit before number rest ≡ Some Whole) × (left ≡ Some rest)
+GivesRecord form before number rest left (Ok (Some r)) =
+    (head : List ℕ) × (more : List ℕ) × (before < MAX_INPUT) × IsRecordHead form.order form.unit head r
+    × (rest ≡ head ++ (r.body ++ more)) × (left ≡ Some more)
+GivesRecord form before number rest left (Err e) =
+    IsOutside e ⊎ (end_at form.order form.unit before number rest ≡ Some (Refused e))

@@ -1,0 +1,99 @@
+-- The two heads of a pcap file, and what each is refused for. The libpcap savefile format, "File
+-- Header" and "Packet Record".
+use Rattle.std.specs.Prelude.{Option, ◌≡◌, ℕ, ◌+◌, ◌<◌, ◌≤◌, ◌%◌, ◌==◌, nat_lt, nat_le, ◌&&◌, if◌then◌else◌, List, length, take, None, Some}
+use Rattle.byteorder.specs.Endian.{little_number}
+use Rattle.st_base.specs.Records.{Rec}
+use Rattle.st_pcap.specs.declared.errors.PcapErr.{PcapErr}
+use Rattle.st_pcap.specs.declared.errors.PcapErr.TheVariants.{ReadFault, NoMemory, TooMuch, NotPcap, Version, LinkType, BadFraction, TooLong, Truncated}
+use Rattle.st_pcap.specs.declared.forms.Order.{Order}
+use Rattle.st_pcap.specs.declared.forms.Order.TheVariants.{Little, Big}
+use Rattle.st_pcap.specs.declared.forms.Unit as unit
+use Rattle.st_pcap.specs.declared.forms.Unit.TheVariants.{Micro, Nano}
+use Rattle.st_pcap.specs.declared.forms.TheConstants.{MAX_BODY}
+use Rattle.st_pcap.specs.Forms.{field, magic, fractions, nanoseconds}
+
+-- these bytes are the head of a file of this form: of version 2.4, over Ethernet
+pub record IsFileHead (order : Order) (u : unit.Unit) (head : List ℕ) : Type 0 where
+  pub size : length head ≡ 24
+  pub magic : little_number 4 head ≡ magic order u
+  pub major : field order 2 4 head ≡ 2
+  pub minor : field order 2 6 head ≡ 4
+  pub link : field order 4 20 head % 65536 ≡ 1
+
+-- these bytes are the head of the record
+pub record IsRecordHead (order : Order) (u : unit.Unit) (head : List ℕ) (r : Rec) : Type 0 where
+  pub size : length head ≡ 16
+  pub sec : field order 4 0 head ≡ r.sec
+  pub fraction : field order 4 4 head < fractions u
+  pub nsec : nanoseconds u (field order 4 4 head) ≡ r.nsec
+  pub captured : field order 4 8 head ≡ length r.body
+  pub short : length r.body ≤ MAX_BODY
+  pub orig : field order 4 12 head ≡ r.orig
+
+-- the low 16 bits of the link type are to be 1, Ethernet
+abbrev pub refusal_of_link : ℕ → Option PcapErr
+refusal_of_link link = if link == 1 then None else Some (LinkType link)
+
+-- the version is to be 2.4; only then the link type is looked at
+abbrev pub refusal_of_version : Order → List ℕ → Option PcapErr
+refusal_of_version order head =
+    if (field order 2 4 head == 2) && (field order 2 6 head == 4) then refusal_of_link (field order 4 20 head % 65536)
+    else Some (Version (field order 2 4 head) (field order 2 6 head))
+
+-- 24 bytes are to stand there; only then the version is looked at
+abbrev pub refusal_of_rest : Order → List ℕ → Option PcapErr
+refusal_of_rest order head =
+    if nat_lt (length head) 24 then Some (Truncated 0 (length head) 24) else refusal_of_version order head
+
+-- the first four bytes are to be the magic of a form; only then the rest is looked at, in its order
+abbrev pub refusal_of_magic : ℕ → List ℕ → Option PcapErr
+refusal_of_magic found head =
+    if found == magic Little Micro then refusal_of_rest Little head
+    else if found == magic Big Micro then refusal_of_rest Big head
+    else if found == magic Little Nano then refusal_of_rest Little head
+    else if found == magic Big Nano then refusal_of_rest Big head
+    else Some (NotPcap found)
+
+-- Why the first 24 bytes of an input, or as many as it has, are no file head; None where they are
+-- one. Four bytes are to stand there; only then the magic is looked at.
+abbrev pub refusal_of_file : List ℕ → Option PcapErr
+refusal_of_file head =
+    if nat_lt (length head) 4 then Some (Truncated 0 (length head) 24) else refusal_of_magic (little_number 4 head) head
+
+-- the first of two refusals
+abbrev pub or_else : Option PcapErr → Option PcapErr → Option PcapErr
+or_else None later = later
+or_else (Some e) later = Some e
+
+-- the captured length is to be no longer than a body may be
+abbrev pub refusal_of_captured : ℕ → ℕ → Option PcapErr
+refusal_of_captured number captured = if nat_lt MAX_BODY captured then Some (TooLong number captured) else None
+
+-- the fraction is to be less than a second; only then the captured length is looked at
+abbrev pub refusal_of_entry : Order → unit.Unit → ℕ → List ℕ → Option PcapErr
+refusal_of_entry order u number head =
+    if nat_le (fractions u) (field order 4 4 head) then Some (BadFraction number (field order 4 4 head))
+    else refusal_of_captured number (field order 4 8 head)
+
+-- so many bytes of the record are to stand there
+abbrev pub refusal_of_size : ℕ → ℕ → ℕ → Option PcapErr
+refusal_of_size number have want = if nat_lt have want then Some (Truncated number have want) else None
+
+-- Why the bytes that stand where record `number` would begin are no record; None where they begin
+-- with one. First a head that is cut is refused, then what its fields say, then a body that is cut.
+abbrev pub refusal_of_record : Order → unit.Unit → ℕ → List ℕ → Option PcapErr
+refusal_of_record order u number rest =
+    or_else (refusal_of_size number (length rest) 16)
+    (or_else (refusal_of_entry order u number (take 16 rest)) (refusal_of_size number (length rest) (16 + field order 4 8 (take 16 rest))))
+
+-- the causes that a file head is refused for, which name no record
+abbrev pub IsOfFileHead : PcapErr → Type 0
+IsOfFileHead (NotPcap found) = Unit {0}
+IsOfFileHead (Version major minor) = Unit {0}
+IsOfFileHead (LinkType found) = Unit {0}
+IsOfFileHead (Truncated number have want) = number ≡ 0
+IsOfFileHead ReadFault = ⊥
+IsOfFileHead (BadFraction number found) = ⊥
+IsOfFileHead (TooLong number len) = ⊥
+IsOfFileHead (TooMuch taken) = ⊥
+IsOfFileHead NoMemory = ⊥

@@ -1,0 +1,51 @@
+//! The classic pcap file, version 2.4 over Ethernet: a reader that takes any source of bytes, and
+//! calls that write the same format.
+//!
+//! A file is a head of 24 bytes and then records, each a head of 16 bytes and a body of at most
+//! 262,144 bytes. Either byte order is read, with fractions of seconds in microseconds or
+//! nanoseconds; little-endian is written. The format is libpcap's ("pcap savefile format"), the
+//! order of checks and the limits are ours: docs/FORMAT.md, "pcap".
+//!
+//! # What it promises
+//!
+//! - `PcapReader::next` gives the records of the input in their order, None exactly at its whole
+//!   end, and else the cause that the order of checks finds, however the source cuts its bytes. A
+//!   read fault comes only where the source's count of faults rose, or where the reader had
+//!   stopped at one; a reader that has stopped answers its cause again and reads nothing.
+//!   `next_into` is the same over memory that the caller gives.
+//! - All bytes are an input of exactly one list of records and one end (`laws::some_reading`,
+//!   `laws::one_reading`).
+//! - `file_head` and `record_head` are the heads of a pcap text, `put_header` and `put_record`
+//!   append its parts, or leave a front of them where the sink's count of faults rose.
+//! - The text of records reads back as the same records, their times cut to the unit
+//!   (`laws::reads_back`, `laws::is_whole_input`); the pieces joined are the text
+//!   (`laws::pieces_join`).
+//!
+//! # What it leaves to others
+//!
+//! Buffers: a reader makes one call of the source for a head and one for a body, where the source
+//! gives as much as it is asked for, and a writer one `put` for each.
+//!
+//! # Where to read
+//!
+//! `specs/Input.antt` says which records and which end an input has, over `Forms` and `Heads`;
+//! `specs/Text.antt` what is written; `specs/Reading.antt` what a reader stands for. Then
+//! `reader`, `records`, `checks`, `writer`.
+#![tactic(auto)]
+
+mod checks;
+mod entries;
+mod errors;
+mod fill;
+mod forms;
+pub mod laws;
+mod reader;
+mod records;
+#[cfg(test)]
+mod tests;
+mod writer;
+
+pub use errors::PcapErr;
+pub use forms::Unit;
+pub use reader::PcapReader;
+pub use writer::{file_head, put_header, put_record, record_head};

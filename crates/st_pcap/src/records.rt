@@ -1,0 +1,126 @@
+ghost use Rattle.std.specs.Prelude.{◌≡◌, ◌+◌, ◌<◌, ◌^◌, ◌≤◌, ℕ, List, Some, Err, Result, OnOk, IfOk, IfErr, OnSome, vec_len};
+ghost use Rattle.st_base.specs.Faults.{Rose};
+ghost use Rattle.st_pcap.specs.Reading.{Took};
+ghost use Rattle.st_pcap.specs.Checks.{GivesForm, GivesBody, GivesRecord};
+
+use crate::checks::{entry_in, form_in};
+use crate::entries::Entry;
+use crate::errors::PcapErr;
+use crate::fill::take_bytes;
+use crate::forms::{Form, MAX_BODY, MAX_INPUT};
+use st_base::{Octets, Record, Source};
+
+/// Reads the file head, by one read where the source gives as much as it is asked for, and answers
+/// its form. What came is counted in `taken`, in bytes.
+pub fn read_form<S: Source>(source: &mut S, taken: &mut u64) -> Result<Form, PcapErr>
+    requires { taken.old ≤ MAX_INPUT + 16 + MAX_BODY }
+    ensures gives { (bytes : List ℕ) → S.left source.old ≡ Some bytes
+        → GivesForm bytes (S.left source.new) result }
+    ensures fault { result ≡ Err PcapErr.ReadFault → Rose (S.faults source.old) (S.faults source.new) }
+    ensures taken { Took (S.left source.old) (S.left source.new) taken.old taken.new }
+    ensures bound { taken.new ≤ taken.old + 24 }
+    ensures later { S.faults source.old ≤ S.faults source.new }
+    ensures rest { S.beside source.new ≡ S.beside source.old }
+{
+    let mut head = [0; 24];
+    match take_bytes(source, &mut head, taken) {
+        Ok(have) => form_in(&head[..have]),
+        Err(error) => Err(error),
+    }
+}
+
+/// Reads record `number` into the memory of `body`; None where the input ends before its first
+/// byte. What came is counted in `taken`, in bytes.
+pub fn read_record<S: Source>(
+    form: Form,
+    number: u64,
+    source: &mut S,
+    body: Vec<u8>,
+    taken: &mut u64,
+) -> Result<Option<Record>, PcapErr>
+    requires { taken.old ≤ MAX_INPUT + 16 + MAX_BODY }
+    ensures gives { (rest : List ℕ) → S.left source.old ≡ Some rest
+        → GivesRecord form taken.old number rest (S.left source.new) result }
+    ensures fault { result ≡ Err PcapErr.ReadFault → Rose (S.faults source.old) (S.faults source.new) }
+    ensures taken { Took (S.left source.old) (S.left source.new) taken.old taken.new }
+    ensures bound { taken.new ≤ MAX_INPUT + 16 + MAX_BODY }
+    ensures grows { taken.old ≤ taken.new }
+    ensures record { IfOk result (λ o. OnSome o (taken.old + 16 ≤ taken.new)) }
+    ensures later { S.faults source.old ≤ S.faults source.new }
+    ensures rest { S.beside source.new ≡ S.beside source.old }
+{
+    if *taken >= MAX_INPUT {
+        return Err(PcapErr::TooMuch { taken: *taken });
+    }
+    let mut head = [0; 16];
+    let have = match take_bytes(source, &mut head, taken) {
+        Ok(0) => return Ok(None),
+        Ok(have) => have,
+        Err(error) => return Err(error),
+    };
+    if have < 16 {
+        return Err(PcapErr::Truncated {
+            number,
+            have: have as u64,
+            want: 16,
+        });
+    }
+    match entry_in(form, number, &head) {
+        Ok(entry) => match read_body(&entry, number, source, body, taken) {
+            Ok(packet) => Ok(Some(packet)),
+            Err(error) => Err(error),
+        },
+        Err(error) => Err(error),
+    }
+}
+
+/// Reads the body of record `number`, whose head has been read, into the memory of `body`.
+fn read_body<S: Source>(
+    entry: &Entry,
+    number: u64,
+    source: &mut S,
+    body: Vec<u8>,
+    taken: &mut u64,
+) -> Result<Record, PcapErr>
+    requires room { taken.old ≤ MAX_INPUT + 16 }
+    requires short { entry.now.captured ≤ MAX_BODY }
+    requires below { entry.now.nsec < 1000000000 }
+    ensures gives { (rest : List ℕ) → S.left source.old ≡ Some rest
+        → GivesBody entry.now number rest (S.left source.new) result }
+    ensures fault { result ≡ Err PcapErr.ReadFault → Rose (S.faults source.old) (S.faults source.new) }
+    ensures taken { Took (S.left source.old) (S.left source.new) taken.old taken.new }
+    ensures bound { taken.new ≤ MAX_INPUT + 16 + MAX_BODY }
+    ensures grows { taken.old ≤ taken.new }
+    ensures later { S.faults source.old ≤ S.faults source.new }
+    ensures rest { S.beside source.new ≡ S.beside source.old }
+{
+    let mut body = match sized(body, entry.captured as usize) {
+        Ok(body) => body,
+        Err(error) => return Err(error),
+    };
+    match take_bytes(source, body.as_mut_slice(), taken) {
+        Ok(have) if have < entry.captured as usize => Err(PcapErr::Truncated {
+            number,
+            have: 16 + have as u64,
+            want: 16 + u64::from(entry.captured),
+        }),
+        Ok(_) => Ok(Record {
+            sec: entry.sec,
+            nsec: entry.nsec,
+            orig: entry.orig,
+            body: Octets::of(body),
+        }),
+        Err(error) => Err(error),
+    }
+}
+
+/// `body` with this length in bytes, whatever bytes it has.
+fn sized(mut body: Vec<u8>, len: usize) -> Result<Vec<u8>, PcapErr>
+    ensures len { IfOk result (λ v. vec_len v ≡ len) }
+    ensures memory { IfErr result (λ e. e ≡ PcapErr.NoMemory) }
+{
+    match body.resize(len, 0) {
+        Ok(()) => Ok(body),
+        Err(_) => Err(PcapErr::NoMemory),
+    }
+}

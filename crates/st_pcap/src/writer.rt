@@ -1,0 +1,79 @@
+ghost use Rattle.std.specs.Prelude.{◌≡◌};
+ghost use Rattle.st_base.specs.Faults.{HasCause};
+ghost use Rattle.st_base.specs.Pieces.{Puts};
+ghost use Rattle.st_pcap.specs.Text.{file_head, record_head, record_text};
+
+use crate::forms::{MAX_BODY, Unit, fraction_of};
+use byteorder::{ByteOrder, LittleEndian};
+use st_base::{Failed, RecordRef, Sink, put};
+
+/// The 24 bytes of the file head that stands before records in this unit. It takes no memory.
+///
+/// Source: docs/FORMAT.md, "pcap", written files.
+#[tactic(auto, unfolding(crate::specs::Text::file_head))]
+pub fn file_head(unit: Unit) -> [u8; 24]
+    ensures { result ≡ file_head unit }
+{
+    let mut head = [0; 24];
+    let magic = match unit {
+        Unit::Micro => 0xa1b2_c3d4,
+        Unit::Nano => 0xa1b2_3c4d,
+    };
+    LittleEndian::write_u32(&mut head, magic);
+    LittleEndian::write_u16(&mut head[4..], 2);
+    LittleEndian::write_u16(&mut head[6..], 4);
+    LittleEndian::write_u32(&mut head[16..], MAX_BODY);
+    LittleEndian::write_u32(&mut head[20..], 1);
+    head
+}
+
+/// The 16 bytes before the body of a record: seconds, the fraction in `unit`, cut off, captured
+/// and original length in bytes. It takes no memory.
+///
+/// Source: docs/FORMAT.md, "pcap", written files.
+pub fn record_head(unit: Unit, r: RecordRef<'_>) -> [u8; 16]
+    ensures { result ≡ record_head unit r.entry }
+{
+    head_of(unit, &r)
+}
+
+/// The same of a record that is used again.
+#[tactic(auto, unfolding(crate::specs::Text::record_head))]
+fn head_of(unit: Unit, r: &RecordRef<'_>) -> [u8; 16]
+    ensures { result ≡ record_head unit r.now }
+{
+    let mut head = [0; 16];
+    LittleEndian::write_u32(&mut head, r.sec);
+    LittleEndian::write_u32(&mut head[4..], fraction_of(unit, r.nsec));
+    LittleEndian::write_u32(&mut head[8..], r.body.len() as u32);
+    LittleEndian::write_u32(&mut head[12..], r.orig);
+    head
+}
+
+/// Writes the 24 bytes of the file head, by one `put`. It takes no memory.
+///
+/// `Failed` comes only where the sink's `faults` rose in this call; a front of the head then stands
+/// behind what the sink had.
+pub fn put_header<S: Sink>(sink: &mut S, unit: Unit) -> Result<(), Failed>
+    ensures bytes { Puts (S.written sink.old) (S.written sink.new) (file_head unit) result }
+    ensures cause { HasCause (S.faults sink.old) (S.faults sink.new) result }
+    ensures rest { S.beside sink.new ≡ S.beside sink.old }
+{
+    put(sink, &file_head(unit))
+}
+
+/// Writes a record: 16 bytes by one `put`, and then its body, if it isn't empty, by another. It
+/// takes no memory.
+///
+/// `Failed` comes only where the sink's `faults` rose in this call; a front of the record then
+/// stands behind what the sink had.
+pub fn put_record<S: Sink>(sink: &mut S, unit: Unit, r: RecordRef<'_>) -> Result<(), Failed>
+    ensures bytes { Puts (S.written sink.old) (S.written sink.new) (record_text unit r.entry) result }
+    ensures cause { HasCause (S.faults sink.old) (S.faults sink.new) result }
+    ensures rest { S.beside sink.new ≡ S.beside sink.old }
+{
+    match put(sink, &head_of(unit, &r)) {
+        Ok(()) => put(sink, r.body),
+        Err(error) => Err(error),
+    }
+}

@@ -1,0 +1,10 @@
+use Rattle.std.proofs.Common.{◌≡◌, ◌+◌, ◌-◌, ◌≤◌, length, drop}
+use Rattle.std.specs.List.{prefix_len}
+use Rattle.st_query.specs.Tokens.{is_space}
+use Rattle.st_query.proofs.lexer.space_len.Given as goal
+
+abbrev pub invariant-loop-n : goal.invariant-loop-n
+invariant-loop-n l = (l.n ≤ length l.bytes) × (prefix_len is_space l.bytes ≡ l.n + prefix_len is_space (drop l.n l.bytes))
+
+abbrev pub decreases-loop-n : goal.decreases-loop-n
+decreases-loop-n l = length l.initial.bytes - l.n

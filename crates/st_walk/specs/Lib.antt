@@ -1,0 +1,4 @@
+pub mod Layers
+pub mod Walk
+pub mod Listing
+pub mod KeyText
