@@ -1,6 +1,6 @@
 -- From an answer that was written to what a run leaves.
 use Rattle.std.proofs.Common.{◌≡◌, ◌≢◌, ℕ, List, [], Option, Some, String, Global, string_bytes, refl, sym, subst, ◌∙◌, inl, inr, Bool, true, false}
-use Rattle.std.proofs.KnownBytes.{Appends-nil}
+use Rattle.std.proofs.KnownBytes.{Appends-nil, Keeps-refl}
 use Rattle.st_base.specs.Records.{Rec}
 use Rattle.st_base.specs.Ticks.{Ticks}
 use Rattle.st_pcap.specs.declared.errors.PcapErr.{PcapErr}
@@ -8,6 +8,7 @@ use Rattle.st_pcap.specs.Heads.{IsOfFileHead}
 use Rattle.st_pcap.specs.Input.{Input, End, Whole, Refused}
 use Rattle.st_pcap.proofs.Uniqueness.{one_input}
 use Rattle.st_query.specs.declared.errors.QueryErr.{QueryErr}
+use Rattle.st_query.specs.declared.errors.QueryErr.TheVariants as refusal
 use Rattle.st_query.specs.declared.nodes.Node.{Node}
 use Rattle.st_query.specs.Spelling.{Spells, Refuses}
 use Rattle.st_query.proofs.Readings.{not_both}
@@ -17,7 +18,7 @@ use Rattle.steno.specs.declared.status.Status.TheVariants.{Done, Usage, BadInput
 use Rattle.steno.specs.Jobs.{IsReply, IsJob, Leaves}
 use Rattle.steno.specs.Messages.{line_of, input_line}
 use Rattle.steno.specs.Plans.{IsPlan}
-use Rattle.steno.specs.Running.{plain_of, Writes, AsksClock, EndsBy}
+use Rattle.steno.specs.Running.{plain_of, Writes, AsksClock, EndsBy, Speaks}
 
 -- what an ending leaves
 abbrev pub LeavesReply : Node → ℕ → List ℕ → Option (List ℕ) → Option (List ℕ) → Ending → Type 0
@@ -125,3 +126,15 @@ asks_clock old new DiskFault now other h = h
 asks_clock old new Damaged now other h = h
 asks_clock old new NoMemory now other h = h
 asks_clock old new StampsSpent now other h = h
+
+-- a query that is refused, or want of memory for its line
+pub spoken_leaves : (words : List (List ℕ)) (text : List ℕ) (now : ℕ) (bytes : List ℕ) (error : QueryErr) (result : Ending) (old : Option (List ℕ))
+    → IsPlan words text → (error ≢ refusal.NoMemory → Refuses text error) → Speaks error result → Leaves (IsJob words now bytes) result.status (line_of result) old old
+spoken_leaves words text now bytes error result old plan refuses (inl e) =
+    subst (λ (r : Ending). Leaves (IsJob words now bytes) r.status (line_of r) old old) (sym e) (Keeps-refl old, refl)
+spoken_leaves words text now bytes error result old plan refuses (inr (other, status, line)) =
+    subst (λ s. Leaves (IsJob words now bytes) s (line_of result) old old) (sym status) ([], (text, error, plan, refuses other, refl, line), Appends-nil old)
+
+pub asks_after_speaking : (old new : Option (List ℕ)) (error : QueryErr) (result : Ending) (now : ℕ) → Speaks error result → Ticks old new now → AsksClock old new result.status now
+asks_after_speaking old new error result now (inl e) h = subst (λ (r : Ending). AsksClock old new r.status now) (sym e) h
+asks_after_speaking old new error result now (inr (other, status, line)) h = subst (λ s. AsksClock old new s now) (sym status) h

@@ -124,7 +124,7 @@ fn a_query_is_answered_over_each_input(rt: HostRuntime) -> Result<(), Fail> {
     )?;
     let zeros = "steno: input is not a pcap file, it begins with 0x00000000\n";
     expect(&rt, "port 53", &[0; 24], &[], zeros, 3)?;
-    expect(&rt, "port x", whole, &[], "steno: query: syntax at 0\n", 4)
+    expect(&rt, "port x", whole, &[], "steno: query: number at 5\n", 4)
 }
 
 #[test]
