@@ -1,7 +1,6 @@
 //! A run of the program, over whatever its streams and clock are.
 
-ghost use Rattle.std.specs.Prelude.{◌≡◌, ◌≢◌, ◌↔◌, ℕ, List, Some, Err, Result, map, string_bytes};
-ghost use Rattle.std.specs.Io.KnownBytes.{Keeps};
+ghost use Rattle.std.specs.Prelude.{◌≡◌, ◌≢◌, ◌≤◌, [], ℕ, List, Some, Err, Result, map, string_bytes};
 ghost use Rattle.st_base.specs.Faults.{Rose};
 ghost use Rattle.st_base.specs.Records.{Rec};
 ghost use Rattle.st_pcap.specs.Input.{Input, End};
@@ -12,7 +11,7 @@ ghost use Rattle.st_query.specs.Spelling.{Spells};
 ghost use Rattle.steno.specs.Jobs.{IsReply, Leaves};
 ghost use Rattle.steno.specs.Messages.{line_of};
 ghost use Rattle.steno.specs.Plans.{IsPlan};
-ghost use Rattle.steno.specs.Running.{Runs, Ends, Tells, Speaks, Writes, Finishes, HasQueryCause, HasFaultCause, NoneRose, EndsBy, IsSilent, IsUnread};
+ghost use Rattle.steno.specs.Running.{Runs, Ends, Tells, Says, SaysOf, SaysReply, AsksClock, Speaks, Writes, Finishes, HasWordCause, HasFaultCause, NoneRose, EndsBy, LeavesAlone, IsSilent, IsUnread};
 ghost use Rattle.steno.specs.Selects.{Gathers, Selects};
 
 use crate::ending::{Ending, plain};
@@ -45,15 +44,16 @@ pub fn run<I: Source, O: Sink, E: Sink, C: Clock>(
     // What it was asked for, over an input that tells its bytes.
     ensures job { (bytes : List ℕ) → I.left input.old ≡ Some bytes → Runs (map string_bytes words.now) (C.to_come clock.old) (C.to_come clock.new) bytes (O.written out.old) (O.written out.new) (E.written err.old) (E.written err.new) (E.faults err.old) (E.faults err.new) result.status }
 
-    // The causes.
-    ensures usage { (result.status ≡ Status.Usage) ↔ ((text : List ℕ) → IsPlan (map string_bytes words.now) text → ⊥) }
-    ensures query { HasQueryCause (map string_bytes words.now) result.status }
+    // What it says and when each way to end comes, whatever the input tells.
+    ensures says { Says (map string_bytes words.now) (C.to_come clock.old) (C.to_come clock.new) (E.written err.old) (E.written err.new) (E.faults err.old) (E.faults err.new) result.status }
+    ensures asked { HasWordCause (map string_bytes words.now) result.status }
     ensures fault { HasFaultCause (I.faults input.old) (I.faults input.new) (O.faults out.old) (O.faults out.new) result.status }
+
+    // Where nothing failed, the input's end decides.
     ensures complete { (text bytes : List ℕ) (q : Node) (rs : List Rec) (end : End) → IsPlan (map string_bytes words.now) text → Spells text q → I.left input.old ≡ Some bytes → Input bytes rs end → NoneRose (I.faults input.old) (I.faults input.new) (O.faults out.old) (O.faults out.new) → EndsBy end result.status }
 
     // What stays as it was.
-    ensures silent { IsSilent result.status → Keeps (O.written out.old) (O.written out.new) }
-    ensures unread { IsUnread result.status → input.new ≡ input.old }
+    ensures alone { LeavesAlone result.status input.old input.new out.old out.new err.old err.new }
     ensures rest { (I.beside input.new ≡ I.beside input.old) × (O.beside out.new ≡ O.beside out.old) × (E.beside err.new ≡ E.beside err.old) }
 {
     let ending = once(alloc, words, input, out, clock);
@@ -66,9 +66,13 @@ pub fn run<I: Source, O: Sink, E: Sink, C: Clock>(
 /// Puts the ending's line. That this fails changes nothing.
 pub fn tell<E: Sink>(err: &mut E, ending: &Ending)
     ensures line { Tells (E.written err.old) (E.written err.new) (E.faults err.old) (E.faults err.new) (line_of ending.now) }
+    ensures quiet { line_of ending.now ≡ [] → err.new ≡ err.old }
     ensures rest { E.beside err.new ≡ E.beside err.old }
 {
-    let _ = put(err, line_bytes(ending));
+    let line = line_bytes(ending);
+    if !line.is_empty() {
+        let _ = put(err, line);
+    }
 }
 
 // Does what the words ask for, and answers how that ended.
@@ -80,11 +84,12 @@ fn once<I: Source, O: Sink, C: Clock>(
     clock: &mut C,
 ) -> Ending
     ensures job { (bytes : List ℕ) → I.left input.old ≡ Some bytes → Ends (map string_bytes words.now) (C.to_come clock.old) (C.to_come clock.new) bytes (O.written out.old) (O.written out.new) result.status (line_of result) }
-    ensures usage { (result.status ≡ Status.Usage) ↔ ((text : List ℕ) → IsPlan (map string_bytes words.now) text → ⊥) }
-    ensures query { HasQueryCause (map string_bytes words.now) result.status }
+    ensures says { SaysOf (map string_bytes words.now) result.status (line_of result) }
+    ensures clock { (now : ℕ) × AsksClock (C.to_come clock.old) (C.to_come clock.new) result.status now }
+    ensures asked { HasWordCause (map string_bytes words.now) result.status }
     ensures fault { HasFaultCause (I.faults input.old) (I.faults input.new) (O.faults out.old) (O.faults out.new) result.status }
-    ensures silent { IsSilent result.status → Keeps (O.written out.old) (O.written out.new) }
     ensures unread { IsUnread result.status → input.new ≡ input.old }
+    ensures silent { IsSilent result.status → out.new ≡ out.old }
     ensures rest { (I.beside input.new ≡ I.beside input.old) × (O.beside out.new ≡ O.beside out.old) }
 {
     let Some(text) = query_word(words) else {
@@ -122,9 +127,10 @@ fn answer<I: Source, O: Sink>(
     out: &mut O,
 ) -> Ending
     ensures job { (bytes : List ℕ) → I.left input.old ≡ Some bytes → Leaves (IsReply query.now now bytes) result.status (line_of result) (O.written out.old) (O.written out.new) }
+    ensures says { SaysReply result.status (line_of result) }
     ensures asked { (result.status ≢ Status.Usage) × (result.status ≢ Status.BadQuery) }
     ensures fault { HasFaultCause (I.faults input.old) (I.faults input.new) (O.faults out.old) (O.faults out.new) result.status }
-    ensures silent { IsSilent result.status → Keeps (O.written out.old) (O.written out.new) }
+    ensures silent { IsSilent result.status → out.new ≡ out.old }
     ensures rest { (I.beside input.new ≡ I.beside input.old) × (O.beside out.new ≡ O.beside out.old) }
 {
     let gathered = gather(alloc, query, now, input);
@@ -137,10 +143,12 @@ fn answer<I: Source, O: Sink>(
 // The ending at an input that failed or is refused.
 fn refused<O: Sink>(alloc: Global, error: PcapErr, kept: Vec<Record>, out: &mut O) -> Ending
     ensures job { (q : Node) (now : ℕ) (bytes : List ℕ) → Gathers q now bytes kept.items (Err error) → Leaves (IsReply q now bytes) result.status (line_of result) (O.written out.old) (O.written out.new) }
+    ensures says { SaysReply result.status (line_of result) }
+    ensures later { O.faults out.old ≤ O.faults out.new }
     ensures asked { (result.status ≢ Status.Usage) × (result.status ≢ Status.BadQuery) }
     ensures read { result.status ≡ Status.ReadFault → error ≡ PcapErr.ReadFault }
     ensures write { result.status ≡ Status.WriteFault → Rose (O.faults out.old) (O.faults out.new) }
-    ensures silent { IsSilent result.status → Keeps (O.written out.old) (O.written out.new) }
+    ensures silent { IsSilent result.status → out.new ≡ out.old }
     ensures rest { O.beside out.new ≡ O.beside out.old }
 {
     match error {
@@ -155,9 +163,11 @@ fn refused<O: Sink>(alloc: Global, error: PcapErr, kept: Vec<Record>, out: &mut 
 fn cut_short<O: Sink>(alloc: Global, error: PcapErr, kept: Vec<Record>, out: &mut O) -> Ending
     requires { IsOutside error → ⊥ }
     ensures job { (q : Node) (now : ℕ) (bytes : List ℕ) → Gathers q now bytes kept.items (Err error) → Leaves (IsReply q now bytes) result.status (line_of result) (O.written out.old) (O.written out.new) }
+    ensures says { SaysReply result.status (line_of result) }
+    ensures later { O.faults out.old ≤ O.faults out.new }
     ensures asked { (result.status ≢ Status.Usage) × (result.status ≢ Status.BadQuery) × (result.status ≢ Status.ReadFault) }
     ensures write { result.status ≡ Status.WriteFault → Rose (O.faults out.old) (O.faults out.new) }
-    ensures silent { IsSilent result.status → Keeps (O.written out.old) (O.written out.new) }
+    ensures silent { IsSilent result.status → out.new ≡ out.old }
     ensures rest { O.beside out.new ≡ O.beside out.old }
 {
     let line = match input_text(alloc, error) {
@@ -177,7 +187,8 @@ fn cut_short<O: Sink>(alloc: Global, error: PcapErr, kept: Vec<Record>, out: &mu
 // Writes the packets by time, and ends so where that succeeds.
 fn finish<O: Sink>(kept: Vec<Record>, out: &mut O, ending: Ending) -> Ending
     ensures answer { (q : Node) (now : ℕ) (rs : List Rec) → Selects (Matches q now) rs kept.items → Writes q now rs (O.written out.old) (O.written out.new) ending result }
-    ensures ends { Finishes (O.written out.old) (O.written out.new) (O.faults out.old) (O.faults out.new) ending result }
+    ensures ends { Finishes out.old out.new (O.faults out.old) (O.faults out.new) ending result }
+    ensures later { O.faults out.old ≤ O.faults out.new }
     ensures rest { O.beside out.new ≡ O.beside out.old }
 {
     let mut kept = kept;
