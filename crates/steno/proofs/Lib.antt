@@ -1,0 +1,7 @@
+pub mod Answering
+pub mod Replying
+pub mod Selecting
+pub mod Sorting
+pub mod TimeOrder
+pub mod TwoWords
+pub mod Writing

@@ -1,0 +1,20 @@
+use Rattle.std.proofs.Common.{◌≡◌, ◌≤◌, ◌-◌, ◌^◌, ℕ, List, Some}
+use Rattle.st_base.specs.Records.{Rec}
+use Rattle.st_pcap.specs.declared.errors.PcapErr.{PcapErr}
+use Rattle.st_pcap.specs.declared.reader.Phase.TheVariants.{Stopped}
+use Rattle.st_pcap.specs.Reading.{Stands}
+use Rattle.st_query.specs.Meaning.{Matches}
+use Rattle.steno.specs.Selects.{Selects}
+use Rattle.steno.proofs.input.gather.Given as goal
+
+abbrev pub invariant-records : goal.invariant-records
+invariant-records g l = record {
+  kept : (bytes : List ℕ) → g.I.Source.left l.fn.input ≡ Some bytes
+      → (rest : List ℕ) × (rs : List Rec) × (g.I.Source.left l.input ≡ Some rest) × Stands l.reader bytes rs rest × Selects (Matches l.fn.query l.now) rs l.kept.items;
+  going : (e : PcapErr) → l.reader.phase ≡ Stopped e → ⊥;
+  later : g.I.Source.faults l.fn.input ≤ g.I.Source.faults l.input;
+  rest : g.I.Source.beside l.input ≡ g.I.Source.beside l.fn.input;
+}
+
+abbrev pub decreases-records : goal.decreases-records
+decreases-records g l = 2 ^ 41 - l.reader.taken

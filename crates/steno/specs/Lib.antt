@@ -1,0 +1,6 @@
+pub mod Jobs
+pub mod Messages
+pub mod Plans
+pub mod Running
+pub mod Selects
+pub mod Statuses

@@ -1,0 +1,101 @@
+//! The line that tells why a run isn't done. Source: docs/FORMAT.md, "Messages".
+
+ghost use Rattle.std.specs.Prelude.{◌≡◌, ◌+◌, ◌/◌, ◌%◌, IfOk, string_bytes};
+ghost use Rattle.steno.specs.Messages.{status_line, query_line, input_line, line_of, hex_byte};
+
+use crate::ending::Ending;
+use crate::status::Status;
+use st_pcap::PcapErr;
+use st_query::QueryErr;
+use std::alloc::{AllocError, Global};
+
+/// The bytes of an ending's line.
+pub fn line_bytes(ending: &Ending) -> &[u8]
+    ensures { result.now ≡ line_of ending.now }
+{
+    match &ending.line {
+        Some(line) => line.as_bytes(),
+        None => status_text(ending.status).as_bytes(),
+    }
+}
+
+// The line of a way to end that has always the same.
+fn status_text(status: Status) -> &'static str
+    ensures { result.now ≡ status_line status }
+{
+    match status {
+        Status::Usage => "steno: usage: steno COMMAND [ARGUMENTS] [OPTIONS]\n",
+        Status::ReadFault => "steno: reading the input failed\n",
+        Status::WriteFault => "steno: writing the output failed\n",
+        Status::DiskFault => "steno: the spool failed\n",
+        Status::NoMemory => "steno: out of memory\n",
+        Status::Done
+        | Status::BadInput
+        | Status::BadQuery
+        | Status::Damaged
+        | Status::StampsSpent => "",
+    }
+}
+
+/// Why a query is refused.
+pub fn query_text(alloc: Global, error: QueryErr) -> Result<String, AllocError>
+    ensures { IfOk result (λ t. string_bytes t ≡ query_line error) }
+{
+    match error {
+        QueryErr::Syntax { place } => format!(in alloc; "steno: query: syntax at {place}\n"),
+        QueryErr::Number { place } => format!(in alloc; "steno: query: number at {place}\n"),
+        QueryErr::Address { place } => format!(in alloc; "steno: query: address at {place}\n"),
+        QueryErr::Time { place } => format!(in alloc; "steno: query: time at {place}\n"),
+        QueryErr::Deep { place } => format!(in alloc; "steno: query: depth at {place}\n"),
+        QueryErr::Long { len } => format!(in alloc; "steno: query: {len} bytes are over 4096\n"),
+        QueryErr::NoMemory => String::from_str(alloc, "steno: out of memory\n"),
+    }
+}
+
+/// Why an input is refused.
+pub fn input_text(alloc: Global, error: PcapErr) -> Result<String, AllocError>
+    ensures { IfOk result (λ t. string_bytes t ≡ input_line error) }
+{
+    match error {
+        PcapErr::ReadFault => String::from_str(alloc, "steno: reading the input failed\n"),
+        PcapErr::NotPcap { found } => not_pcap_text(alloc, found),
+        PcapErr::Version { major, minor } => {
+            format!(in alloc; "steno: pcap version {major}.{minor} is not read\n")
+        }
+        PcapErr::LinkType { found } => {
+            format!(in alloc; "steno: link type {found} is not read\n")
+        }
+        PcapErr::BadFraction { number, found } => {
+            format!(in alloc; "steno: record {number}: fraction {found} is out of range\n")
+        }
+        PcapErr::TooLong { number, len } => {
+            format!(in alloc; "steno: record {number}: captured length {len} is over 262144\n")
+        }
+        PcapErr::Truncated { number, have, want } => {
+            format!(in alloc; "steno: record {number}: {have} of {want} bytes\n")
+        }
+        PcapErr::TooMuch { taken } => {
+            format!(in alloc; "steno: input stopped after {taken} bytes\n")
+        }
+        PcapErr::NoMemory => String::from_str(alloc, "steno: out of memory\n"),
+    }
+}
+
+fn not_pcap_text(alloc: Global, found: u32) -> Result<String, AllocError>
+    ensures { IfOk result (λ t. string_bytes t ≡ input_line (PcapErr.NotPcap found)) }
+{
+    let first = hex_text(alloc, (found / 16_777_216 % 256) as u8)?;
+    let second = hex_text(alloc, (found / 65_536 % 256) as u8)?;
+    let third = hex_text(alloc, (found / 256 % 256) as u8)?;
+    let fourth = hex_text(alloc, (found % 256) as u8)?;
+    format!(in alloc;
+        "steno: input is not a pcap file, it begins with 0x{first}{second}{third}{fourth}\n"
+    )
+}
+
+#[tactic(auto, using(std::proofs::lemmas::Fmt::hex_byte))]
+fn hex_text(alloc: Global, byte: u8) -> Result<String, AllocError>
+    ensures { IfOk result (λ t. string_bytes t ≡ hex_byte byte) }
+{
+    format!(in alloc; "{byte:02x}")
+}
