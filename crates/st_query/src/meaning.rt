@@ -1,11 +1,11 @@
 //! Which packets a query matches.
-ghost use Rattle.std.specs.Prelude.{◌≡◌, ℕ, ◌≤◌, ◌↔◌, ⊤, ℤ, pos, ◌-ℤ◌, ◌<ℤ◌, ◌≤ℤ◌, IsTrue, MatchOption, Contains, length, take};
+ghost use Rattle.std.specs.Prelude.{◌≡◌, ℕ, ◌≤◌, ◌↔◌, ⊤, ℤ, pos, ◌-ℤ◌, ◌<ℤ◌, ◌≤ℤ◌, IsTrue, IsFalse, MatchOption, Contains, length, take};
 ghost use Rattle.st_walk.specs.Walk.{FrameHas, HasKey};
 ghost use Rattle.st_walk.specs.declared.text.Key.{Key};
 ghost use Rattle.st_query.specs.Meaning.{Matches, HoldsOf, Holds, IsInNet, addr_key, second_of, span_of};
 ghost use Rattle.st_query.specs.Matching.{KeysAre, KeyIsIn, FrameIsIn, IsTold};
 ghost use Rattle.st_query.specs.Words.{network};
-ghost use Rattle.st_query.specs.Trees.{tree};
+ghost use Rattle.st_query.specs.Trees.{tree, is_joined};
 
 use crate::addrs::Addr;
 use crate::nodes::{Node, Query, When};
@@ -135,17 +135,15 @@ fn walks_into(frame: &[u8], net: Addr, bits: u8) -> bool
     keys(frame).any(|key| is_in(key, net, bits))
 }
 
-/// The packet matches the part of a query, where the clock stands at `now` microseconds.
-fn holds(node: &Node, now: u64, packet: &Packet<'_>) -> bool
-    requires { IsTold packet.now }
+/// The packet matches a primitive, where the clock stands at `now` microseconds.
+fn meets(node: &Node, now: u64, packet: &Packet<'_>) -> bool
+    requires told { IsTold packet.now }
+    requires alone { IsFalse (is_joined (tree node.now)) }
     ensures { IsTrue result ↔ HoldsOf (tree node.now) now packet.now.record.now }
 {
     let record = packet.record;
     match node {
-        Node::And { left, right } => holds(left.get(), now, packet)
-            && holds(right.get(), now, packet),
-        Node::Or { left, right } => holds(left.get(), now, packet)
-            || holds(right.get(), now, packet),
+        Node::And { .. } | Node::Or { .. } => unreachable!(),
         Node::Host(addr) => has(packet, key_of(*addr)),
         Node::Net { addr, bits } => is_in_net(packet, *addr, *bits),
         Node::Port(port) => has(packet, Key::Port(*port)),
@@ -154,6 +152,34 @@ fn holds(node: &Node, now: u64, packet: &Packet<'_>) -> bool
         Node::Mpls(label) => has(packet, Key::Mpls(*label)),
         Node::Before(when) => is_before(record.sec, second_of(*when, now)),
         Node::After(when) => !is_before(record.sec, second_of(*when, now)),
+    }
+}
+
+/// The packet matches the part of a query, where the clock stands at `now` microseconds.
+///
+/// A chain of joined parts is a loop from its last part on, so that no call goes deeper than the
+/// parentheses.
+fn holds(node: &Node, now: u64, packet: &Packet<'_>) -> bool
+    requires { IsTold packet.now }
+    ensures { IsTrue result ↔ HoldsOf (tree node.now) now packet.now.record.now }
+{
+    let mut rest = node;
+    'parts: loop {
+        match rest {
+            Node::Or { left, right } => {
+                if holds(right.get(), now, packet) {
+                    return true;
+                }
+                rest = left.get();
+            }
+            Node::And { left, right } => {
+                if !holds(right.get(), now, packet) {
+                    return false;
+                }
+                rest = left.get();
+            }
+            primitive => return meets(primitive, now, packet),
+        }
     }
 }
 
