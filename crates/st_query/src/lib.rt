@@ -39,6 +39,8 @@ mod meaning;
 mod nodes;
 mod parser;
 mod printer;
+#[cfg(test)]
+mod tests;
 mod times;
 mod tokens;
 mod word_text;

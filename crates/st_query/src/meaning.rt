@@ -183,11 +183,35 @@ fn holds(node: &Node, now: u64, packet: &Packet<'_>) -> bool
     }
 }
 
+/// The query is joined from others.
+fn is_chain(node: &Node) -> bool {
+    match node {
+        Node::And { .. } | Node::Or { .. } => true,
+        _ => false,
+    }
+}
+
+/// The packet matches the query by walks of its frame, of which a query that isn't joined makes one
+/// at most and ends it at its key.
+fn holds_alone(node: &Node, now: u64, r: &RecordRef<'_>) -> bool
+    ensures { IsTrue result ↔ HoldsOf (tree node.now) now r.now }
+{
+    let packet = Packet {
+        record: r,
+        keys: &[],
+        whole: false,
+    };
+    holds(node, now, &packet)
+}
+
 /// The packet matches the query, where the clock stands at `now` microseconds since 1970. It takes
 /// no memory.
 pub fn matches(query: &Query, now: u64, r: RecordRef<'_>) -> bool
     ensures { IsTrue result ↔ Matches query.now now r.entry }
 {
+    if !is_chain(query.node()) {
+        return holds_alone(query.node(), now, &r);
+    }
     let mut room = [Key::Proto(0); MOST_KEYS];
     let len = gather(r.body, &mut room);
     let packet = Packet {

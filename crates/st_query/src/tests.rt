@@ -1,0 +1,53 @@
+use crate::{Node, matches, parse, print};
+use st_base::RecordRef;
+use std::test::Fail;
+
+/// A frame of Ethernet, IPv4 and UDP, from 10.0.0.1 port 12345 to 10.0.0.2 port 53, with `dns!`.
+const DNS: [u8; 46] = [
+    2, 0, 0, 0, 0, 2, 2, 0, 0, 0, 0, 1, 8, 0, 0x45, 0, 0, 0x20, 0, 0, 0, 0, 0x40, 0x11, 0, 0, 10,
+    0, 0, 1, 10, 0, 0, 2, 0x30, 0x39, 0, 0x35, 0, 0x0c, 0, 0, 0x64, 0x6e, 0x73, 0x21,
+];
+
+/// Texts, the clock in microseconds, and whether they match that frame, captured at second
+/// 1,000,000,000: by hand from the addresses, the ports and the times.
+const ASKED: [(&str, u64, bool); 12] = [
+    ("host 10.0.0.2", 0, true),
+    ("host 10.0.0.3", 0, false),
+    ("net 10.1.2.3 mask 255.0.0.0", 0, true),
+    ("net 10.0.0.4/30", 0, false),
+    ("net ::/0", 0, false),
+    ("icmp or udp and port 53", 0, true),
+    ("udp or (icmp and port 53)", 0, true),
+    ("udp or icmp and port 54", 0, false),
+    ("before 2001-09-09T01:46:40Z", 0, false),
+    ("after 2001-09-09T03:46:40+02:00", 0, true),
+    ("after 45m ago", 1_000_002_700_999_999, true),
+    ("before 45m ago", 1_000_002_701_000_000, true),
+];
+
+#[test]
+fn a_packet_matches_what_is_asked(rt: HostRuntime) -> Result<(), Fail> {
+    for (text, now, expected) in ASKED {
+        let query = parse(rt.alloc(), text.as_bytes())?;
+        let packet = RecordRef {
+            sec: 1_000_000_000,
+            nsec: 123_456_000,
+            orig: 46,
+            body: &DNS,
+        };
+        assert_eq!(rt; matches(&query, now, packet), expected, "{text}");
+    }
+    Ok(())
+}
+
+#[test]
+fn a_query_is_printed_with_few_parentheses(rt: HostRuntime) -> Result<(), Fail> {
+    let query = parse(rt.alloc(), b"(tcp) or ((udp) && port 053)")?;
+    assert!(rt; matches!(query.node(), Node::Or { .. }));
+    let printed = print(rt.alloc(), &query)?;
+    assert_eq!(rt;
+        printed.bytes(),
+        b"ip proto 6 or (ip proto 17 and port 53)".as_slice()
+    );
+    Ok(())
+}
