@@ -1,0 +1,19 @@
+-- Keys by bytes, the first of which two of them share.
+use Rattle.std.proofs.Common.{◌≡◌, ℕ, List, [], ◌∷◌, ◌++◌, take, drop, refl, sym, ap, ◌∙◌}
+use Rattle.std.proofs.lemmas.List.{take-append-drop}
+use Rattle.std.specs.Ordering.{nat_cmp, is_lt, ordering_then}
+use Rattle.std.specs.Cmp.Lexicographic.{slice_cmp}
+use Rattle.std.proofs.lemmas.Cmp.{tied_itself, nat_cmp_total}
+use Rattle.st_tblock.specs.Block.{is_before}
+
+-- a common front decides nothing
+common_front : (xs ys zs : List ℕ) → slice_cmp nat_cmp (xs ++ ys) (xs ++ zs) ≡ slice_cmp nat_cmp ys zs
+common_front [] ys zs = refl
+common_front (x ∷ xs) ys zs =
+    ap (λ o. ordering_then o (slice_cmp nat_cmp (xs ++ ys) (xs ++ zs))) (tied_itself nat_cmp_total x) ∙ common_front xs ys zs
+
+-- a key against one that shares its first bytes
+pub above_shared : (key fresh : List ℕ) (shared : ℕ) → is_before key (take shared key ++ fresh) ≡ is_before (drop shared key) fresh
+above_shared key fresh shared =
+    ap (λ (k : List ℕ). is_before k (take shared key ++ fresh)) (sym (take-append-drop shared key))
+    ∙ ap is_lt (common_front (take shared key) (drop shared key) fresh)

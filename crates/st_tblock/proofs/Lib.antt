@@ -1,0 +1,11 @@
+pub mod Groups
+mod Keys
+mod Restarts
+pub mod Fronts
+pub mod Footers
+mod Shared
+mod Sound
+pub mod Longer
+pub mod Adding
+pub mod Finishing
+pub mod Following

@@ -1,0 +1,235 @@
+ghost use Rattle.std.specs.Prelude.{◌≡◌, ◌≤◌, ◌<◌, ◌-◌, ◌*◌, ◌+◌, ◌^◌, ◌++◌, ◌∷◌, [], List, ℕ, length, take, drop, option_map, nat_eq, vec_len, is_none, IfOk, OnOk, OnErr, IsTrue};
+ghost use Rattle.std.specs.Vec.{vec_capacity};
+ghost use Rattle.std.specs.List.{common_prefix_len};
+ghost use Rattle.byteorder.specs.Endian.{little_bytes};
+ghost use Rattle.st_tblock.specs.Block.{Row, front_of, is_above, Good};
+ghost use Rattle.st_tblock.specs.Build.{Draft, empty, entry_text, shared_of, added, block_size, places_text, block_text, Holds, IsSound};
+
+use crate::cursor::{front, set_key};
+use crate::varint::put_varint;
+use st_base::NoMemory;
+use std::alloc::Global;
+use std::marker::Model;
+
+/// How many bytes two keys have in common from their front on.
+#[tactic(auto, using(crate::proofs::Shared::commons))]
+fn common(last: &[u8], key: &[u8]) -> usize
+    ensures same { result ≡ common_prefix_len nat_eq last.now key.now }
+    ensures last { result ≤ length last.now }
+    ensures key { result ≤ length key.now }
+{
+    let mut shared = 0;
+    'bytes: while shared < last.len() && shared < key.len() {
+        if last[shared] != key[shared] {
+            return shared;
+        }
+        shared += 1;
+    }
+    shared
+}
+
+/// Puts an entry behind `text`. A refusal may leave a part of it there.
+#[tactic(auto, unfolding(crate::specs::Build::entry_text))]
+fn put_entry(text: &mut Vec<u8>, shared: usize, key: &[u8], value: &[u8]) -> Result<(), NoMemory>
+    requires { shared ≤ length key.now }
+    ensures ok { OnOk result (text.new.items ≡ text.old.items ++ entry_text shared key.now value.now) }
+    ensures kept { take (length text.old.items) text.new.items ≡ text.old.items }
+{
+    let fresh = key.split_at(shared).1;
+    text.extend_from_slice(put_varint(shared as u64).as_slice())?;
+    text.extend_from_slice(put_varint(fresh.len() as u64).as_slice())?;
+    text.extend_from_slice(put_varint(value.len() as u64).as_slice())?;
+    text.extend_from_slice(fresh)?;
+    text.extend_from_slice(value)?;
+    Ok(())
+}
+
+/// Puts the restarts and their number behind `text`. A refusal may leave a part of them there.
+fn put_places(text: &mut Vec<u8>, places: &[u32]) -> Result<(), NoMemory>
+    requires { length places.now < 2 ^ 32 }
+    ensures ok { OnOk result (text.new.items ≡ text.old.items ++ places_text places.now ++ little_bytes 4 (length places.now)) }
+    ensures kept { take (length text.old.items) text.new.items ≡ text.old.items }
+{
+    'places: for place in places {
+        text.extend_from_slice(&place.to_le_bytes())?;
+    }
+    text.extend_from_slice(&(places.len() as u32).to_le_bytes())?;
+    Ok(())
+}
+
+/// A block that is being built: entries in the order of their keys, each spelled behind the one
+/// before it.
+///
+/// It is seen as its [`Draft`]: the text of its entries, the restarts and the last key; `Holds`
+/// says which rows these spell. Lengths are in bytes.
+///
+/// Its text has the entries first, and behind them what a refused call or the last
+/// [`EntryBlock::finish`] left there, which the next call cuts off.
+#[derive(Drop)]
+pub struct EntryBlock {
+    alloc: Global,
+    interval: u32,
+    since: u32,
+    entries: usize,
+    text: Vec<u8>,
+    places: Vec<u32>,
+    last: Option<Vec<u8>>,
+}
+
+impl Model for EntryBlock {
+    ghost use Rattle.std.specs.Prelude.{◌≤◌, length, take, option_map};
+    ghost use Rattle.st_tblock.specs.Build.{Draft, IsSound, draft_of};
+
+    ghost Value = { Draft };
+
+    ghost view = { λ a. draft_of a.interval a.since (take a.entries a.text.items) a.places.items (option_map (λ v. v.items) a.last) };
+
+    ghost invariant = { λ a. (a.entries ≤ length a.text.items) × IsSound (draft_of a.interval a.since (take a.entries a.text.items) a.places.items (option_map (λ v. v.items) a.last)) };
+}
+
+/// Puts a restart behind the others, for which room was made.
+fn push_reserved(places: &mut Vec<u32>, place: u32)
+    requires { vec_len places.old < vec_capacity places.old }
+    ensures { places.new.items ≡ places.old.items ++ place ∷ [] }
+{
+    let _ = places.push(place);
+}
+
+impl EntryBlock {
+    ghost use Rattle.std.specs.Borrow.{sem};
+    ghost use Rattle.std.specs.Io.BufRead.{Rests};
+    ghost use Rattle.st_tblock.specs.contracts.builder.EntryBlock.{the_row};
+
+    /// A block without entries, which begins a restart every `interval` entries.
+    ///
+    /// Source: LevelDB, table/block_builder.cc; docs/FORMAT.md, "Table file".
+    pub fn new(alloc: Global, interval: u32) -> Result<EntryBlock, NoMemory>
+        requires { 1 ≤ interval }
+        ensures { IfOk result (λ b. b ≡ empty interval) }
+    {
+        let places = Vec::from_slice(alloc, &[0])?;
+        Ok(EntryBlock {
+            alloc,
+            interval,
+            since: 0,
+            entries: 0,
+            text: Vec::new(alloc),
+            places,
+            last: None,
+        })
+    }
+
+    /// How many bytes the finished block takes: its entries, four for each restart and four for
+    /// their number.
+    pub fn size(&self) -> u64
+        ensures { result ≡ block_size self.now }
+    {
+        self.entries as u64 + 4 * self.places.len() as u64 + 4
+    }
+
+    /// Whether the block has no entries.
+    pub fn is_empty(&self) -> bool
+        ensures { result ≡ is_none self.now.last }
+    {
+        self.last.is_none()
+    }
+
+    /// The last key, or no bytes where there is none.
+    pub fn last_key(&self) -> &[u8]
+        ensures { result.now ≡ front_of self.now.last }
+    {
+        front(&self.last)
+    }
+
+    /// Whether `key` is above the last key, so that it may be added.
+    pub fn takes(&self, key: &[u8]) -> bool
+        ensures { result ≡ is_above self.now.last key.now }
+    {
+        match &self.last {
+            Some(last) => last.as_slice().cmp(key).is_lt(),
+            None => true,
+        }
+    }
+
+    /// How many bytes of `key` the next entry shares with the last key.
+    fn shared_with(&self, key: &[u8]) -> usize
+        ensures sound { IsSound self.now }
+        ensures shared { result ≡ shared_of self.now key.now }
+        ensures key { result ≤ length key.now }
+        ensures last { result ≤ length (front_of self.now.last) }
+    {
+        if self.interval <= self.since {
+            return 0;
+        }
+        common(front(&self.last), key)
+    }
+
+    /// Puts an entry that shares so many bytes behind the others. Unchanged after a refusal.
+    fn append(&mut self, shared: usize, key: &[u8], value: &[u8]) -> Result<(), NoMemory>
+        requires shared { shared ≡ shared_of self.old key.now }
+        requires fits { shared ≤ length key.now }
+        requires front { shared ≤ length (front_of self.old.last) }
+        requires key { length key.now < 2 ^ 32 }
+        requires value { length value.now < 2 ^ 32 }
+        requires room { block_size self.old < 2 ^ 32 }
+        ensures ok { OnOk result (self.new ≡ added self.old key.now value.now) }
+        ensures err { OnErr result (self.new ≡ self.old) }
+    {
+        self.text.truncate(self.entries);
+        put_entry(&mut self.text, shared, key, value)?;
+        self.places.reserve(1)?;
+        set_key(self.alloc, &mut self.last, shared, key.split_at(shared).1)?;
+        if self.since < self.interval {
+            self.since += 1;
+            self.entries = self.text.len();
+            return Ok(());
+        }
+        push_reserved(&mut self.places, self.entries as u32);
+        self.since = 1;
+        self.entries = self.text.len();
+        Ok(())
+    }
+
+    /// Puts an entry behind the others. Unchanged after a refusal.
+    ///
+    /// Source: LevelDB, table/block_builder.cc; docs/FORMAT.md, "Table file".
+    pub fn add(&mut self, key: &[u8], value: &[u8]) -> Result<(), NoMemory>
+        requires above { IsTrue (is_above self.old.last key.now) }
+        requires key { length key.now < 2 ^ 32 }
+        requires value { length value.now < 2 ^ 32 }
+        requires room { block_size self.old < 2 ^ 32 }
+        ensures ok { OnOk result (self.new ≡ added self.old key.now value.now) }
+        ensures rows { OnOk result ((rows : List Row) → Holds self.old rows → Holds self.new (rows ++ (key.now, value.now) ∷ [])) }
+        ensures err { OnErr result (self.new ≡ self.old) }
+    {
+        let shared = self.shared_with(key);
+        self.append(shared, key, value)
+    }
+
+    /// Takes all entries out, and begins a new block with the same interval.
+    pub fn clear(&mut self)
+        ensures { self.new ≡ empty self.old.interval }
+    {
+        self.since = 0;
+        self.entries = 0;
+        self.text.clear();
+        self.places.truncate(1);
+        self.last = None;
+    }
+
+    /// The whole block: its entries, the restarts and their number. The block itself stays as it
+    /// was, so that more entries may follow.
+    ///
+    /// Source: LevelDB, table/block_builder.cc; docs/FORMAT.md, "Table file".
+    #[tactic(auto, unfolding(crate::specs::Build::block_text))]
+    pub fn finish(&mut self) -> Result<&[u8], NoMemory>
+        ensures* after { sem 𝓛 (Rests the_row self.entry (λ d. d ≡ self.old)) }
+        ensures text { IfOk result (λ bytes. bytes.now ≡ block_text self.old) }
+        ensures size { IfOk result (λ bytes. length bytes.now ≡ block_size self.old) }
+        ensures good { IfOk result (λ bytes. (rows : List Row) → Holds self.old rows → Good bytes.now rows) }
+    {
+        self.text.truncate(self.entries);
+        put_places(&mut self.text, self.places.as_slice())?;
+        Ok(self.text.as_slice())
+    }
+}

@@ -1,0 +1,155 @@
+ghost use Rattle.std.specs.Prelude.{◌≡◌, ◌≤◌, ◌<◌, ◌+◌, ◌^◌, ◌++◌, List, ℕ, length, replicate, IfSome, Some, Ok, Err, MatchResult, option_map};
+ghost use Rattle.arrayvec.specs.ArrayVec.{array_vec_len};
+ghost use Rattle.byteorder.specs.Endian.{little_bytes};
+ghost use Rattle.st_tblock.specs.Fault.{fault_of};
+ghost use Rattle.st_tblock.specs.Reading.{number_in};
+ghost use Rattle.st_tblock.specs.Handles.{handle_in, handle_text, handles_in, padded, footer_text, footer_in, InRange};
+
+use crate::varint::{get_varint, put_varint};
+use arrayvec::ArrayVec;
+use byteorder::{ByteOrder, LittleEndian};
+use st_base::Damage;
+
+/// What a footer ends with. Source: LevelDB, table/format.h.
+pub const MAGIC: u64 = 0xdb47_7524_8b80_fb57;
+
+/// Where a block stands in its file: its offset and its size in bytes, without the five bytes
+/// behind it.
+#[derive(Clone, Copy, Debug, PartialEq, Eq)]
+pub struct Handle {
+    pub offset: u64,
+    pub size: u64,
+}
+
+/// The varint64 at the front, and the bytes behind it.
+fn number_at(bytes: &[u8]) -> Option<(u64, &[u8])>
+    ensures { option_map (λ x. (x.0, x.1.now)) result ≡ number_in bytes.now }
+{
+    let (number, size) = get_varint(bytes)?;
+    Some((number, bytes.split_at(size).1))
+}
+
+/// Puts `bytes` behind what stands in `out`.
+fn append<const N: usize>(out: &mut ArrayVec<u8, N>, bytes: &[u8])
+    requires { array_vec_len out.old + length bytes.now ≤ N }
+    ensures { out.new.items ≡ out.old.items ++ bytes.now }
+{
+    let _ = out.try_extend_from_slice(bytes);
+}
+
+/// Makes 48 zeros a footer that begins with these handles.
+#[tactic(auto, using(crate::proofs::Footers::padded_zeros))]
+fn lay_footer(bytes: &mut [u8], handles: &[u8])
+    requires zeros { bytes.old ≡ replicate 48 0 }
+    requires fit { length handles.now ≤ 40 }
+    ensures { bytes.new ≡ padded handles.now ++ little_bytes 8 MAGIC }
+{
+    let (front, back) = bytes.split_at_mut(40);
+    front.split_at_mut(handles.len()).0.copy_from_slice(handles);
+    LittleEndian::write_u64(back, MAGIC);
+}
+
+/// The handle that `bytes` begin with, and the bytes behind it.
+///
+/// `None` comes exactly where they don't begin with two varints. Source: LevelDB,
+/// doc/table_format.md; docs/FORMAT.md, "Table file".
+#[tactic(auto, unfolding(crate::specs::Handles::handle_in))]
+pub fn get_handle(bytes: &[u8]) -> Option<(Handle, &[u8])>
+    ensures { option_map (λ x. (x.0, x.1.now)) result ≡ handle_in bytes.now }
+{
+    let (offset, more) = number_at(bytes)?;
+    let (size, rest) = number_at(more)?;
+    Some((Handle { offset, size }, rest))
+}
+
+/// The bytes of a handle.
+#[tactic(auto, unfolding(crate::specs::Handles::handle_text))]
+fn handle_bytes(handle: Handle) -> ArrayVec<u8, 20>
+    ensures text { result.items ≡ handle_text handle }
+    ensures range { InRange handle }
+{
+    let offset = put_varint(handle.offset);
+    let size = put_varint(handle.size);
+    let mut out = ArrayVec::new();
+    append(&mut out, offset.as_slice());
+    append(&mut out, size.as_slice());
+    out
+}
+
+/// The bytes of a handle: 2 to 20. It takes no memory.
+///
+/// Source: LevelDB, doc/table_format.md; docs/FORMAT.md, "Table file".
+pub fn put_handle(handle: Handle) -> ArrayVec<u8, 20>
+    ensures text { result.items ≡ handle_text handle }
+    ensures read { (rest : List ℕ) → handle_in (result.items ++ rest) ≡ Some (handle, rest) }
+    ensures range { InRange handle }
+{
+    handle_bytes(handle)
+}
+
+/// The two handles that `bytes` begin with.
+#[tactic(auto, unfolding(crate::specs::Handles::handles_in))]
+fn handles_at(bytes: &[u8]) -> Option<(Handle, Handle)>
+    ensures { result ≡ handles_in bytes.now }
+{
+    let (meta, more) = get_handle(bytes)?;
+    let (index, _) = get_handle(more)?;
+    Some((meta, index))
+}
+
+/// The 48 bytes of a footer.
+#[tactic(auto, unfolding(crate::specs::Handles::footer_text))]
+fn footer_bytes(meta: Handle, index: Handle) -> [u8; 48]
+    ensures text { result ≡ footer_text meta index }
+    ensures fit { length (handle_text meta ++ handle_text index) ≤ 40 }
+    ensures meta { InRange meta }
+    ensures index { InRange index }
+{
+    let (meta, index) = (put_handle(meta), put_handle(index));
+    let mut handles: ArrayVec<u8, 40> = ArrayVec::new();
+    append(&mut handles, meta.as_slice());
+    append(&mut handles, index.as_slice());
+    let mut bytes = [0; 48];
+    lay_footer(&mut bytes, handles.as_slice());
+    bytes
+}
+
+/// The 48 bytes that a table ends with, which name its metaindex block and its index block. It
+/// takes no memory.
+///
+/// Source: LevelDB, doc/table_format.md; docs/FORMAT.md, "Table file".
+pub fn footer(meta: Handle, index: Handle) -> [u8; 48]
+    ensures text { result ≡ footer_text meta index }
+    ensures read { footer_in result ≡ Ok (meta, index) }
+{
+    footer_bytes(meta, index)
+}
+
+/// The metaindex block and the index block that a footer names. It takes no memory.
+///
+/// `Damage` comes exactly where the footer doesn't end with the magic number (place 40, the number
+/// found, the number wanted) or its first forty bytes don't begin with two handles (place 0, found
+/// 0, want 1), whichever comes first. Places count from the footer's first byte.
+/// Source: LevelDB, doc/table_format.md; docs/FORMAT.md, "Table file" and "Checks".
+#[tactic(auto, unfolding(crate::specs::Handles::footer_in))]
+pub fn read_footer(bytes: &[u8; 48]) -> Result<(Handle, Handle), Damage>
+    ensures { MatchResult result (λ x. footer_in bytes.now ≡ Ok x) (λ d. footer_in bytes.now ≡ Err (fault_of d)) }
+{
+    let (front, back) = bytes.split_at(40);
+    let found = LittleEndian::read_u64(back);
+    if found != MAGIC {
+        return Err(Damage {
+            place: 40,
+            found,
+            want: MAGIC,
+        });
+    }
+    match handles_at(front) {
+        Some(handles) => Ok(handles),
+        None => Err(Damage {
+            place: 0,
+            found: 0,
+            want: 1,
+        }),
+    }
+}

@@ -1,0 +1,42 @@
+//! Blocks of a table: entries, handles, footers, varints and sums, both ways.
+//!
+//! A block is entries in the order of their keys, each spelled behind the one before it, then the
+//! restarts, and their number. Offsets and sizes are in bytes, numbers little-endian; keys are
+//! ordered by bytes. The format is LevelDB's: doc/table_format.md, table/block_builder.cc,
+//! table/format.h and util/coding.h there, docs/FORMAT.md, "Table file", here.
+//!
+//! # What it promises
+//!
+//! - A varint, a handle and a footer are read from their own text, whatever follows
+//!   (`put_varint`, `put_handle`, `footer`), and else exactly as the format says (`get_varint`,
+//!   `get_varint32`, `get_handle`, `read_footer`).
+//! - A finished block is good for exactly the rows that were added (`EntryBlock::add`,
+//!   `EntryBlock::finish`), its bytes are LevelDB's, and a refused call leaves it unchanged.
+//! - A cursor gives the entries of a block in order, and `Damaged` exactly where a check fails
+//!   there, with its place (`EntryCursor::new`, `EntryCursor::step`, `EntryCursor::next`).
+//! - The sum of a block and its type byte is CRC-32C, and is stored masked (`crc32c`, `mask`).
+//!
+//! # What it leaves to others
+//!
+//! Where blocks stand in a file, their type byte and their sum are st_table's to read and check.
+//!
+//! # Where to read
+//!
+//! `specs/Block.antt` says what a block is, `specs/Cursor.antt` what a cursor gives,
+//! `specs/Build.antt` what a draft is and holds. Then `varint`, `handle`, `places`, `cursor` and
+//! `builder`.
+#![tactic(auto)]
+
+mod builder;
+mod cursor;
+mod handle;
+mod places;
+#[cfg(test)]
+mod tests;
+mod varint;
+
+pub use builder::EntryBlock;
+pub use cursor::{CursorErr, EntryCursor};
+pub use handle::{Handle, footer, get_handle, put_handle, read_footer};
+pub use st_crc::{crc32c, mask};
+pub use varint::{get_varint, get_varint32, put_varint};
