@@ -1,4 +1,5 @@
 pub mod Answering
+pub mod AtEnd
 pub mod Replying
 pub mod Selecting
 pub mod Sorting

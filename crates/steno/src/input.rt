@@ -26,6 +26,7 @@ pub struct Gathered {
 pub fn gather<I: Source>(alloc: Global, query: &Query, now: u64, input: &mut I) -> Gathered
     ensures kept { (bytes : List ℕ) → I.left input.old ≡ Some bytes → Gathers query.now now bytes result.kept.items result.end }
     ensures fault { result.end ≡ Err PcapErr.ReadFault → Rose (I.faults input.old) (I.faults input.new) }
+    ensures ended { (bytes : List ℕ) → I.left input.old ≡ Some bytes → OnOk result.end (I.left input.new ≡ Some []) }
     ensures later { I.faults input.old ≤ I.faults input.new }
     ensures rest { I.beside input.new ≡ I.beside input.old }
 {

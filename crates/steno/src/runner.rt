@@ -49,8 +49,9 @@ pub fn run<I: Source, O: Sink, E: Sink, C: Clock>(
     ensures asked { HasWordCause (map string_bytes words.now) result.status }
     ensures fault { HasFaultCause (I.faults input.old) (I.faults input.new) (O.faults out.old) (O.faults out.new) result.status }
 
-    // Where nothing failed, the input's end decides.
+    // Where nothing failed, the input's end decides; where all is done, it was read to its end.
     ensures complete { (text bytes : List ℕ) (q : Node) (rs : List Rec) (end : End) → IsPlan (map string_bytes words.now) text → Spells text q → I.left input.old ≡ Some bytes → Input bytes rs end → NoneRose (I.faults input.old) (I.faults input.new) (O.faults out.old) (O.faults out.new) → EndsBy end result.status }
+    ensures ended { (bytes : List ℕ) → I.left input.old ≡ Some bytes → result.status ≡ Status.Done → I.left input.new ≡ Some [] }
 
     // What stays as it was.
     ensures alone { LeavesAlone result.status input.old input.new out.old out.new err.old err.new }
@@ -88,6 +89,7 @@ fn once<I: Source, O: Sink, C: Clock>(
     ensures clock { (now : ℕ) × AsksClock (C.to_come clock.old) (C.to_come clock.new) result.status now }
     ensures asked { HasWordCause (map string_bytes words.now) result.status }
     ensures fault { HasFaultCause (I.faults input.old) (I.faults input.new) (O.faults out.old) (O.faults out.new) result.status }
+    ensures ended { (bytes : List ℕ) → I.left input.old ≡ Some bytes → result.status ≡ Status.Done → I.left input.new ≡ Some [] }
     ensures unread { IsUnread result.status → input.new ≡ input.old }
     ensures silent { IsSilent result.status → out.new ≡ out.old }
     ensures rest { (I.beside input.new ≡ I.beside input.old) × (O.beside out.new ≡ O.beside out.old) }
@@ -130,6 +132,7 @@ fn answer<I: Source, O: Sink>(
     ensures says { SaysReply result.status (line_of result) }
     ensures asked { (result.status ≢ Status.Usage) × (result.status ≢ Status.BadQuery) }
     ensures fault { HasFaultCause (I.faults input.old) (I.faults input.new) (O.faults out.old) (O.faults out.new) result.status }
+    ensures ended { (bytes : List ℕ) → I.left input.old ≡ Some bytes → result.status ≡ Status.Done → I.left input.new ≡ Some [] }
     ensures silent { IsSilent result.status → out.new ≡ out.old }
     ensures rest { (I.beside input.new ≡ I.beside input.old) × (O.beside out.new ≡ O.beside out.old) }
 {
@@ -145,7 +148,7 @@ fn refused<O: Sink>(alloc: Global, error: PcapErr, kept: Vec<Record>, out: &mut 
     ensures job { (q : Node) (now : ℕ) (bytes : List ℕ) → Gathers q now bytes kept.items (Err error) → Leaves (IsReply q now bytes) result.status (line_of result) (O.written out.old) (O.written out.new) }
     ensures says { SaysReply result.status (line_of result) }
     ensures later { O.faults out.old ≤ O.faults out.new }
-    ensures asked { (result.status ≢ Status.Usage) × (result.status ≢ Status.BadQuery) }
+    ensures asked { (result.status ≢ Status.Usage) × (result.status ≢ Status.BadQuery) × (result.status ≢ Status.Done) }
     ensures read { result.status ≡ Status.ReadFault → error ≡ PcapErr.ReadFault }
     ensures write { result.status ≡ Status.WriteFault → Rose (O.faults out.old) (O.faults out.new) }
     ensures silent { IsSilent result.status → out.new ≡ out.old }
@@ -165,7 +168,7 @@ fn cut_short<O: Sink>(alloc: Global, error: PcapErr, kept: Vec<Record>, out: &mu
     ensures job { (q : Node) (now : ℕ) (bytes : List ℕ) → Gathers q now bytes kept.items (Err error) → Leaves (IsReply q now bytes) result.status (line_of result) (O.written out.old) (O.written out.new) }
     ensures says { SaysReply result.status (line_of result) }
     ensures later { O.faults out.old ≤ O.faults out.new }
-    ensures asked { (result.status ≢ Status.Usage) × (result.status ≢ Status.BadQuery) × (result.status ≢ Status.ReadFault) }
+    ensures asked { (result.status ≢ Status.Usage) × (result.status ≢ Status.BadQuery) × (result.status ≢ Status.Done) × (result.status ≢ Status.ReadFault) }
     ensures write { result.status ≡ Status.WriteFault → Rose (O.faults out.old) (O.faults out.new) }
     ensures silent { IsSilent result.status → out.new ≡ out.old }
     ensures rest { O.beside out.new ≡ O.beside out.old }

@@ -1,7 +1,8 @@
-use Rattle.std.proofs.Common.{◌≡◌, [], ◌∷◌, ◌++◌, Ok, refl, sym, ap, subst, ◌∙◌, inl, inr, arith}
+use Rattle.std.proofs.Common.{◌≡◌, [], ◌∷◌, ◌++◌, Ok, Some, refl, sym, ap, subst, ◌∙◌, inl, inr, arith}
 use Rattle.st_pcap.specs.declared.reader.Phase.TheVariants.{Fresh, Stopped}
 use Rattle.st_pcap.specs.Reading.{Progress, Stands, Gives, IsGoing}
 use Rattle.st_query.specs.Meaning.{Matches}
+use Rattle.steno.proofs.AtEnd.{at_end}
 use Rattle.steno.proofs.Selecting.{selects-more}
 use Rattle.steno.proofs.input.gather.Goals as goal
 
@@ -39,3 +40,11 @@ returns-in-Err-clause-kept g c = λ bytes told.
     let before = c.records.invariant.kept bytes told in
     elim (c.in-Err.ensures.gives bytes before.0 before.1 before.2 before.3)
     [ inl outside ↦ inl outside | inr refused ↦ inr (before.1, refused, before.4) ]
+
+pub returns-in-Ok-None-clause-ended : goal.returns-in-Ok-None-clause-ended
+returns-in-Ok-None-clause-ended g c = λ bytes told.
+    let before = c.records.invariant.kept bytes told in
+    let given = c.in-Ok-None.ensures.gives bytes before.0 before.1 before.2 before.3 in
+    let end = subst (λ o. Gives bytes before.1 c.next_into.new.self (g.I.Source.left c.next_into.new.source) (Ok o)) c.in-Ok-None.field-0-is given in
+    let none = at_end c.next_into.new.self.phase c.next_into.new.self.taken c.next_into.new.self.number bytes before.1 end.1.0 c.in-Ok-None.ensures.goes end.1.2 end.0 in
+    end.1.1 ∙ ap Some none

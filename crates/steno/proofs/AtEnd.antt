@@ -1,0 +1,49 @@
+-- A reader that came to the whole end of an input left nothing of it.
+use Rattle.std.proofs.Common.{◌≡◌, ℕ, ◌+◌, ◌-◌, List, [], ◌∷◌, length, Option, Some, None, true, false, refl, ap, inl, inr, arith, length-append, nat_le, nat_eq}
+use Rattle.std.proofs.lemmas.Bool.Decides.{nat_tests}
+use Rattle.std.specs.Option.{option_map}
+use Rattle.std.specs.Prelude.{if◌then◌else◌}
+use Rattle.st_base.specs.Records.{Rec}
+use Rattle.st_pcap.specs.declared.errors.PcapErr.{PcapErr}
+use Rattle.st_pcap.specs.declared.errors.PcapErr.TheVariants.{TooMuch}
+use Rattle.st_pcap.specs.declared.forms.Order.{Order}
+use Rattle.st_pcap.specs.declared.forms.Unit as unit
+use Rattle.st_pcap.specs.declared.forms.TheConstants.{MAX_INPUT}
+use Rattle.st_pcap.specs.declared.reader.Phase.{Phase}
+use Rattle.st_pcap.specs.declared.reader.Phase.TheVariants.{Fresh, Open, Stopped}
+use Rattle.st_pcap.specs.Heads.{refusal_of_record}
+use Rattle.st_pcap.specs.Input.{Input, Whole, Refused, end_at}
+use Rattle.st_pcap.specs.Reading.{StandsIn, IsGoing}
+use Rattle.st_pcap.proofs.Spellings.{length-Records}
+
+no_refusal : (o : Option PcapErr) → option_map Refused o ≡ Some Whole → ⊥
+no_refusal None e = let bad : None ≡ Some Whole = e in cc
+no_refusal (Some cause) e = let bad : Some (Refused cause) ≡ Some Whole = e in cc
+
+-- where the end is whole nothing is left
+whole_is_empty : (order : Order) (u : unit.Unit) (before number : ℕ) (rest : List ℕ) → end_at order u before number rest ≡ Some Whole → length rest ≡ 0
+whole_is_empty order u before number rest e =
+    let other = option_map Refused (refusal_of_record order u number rest) in
+    elim (nat_le MAX_INPUT before) as (λ b. (if b then Some (Refused (TooMuch before)) else (if nat_eq (length rest) 0 then Some Whole else other)) ≡ Some Whole → length rest ≡ 0) [
+      | true ↦ λ f. let bad : Some (Refused (TooMuch before)) ≡ Some Whole = f in absurd cc
+      | false ↦ λ f.
+          elim (nat_eq (length rest) 0) as (λ c. nat_eq (length rest) 0 ≡ c → (if c then Some Whole else other) ≡ Some Whole → length rest ≡ 0) [
+            | true ↦ λ h k. grind (arith, nat_tests, h)
+            | false ↦ λ h k. absurd (no_refusal (refusal_of_record order u number rest) k)
+          ] refl f
+    ] e
+
+none_left : (rest : List ℕ) → length rest ≡ 0 → rest ≡ []
+none_left [] e = refl
+none_left (x ∷ xs) e = absurd (omega (arith, e))
+
+pub at_end : (phase : Phase) (taken number : ℕ) (bytes : List ℕ) (rs : List Rec) (rest : List ℕ)
+    → IsGoing phase → StandsIn phase taken number bytes rs rest → Input bytes rs Whole → rest ≡ []
+at_end Fresh taken number bytes rs rest going stands input = absurd going
+at_end (Stopped e) taken number bytes rs rest going stands input = absurd going
+at_end (Open form) taken number bytes rs rest going stands (inl (e, refusal, none, end)) = let bad : Whole ≡ Refused e = end in absurd (cc)
+at_end (Open form) taken number bytes rs rest going (head, text, whole, starts, records, begins, count, left) (inr (other, file, begin, ends)) =
+    let mine = length-Records form.order form.unit text rs rest records in
+    let yours = length-Records file.order file.unit file.text rs other file.records in
+    let empty = whole_is_empty file.order file.unit (length bytes - length other) (length rs + 1) other ends in
+    none_left rest (omega (arith, mine, yours, empty, ap length whole, length-append head text, starts.size, ap length file.whole, length-append file.head file.text, file.starts.size))
