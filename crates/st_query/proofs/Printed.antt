@@ -293,7 +293,7 @@ makes (both a b) d (left, right) h =
       t,
       ts ++ token.And ∷ (u ∷ us),
       joined_firm (printed a) (wrapped (is_joined b) (printed b)) (codes "and") token.And t u ts us firm word_and side,
-      and query made refl,
+      and {ts = t ∷ ts} {us = u ∷ us} query made refl,
     )
 makes (either a b) d (left, right) h =
     let (t, ts, firm, query) = makes a d left (omega arith) in
@@ -301,7 +301,7 @@ makes (either a b) d (left, right) h =
       t,
       ts ++ token.Or ∷ (u ∷ us),
       joined_firm (printed a) (wrapped (is_joined b) (printed b)) (codes "or") token.Or t u ts us firm word_or side,
-      or query made refl,
+      or {ts = t ∷ ts} {us = u ∷ us} query made refl,
     )
 
 -- the printed form of a sound query spells it

@@ -1,8 +1,8 @@
 //! The query language: a text is read as a query, printed again, and says which packets it matches.
 //!
-//! A text is bytes, at most 4,096 of them, with at most 64 parentheses open at once. The language is
-//! that of Stenographer's README in this project's profile: docs/QUERY.md. A refusal has its kind
-//! and its place, an offset in the text in bytes. Times are seconds since 1970.
+//! A text is bytes, at most 4,096 of them, with at most 64 parentheses open at once. The language
+//! follows Stenographer's README, with limits and places of our own: docs/QUERY.md. A refusal has
+//! its kind and its place, an offset in the text in bytes. Times are seconds since 1970.
 //!
 //! # What it promises
 //!

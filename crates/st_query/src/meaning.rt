@@ -71,6 +71,24 @@ fn gather(frame: &[u8], room: &mut [Key]) -> Option<usize>
     Some(len)
 }
 
+/// The query has three primitives or more, so that it pays to gather a frame's keys for it.
+fn is_long(node: &Node) -> bool {
+    let (Node::And { left, .. } | Node::Or { left, .. }) = node else {
+        return false;
+    };
+    matches!(left.get(), Node::And { .. } | Node::Or { .. })
+}
+
+/// The keys of a frame for this query, where there is room for them and it pays.
+fn gather_for(node: &Node, frame: &[u8], room: &mut [Key]) -> Option<usize>
+    ensures { MatchOption result ⊤ (λ n. (n ≤ length room.new) × KeysAre frame.now (take n room.new)) }
+{
+    if is_long(node) {
+        return gather(frame, room);
+    }
+    None
+}
+
 /// A key is of an address in this net.
 fn is_in(key: Key, net: Addr, bits: u8) -> bool
     ensures { IsTrue result ↔ KeyIsIn (network net bits) bits key }
@@ -183,41 +201,18 @@ fn holds(node: &Node, now: u64, packet: &Packet<'_>) -> bool
     }
 }
 
-/// The query is joined from others.
-fn is_chain(node: &Node) -> bool {
-    match node {
-        Node::And { .. } | Node::Or { .. } => true,
-        _ => false,
-    }
-}
-
-/// The packet matches the query by walks of its frame, of which a query that isn't joined makes one
-/// at most and ends it at its key.
-fn holds_alone(node: &Node, now: u64, r: &RecordRef<'_>) -> bool
-    ensures { IsTrue result ↔ HoldsOf (tree node.now) now r.now }
-{
-    let packet = Packet {
-        record: r,
-        keys: &[],
-        whole: false,
-    };
-    holds(node, now, &packet)
-}
-
 /// The packet matches the query, where the clock stands at `now` microseconds since 1970. It takes
 /// no memory.
 pub fn matches(query: &Query, now: u64, r: RecordRef<'_>) -> bool
     ensures { IsTrue result ↔ Matches query.now now r.entry }
 {
-    if !is_chain(query.node()) {
-        return holds_alone(query.node(), now, &r);
-    }
     let mut room = [Key::Proto(0); MOST_KEYS];
-    let len = gather(r.body, &mut room);
+    let node = query.node();
+    let len = gather_for(node, r.body, &mut room);
     let packet = Packet {
         record: &r,
         keys: &room[..len.unwrap_or(0)],
         whole: len.is_some(),
     };
-    holds(query.node(), now, &packet)
+    holds(node, now, &packet)
 }
