@@ -1,0 +1,10 @@
+mod Rows
+mod Steps
+mod Forms
+mod Holds
+mod Forward
+mod Faults
+mod Back
+mod Finish
+mod Texts
+pub mod OnePlan

@@ -1,0 +1,36 @@
+-- How the words of a command line are read: options in any place, and arguments.
+use Rattle.std.specs.Prelude.{◌≡◌, Bool, true, false, not, ◌==◌, List, [], ◌∷◌, ◌++◌, Option, Some, None, codes}
+use Rattle.clap.specs.Words.{Text}
+
+-- what the options say
+pub record Options : Type 0 where
+  pub ns : Bool
+  pub packets : Option Text
+  pub bytes : Option Text
+
+abbrev pub no_options : Options
+no_options = record { ns = false; packets = None; bytes = None }
+
+-- a word that may be an argument or an option's value: one that does not begin with a hyphen, or is
+-- a hyphen alone
+abbrev pub is_plain : Text → Bool
+is_plain [] = true
+is_plain (x ∷ []) = true
+is_plain (x ∷ (y ∷ rest)) = not (x == 45)
+
+-- With these options and arguments before them, the words are read to their end, and with those
+-- that they have they make those. An option stands once. It has its value as the next word, or
+-- behind an equals sign. Behind `--` each word is an argument.
+pub data Line : Options → List Text → List Text → Options → List Text → Type 0 where
+  nothing : {o : Options} {gs : List Text} → Line o gs [] o gs
+  rest : {o : Options} {gs ws hs : List Text} → hs ≡ gs ++ ws → Line o gs (codes "--" ∷ ws) o hs
+  word : {o p : Options} {gs ws hs : List Text} {w : Text} → is_plain w ≡ true → Line o (gs ++ w ∷ []) ws p hs → Line o gs (w ∷ ws) p hs
+  ns : {o p : Options} {gs ws hs : List Text} → o.ns ≡ false → Line (record o { ns = true }) gs ws p hs → Line o gs (codes "--ns" ∷ ws) p hs
+  packets : {o p : Options} {gs ws hs : List Text} {v : Text} → o.packets ≡ None → is_plain v ≡ true → Line (record o { packets = Some v }) gs ws p hs
+      → Line o gs (codes "--packets" ∷ (v ∷ ws)) p hs
+  packets_joined : {o p : Options} {gs ws hs : List Text} {v : Text} → o.packets ≡ None → Line (record o { packets = Some v }) gs ws p hs
+      → Line o gs ((codes "--packets=" ++ v) ∷ ws) p hs
+  bytes : {o p : Options} {gs ws hs : List Text} {v : Text} → o.bytes ≡ None → is_plain v ≡ true → Line (record o { bytes = Some v }) gs ws p hs
+      → Line o gs (codes "--bytes" ∷ (v ∷ ws)) p hs
+  bytes_joined : {o p : Options} {gs ws hs : List Text} {v : Text} → o.bytes ≡ None → Line (record o { bytes = Some v }) gs ws p hs
+      → Line o gs ((codes "--bytes=" ++ v) ∷ ws) p hs
