@@ -4,44 +4,53 @@ use Rattle.std.specs.Io.KnownBytes.{Keeps, Appends}
 use Rattle.st_base.specs.Pieces.{AppendsFront}
 use Rattle.st_base.specs.Records.{Rec}
 use Rattle.st_pcap.specs.declared.errors.PcapErr.{PcapErr}
-use Rattle.st_pcap.specs.declared.forms.Unit.TheVariants.{Micro}
 use Rattle.st_pcap.specs.Heads.{IsOfFileHead}
 use Rattle.st_pcap.specs.Input.{Input, Whole, Refused}
 use Rattle.st_pcap.specs.Text.{PcapText}
+use Rattle.st_plan.specs.Jobs.{Job}
 use Rattle.st_query.specs.declared.errors.QueryErr.{QueryErr}
 use Rattle.st_query.specs.declared.nodes.Node.{Node}
 use Rattle.st_query.specs.Answer.{AnswerOf}
 use Rattle.st_query.specs.Spelling.{Spells, Refuses}
+use Rattle.steno.specs.declared.shape.Shape.{Shape}
 use Rattle.steno.specs.declared.status.Status.{Status}
 use Rattle.steno.specs.declared.status.Status.TheVariants.{Done, Usage, BadInput, BadQuery, ReadFault, WriteFault, NoMemory}
+use Rattle.steno.specs.Limited.{Limited}
 use Rattle.steno.specs.Messages.{status_line, query_line, input_line}
-use Rattle.steno.specs.Plans.{IsPlan}
+use Rattle.steno.specs.Plans.{IsPlan, shape_of}
 
--- the output is the pcap text of the answer over these records
-abbrev pub IsAnswered : Node → ℕ → List Rec → List ℕ → Type 0
-IsAnswered q now rs output = (answer : List Rec) × AnswerOf q now rs answer × (output ≡ PcapText answer Micro)
+-- the output is the pcap text of the answer over these records, cut to its limits and in its unit
+abbrev pub IsAnswered : Node → Shape → ℕ → List Rec → List ℕ → Type 0
+IsAnswered q shape now rs output =
+    (answer : List Rec) × (cut : List Rec) × AnswerOf q now rs answer × Limited shape.packets shape.bytes answer cut × (output ≡ PcapText cut shape.unit)
 
 -- what stands at the output where the input is refused behind these records: their answer, but
 -- nothing at all where the file head is refused
-abbrev pub IsAnsweredBefore : Node → ℕ → List Rec → PcapErr → List ℕ → Type 0
-IsAnsweredBefore q now rs cause output = (IsOfFileHead cause × (output ≡ [])) ⊎ ((IsOfFileHead cause → ⊥) × IsAnswered q now rs output)
+abbrev pub IsAnsweredBefore : Node → Shape → ℕ → List Rec → PcapErr → List ℕ → Type 0
+IsAnsweredBefore q shape now rs cause output = (IsOfFileHead cause × (output ≡ [])) ⊎ ((IsOfFileHead cause → ⊥) × IsAnswered q shape now rs output)
 
 -- the query over these bytes ends so, with this output and this message
-abbrev pub IsReply : Node → ℕ → List ℕ → List ℕ → Status → List ℕ → Type 0
-IsReply q now bytes output Done message =
-    (rs : List Rec) × Input bytes rs Whole × IsAnswered q now rs output × (message ≡ [])
-IsReply q now bytes output BadInput message =
-    (rs : List Rec) × (cause : PcapErr) × Input bytes rs (Refused cause) × IsAnsweredBefore q now rs cause output × (message ≡ input_line cause)
-IsReply q now bytes output status message = ⊥
+abbrev pub IsReply : Node → Shape → ℕ → List ℕ → List ℕ → Status → List ℕ → Type 0
+IsReply q shape now bytes output Done message =
+    (rs : List Rec) × Input bytes rs Whole × IsAnswered q shape now rs output × (message ≡ [])
+IsReply q shape now bytes output BadInput message =
+    (rs : List Rec) × (cause : PcapErr) × Input bytes rs (Refused cause) × IsAnsweredBefore q shape now rs cause output × (message ≡ input_line cause)
+IsReply q shape now bytes output status message = ⊥
 
--- what these words ask for over these bytes ends so, with this output and this message, where no fault ends it
+-- the query of a plan over these bytes ends so, with this output and this message
+abbrev pub IsAsked : Job → ℕ → List ℕ → List ℕ → Status → List ℕ → Type 0
+IsAsked job now bytes output BadQuery message =
+    (e : QueryErr) × Refuses job.query e × (output ≡ []) × (message ≡ query_line e)
+IsAsked job now bytes output status message =
+    (q : Node) × Spells job.query q × IsReply q (shape_of job) now bytes output status message
+
+-- what these words ask for over these bytes ends so, with this output and this message, where no
+-- fault ends it
 abbrev pub IsJob : List (List ℕ) → ℕ → List ℕ → List ℕ → Status → List ℕ → Type 0
 IsJob words now bytes output Usage message =
-    ((text : List ℕ) → IsPlan words text → ⊥) × (output ≡ []) × (message ≡ status_line Usage)
-IsJob words now bytes output BadQuery message =
-    (text : List ℕ) × (e : QueryErr) × IsPlan words text × Refuses text e × (output ≡ []) × (message ≡ query_line e)
+    ((job : Job) → IsPlan words job → ⊥) × (output ≡ []) × (message ≡ status_line Usage)
 IsJob words now bytes output status message =
-    (text : List ℕ) × (q : Node) × IsPlan words text × Spells text q × IsReply q now bytes output status message
+    (job : Job) × IsPlan words job × IsAsked job now bytes output status message
 
 -- What a run leaves at the output, of the jobs that it may be asked for: all of one's output; after a fault
 -- of the output a front of it; and nothing where the input failed or memory was wanting.

@@ -1,4 +1,5 @@
 pub mod Jobs
+pub mod Limited
 pub mod Messages
 pub mod Plans
 pub mod Running

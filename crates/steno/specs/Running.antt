@@ -1,5 +1,5 @@
 -- What the calls of a run ensure.
-use Rattle.std.specs.Prelude.{◌≡◌, ◌≢◌, ◌≤◌, ◌⊎◌, ◌↔◌, ℕ, List, [], Option, None}
+use Rattle.std.specs.Prelude.{◌≡◌, ◌≢◌, ◌≤◌, ◌⊎◌, ℕ, List, [], Option, None}
 use Rattle.std.specs.Io.KnownBytes.{Keeps, Appends}
 use Rattle.st_base.specs.Faults.{Rose}
 use Rattle.st_base.specs.Pieces.{AppendsFront}
@@ -8,14 +8,16 @@ use Rattle.st_base.specs.Ticks.{Ticks}
 use Rattle.st_pcap.specs.declared.errors.PcapErr.{PcapErr}
 use Rattle.st_pcap.specs.Input.{End, Whole, Refused}
 use Rattle.st_pcap.specs.Reading.{IsOutside}
+use Rattle.st_plan.specs.Jobs.{Job}
 use Rattle.st_query.specs.declared.errors.QueryErr.{QueryErr}
 use Rattle.st_query.specs.declared.errors.QueryErr.TheVariants as refusal
 use Rattle.st_query.specs.declared.nodes.Node.{Node}
 use Rattle.st_query.specs.Spelling.{Refuses}
 use Rattle.steno.specs.declared.ending.Ending.{Ending}
+use Rattle.steno.specs.declared.shape.Shape.{Shape}
 use Rattle.steno.specs.declared.status.Status.{Status}
 use Rattle.steno.specs.declared.status.Status.TheVariants.{Done, Usage, BadInput, BadQuery, ReadFault, WriteFault, NoMemory}
-use Rattle.steno.specs.Jobs.{IsAnswered, IsJob, Leaves}
+use Rattle.steno.specs.Jobs.{IsAnswered, IsAsked, IsJob, Leaves}
 use Rattle.steno.specs.Messages.{line_of, status_line, query_line, input_line}
 use Rattle.steno.specs.Plans.{IsPlan}
 
@@ -25,15 +27,22 @@ pub record Tells (old new : Option (List ℕ)) (before after : ℕ) (message : L
   pub put : Appends old new message ⊎ (AppendsFront old new message × Rose before after)
   pub later : before ≤ after
 
--- the clock was asked once, but not at all where the words ask for nothing
+-- the clock was asked once, but not at all where the words ask for nothing, or memory was wanting
+-- for their plan
 abbrev pub AsksClock : Option (List ℕ) → Option (List ℕ) → Status → ℕ → Type 0
 AsksClock old new Usage now = new ≡ old
+AsksClock old new NoMemory now = (new ≡ old) ⊎ Ticks old new now
 AsksClock old new status now = Ticks old new now
 
 -- a run of these words over these bytes ended so, with this line: the clock and the output
 abbrev pub Ends : List (List ℕ) → Option (List ℕ) → Option (List ℕ) → List ℕ → Option (List ℕ) → Option (List ℕ) → Status → List ℕ → Type 0
 Ends words clock ticked bytes old new status line =
     (now : ℕ) × AsksClock clock ticked status now × Leaves (IsJob words now bytes) status line old new
+
+-- the query of a plan over these bytes ended so, with this line: the clock and the output
+abbrev pub Answers : Job → Option (List ℕ) → Option (List ℕ) → List ℕ → Option (List ℕ) → Option (List ℕ) → Status → List ℕ → Type 0
+Answers job clock ticked bytes old new status line =
+    (now : ℕ) × Ticks clock ticked now × Leaves (IsAsked job now bytes) status line old new
 
 -- a run of these words over these bytes ended so: the clock, the output and the message
 abbrev pub Runs : List (List ℕ) → Option (List ℕ) → Option (List ℕ) → List ℕ → Option (List ℕ) → Option (List ℕ)
@@ -53,8 +62,13 @@ SaysReply status message = ⊥
 -- what tells how a run of these words ended, whatever the input tells; it ends in no other way
 abbrev pub SaysOf : List (List ℕ) → Status → List ℕ → Type 0
 SaysOf words Usage message = message ≡ status_line Usage
-SaysOf words BadQuery message = (text : List ℕ) × (e : QueryErr) × IsPlan words text × Refuses text e × (message ≡ query_line e)
+SaysOf words BadQuery message = (job : Job) × (e : QueryErr) × IsPlan words job × Refuses job.query e × (message ≡ query_line e)
 SaysOf words status message = SaysReply status message
+
+-- what tells how the query of a plan ended
+abbrev pub SaysAnswer : Job → Status → List ℕ → Type 0
+SaysAnswer job BadQuery message = (e : QueryErr) × Refuses job.query e × (message ≡ query_line e)
+SaysAnswer job status message = SaysReply status message
 
 -- the run said so, and asked the clock
 abbrev pub Says : List (List ℕ) → Option (List ℕ) → Option (List ℕ) → Option (List ℕ) → Option (List ℕ) → ℕ → ℕ → Status → Type 0
@@ -62,12 +76,19 @@ Says words clock ticked err told before after status =
     (message : List ℕ) × SaysOf words status message × Tells err told before after message
     × ((now : ℕ) × AsksClock clock ticked status now)
 
--- Words without a plan, and only these, end so. A query is refused only where the words ask one
+-- Words without a plan, and only these, end so, but for want of memory. A query is refused only where the words ask one
 -- that is, and where they do, all else comes only for want of memory.
 pub record HasWordCause (words : List (List ℕ)) (status : Status) : Type 0 where
-  pub usage : (status ≡ Usage) ↔ ((text : List ℕ) → IsPlan words text → ⊥)
-  pub refused : status ≡ BadQuery → (text : List ℕ) × (e : QueryErr) × IsPlan words text × Refuses text e
-  pub exact : (text : List ℕ) (e : QueryErr) → IsPlan words text → Refuses text e → (status ≡ BadQuery) ⊎ (status ≡ NoMemory)
+  pub usage : status ≡ Usage → (job : Job) → IsPlan words job → ⊥
+  pub unplanned : ((job : Job) → IsPlan words job → ⊥) → (status ≡ Usage) ⊎ (status ≡ NoMemory)
+  pub refused : status ≡ BadQuery → (job : Job) × (e : QueryErr) × IsPlan words job × Refuses job.query e
+  pub exact : (job : Job) (e : QueryErr) → IsPlan words job → Refuses job.query e → (status ≡ BadQuery) ⊎ (status ≡ NoMemory)
+
+-- the query of a plan is refused where it is, and only there, but for want of memory
+pub record HasQueryCause (job : Job) (status : Status) : Type 0 where
+  pub planned : status ≢ Usage
+  pub refused : status ≡ BadQuery → (e : QueryErr) × Refuses job.query e
+  pub exact : (e : QueryErr) → Refuses job.query e → (status ≡ BadQuery) ⊎ (status ≡ NoMemory)
 
 -- a fault of the input or of the output comes only where its count rose, and no count falls
 pub record HasFaultCause (before after old new : ℕ) (status : Status) : Type 0 where
@@ -111,10 +132,10 @@ abbrev pub plain_of : Status → Ending
 plain_of status = record { status = status; line = None }
 
 -- the answer over these records was written, or a front of it, or nothing for want of memory
-abbrev pub Writes : Node → ℕ → List Rec → Option (List ℕ) → Option (List ℕ) → Ending → Ending → Type 0
-Writes q now rs old new ending result =
-    ((result ≡ ending) × ((output : List ℕ) × IsAnswered q now rs output × Appends old new output))
-    ⊎ (((result ≡ plain_of WriteFault) × ((output : List ℕ) × IsAnswered q now rs output × AppendsFront old new output))
+abbrev pub Writes : Node → Shape → ℕ → List Rec → Option (List ℕ) → Option (List ℕ) → Ending → Ending → Type 0
+Writes q shape now rs old new ending result =
+    ((result ≡ ending) × ((output : List ℕ) × IsAnswered q shape now rs output × Appends old new output))
+    ⊎ (((result ≡ plain_of WriteFault) × ((output : List ℕ) × IsAnswered q shape now rs output × AppendsFront old new output))
     ⊎ ((result ≡ plain_of NoMemory) × Keeps old new))
 
 -- it ended as it was to, or the output failed, or memory was wanting before the output was touched

@@ -38,14 +38,15 @@ use std::process::ExitCode;
 
 mod ending;
 mod input;
+mod limit;
 mod message;
 mod order;
 mod output;
 mod runner;
+mod shape;
 mod status;
 #[cfg(test)]
 mod tests;
-mod words;
 
 /// The room of the buffers of standard input and output, in bytes.
 const BUFFER: usize = 65_536;

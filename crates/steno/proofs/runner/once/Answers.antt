@@ -1,33 +1,46 @@
-use Rattle.std.proofs.Common.{◌≢◌, subst, map, string_bytes}
-use Rattle.st_query.specs.declared.errors.QueryErr.TheVariants as refusal
-use Rattle.st_query.specs.Spelling.{Spells, Refuses}
+use Rattle.std.proofs.Common.{sym, subst, map, string_bytes}
+use Rattle.std.specs.Prelude.{MatchOption}
+use Rattle.st_plan.specs.Jobs.{Job}
+use Rattle.st_plan.specs.Plans as words
+use Rattle.st_plan.specs.declared.jobs.Plan.{Plan}
+use Rattle.st_plan.specs.declared.jobs.Plan.TheVariants.{Once}
+use Rattle.st_query.specs.Spelling.{Refuses}
 use Rattle.steno.specs.Messages.{line_of}
-use Rattle.steno.proofs.Replying.{job_leaves, asks_clock, apart, spoken_leaves, asks_after_speaking}
+use Rattle.steno.proofs.Replying.{job_leaves, asks_clock, jobs_same, unplanned_ends, unplanned_cause}
 use Rattle.steno.proofs.runner.once.Goals as goal
 
-pub returns-in-Ok-clause-job : goal.returns-in-Ok-clause-job
-returns-in-Ok-clause-job g c = λ bytes told.
-    let spelled = subst (λ t. Spells t c.in-Ok.query) c.as_bytes.ensures.value c.in-Ok.ensures.spells in (
-      c.micros-now.result,
-      asks_clock _ _ c.answer.result.status c.micros-now.result c.answer.ensures.asked.0 c.micros-now.ensures,
-      job_leaves (map string_bytes c.args.words.now) c.in-Some.text.now c.in-Ok.query c.micros-now.result bytes c.answer.result.status (line_of c.answer.result) _ _
-          c.in-Some.ensures spelled (c.answer.ensures.job bytes told),
+pub returns-in-Ok-Some-clause-job : goal.returns-in-Ok-Some-clause-job
+returns-in-Ok-Some-clause-job g c = λ bytes told.
+    let given = map string_bytes c.args.words.now in
+    let found = subst (λ found. MatchOption found ((p : Plan) → words.IsPlan given p → ⊥) (λ p. words.IsPlan given p)) c.in-Ok-Some.field-0-is c.in-Ok-Some.ensures in
+    let plan = subst (words.IsPlan given) (sym c.once_of.ensures) found in
+    let answered = c.ask.ensures.job bytes told in (
+      answered.0,
+      asks_clock _ _ c.ask.result.status answered.0 c.ask.ensures.asked.planned answered.1,
+      job_leaves given c.once_of.result answered.0 bytes c.ask.result.status (line_of c.ask.result) _ _ plan answered.2,
     )
 
-pub returns-in-Ok-clause-asked : goal.returns-in-Ok-clause-asked
-returns-in-Ok-clause-asked g c =
-    let spelled = subst (λ t. Spells t c.in-Ok.query) c.as_bytes.ensures.value c.in-Ok.ensures.spells in
+pub returns-in-Ok-Some-clause-asked : goal.returns-in-Ok-Some-clause-asked
+returns-in-Ok-Some-clause-asked g c =
+    let given = map string_bytes c.args.words.now in
+    let job = c.once_of.result in
+    let found = subst (λ found. MatchOption found ((p : Plan) → words.IsPlan given p → ⊥) (λ p. words.IsPlan given p)) c.in-Ok-Some.field-0-is c.in-Ok-Some.ensures in
+    let plan = subst (words.IsPlan given) (sym c.once_of.ensures) found in
     record {
-      usage = (λ e. absurd (c.answer.ensures.asked.0 e), λ none. absurd (none c.in-Some.text.now c.in-Some.ensures));
-      refused = λ e. absurd (c.answer.ensures.asked.1 e);
-      exact = λ text e plan refused. absurd (apart c.in-Some.text.now text c.in-Ok.query e (map string_bytes c.args.words.now) c.in-Some.ensures plan spelled refused);
+      usage = λ e. absurd (c.ask.ensures.asked.planned e);
+      unplanned = λ none. absurd (none job plan);
+      refused = λ e. let refusal = c.ask.ensures.asked.refused e in (job, refusal.0, plan, refusal.1);
+      exact = λ other e asked refused. c.ask.ensures.asked.exact e (subst (λ (j : Job). Refuses j.query e) (jobs_same other job given asked plan) refused);
     }
 
-pub returns-in-Err-clause-job : goal.returns-in-Err-clause-job
-returns-in-Err-clause-job g c = λ bytes told.
-    let words = map string_bytes c.args.words.now in
-    let refuses = subst (λ t. c.in-Err.error ≢ refusal.NoMemory → Refuses t c.in-Err.error) c.as_bytes.ensures.value c.in-Err.ensures.refuses in (
-      c.micros-now.result,
-      asks_after_speaking _ _ c.in-Err.error c.bad_query.result c.micros-now.result c.bad_query.ensures c.micros-now.ensures,
-      spoken_leaves words c.in-Some.text.now c.micros-now.result bytes c.in-Err.error c.bad_query.result _ c.in-Some.ensures refuses c.bad_query.ensures,
-    )
+pub returns-in-Ok-None-clause-job : goal.returns-in-Ok-None-clause-job
+returns-in-Ok-None-clause-job g c = λ bytes told.
+    let given = map string_bytes c.args.words.now in
+    let none = subst (λ found. MatchOption found ((p : Plan) → words.IsPlan given p → ⊥) (λ p. words.IsPlan given p)) c.in-Ok-None.field-0-is c.in-Ok-None.ensures in
+    unplanned_ends given bytes _ _ c.plain.result c.plain.ensures (λ job plan. none (Once job) plan)
+
+pub returns-in-Ok-None-clause-asked : goal.returns-in-Ok-None-clause-asked
+returns-in-Ok-None-clause-asked g c =
+    let given = map string_bytes c.args.words.now in
+    let none = subst (λ found. MatchOption found ((p : Plan) → words.IsPlan given p → ⊥) (λ p. words.IsPlan given p)) c.in-Ok-None.field-0-is c.in-Ok-None.ensures in
+    unplanned_cause given c.plain.result c.plain.ensures (λ job plan. none (Once job) plan)
