@@ -32,6 +32,7 @@ WEB = micro(1000000000, 123456, "tcp80")
 LATER = micro(1000000000, 123456, "later_fragment")
 WHOLE = micro(1000000000, 123456, "extension_headers")
 CUT = micro(1000000000, 123456, FRAMES["extension_headers"][:67], 78)
+WHOLE_NANO = micro(1000000000, 123456789, "udp53")
 FIRST, SECOND = micro(5, 1, "udp53"), micro(5, 1, FRAMES["udp53"] + b"second")
 
 # what is tried: name, words, standard input, standard output, standard error, status
@@ -64,6 +65,20 @@ CASES = [
     ("an offset", ["once", "after 2001-09-09T03:46:40+02:00"], MICRO + DNS, MICRO + DNS, b"", 0),
     ("a packet of long ago", ["once", "before 45m ago"], MICRO + DNS, MICRO + DNS, b"", 0),
     ("no packet of late", ["once", "after 45m ago"], MICRO + DNS, MICRO, b"", 0),
+    ("nanoseconds kept", ["once", "--ns", "port 53"], SAMPLES["dns_big_nano"], NANO + WHOLE_NANO, b"", 0),
+    ("an option behind the query", ["once", "port 53", "--ns"], SAMPLES["dns_big_nano"], NANO + WHOLE_NANO, b"", 0),
+    ("an option before the command", ["--ns", "once", "port 53"], SAMPLES["dns_big_nano"], NANO + WHOLE_NANO, b"", 0),
+    ("the first packet by time", ["once", "--packets", "1", "port 53"], MICRO + DNS + FIRST, MICRO + FIRST, b"", 0),
+    ("a limit behind an equals sign", ["once", "--packets=2", "port 53"], MICRO + DNS + FIRST, MICRO + FIRST + DNS, b"", 0),
+    ("no packet at all", ["once", "--packets", "0", "port 53"], MICRO + DNS + FIRST, MICRO, b"", 0),
+    ("as many captured bytes as the first has", ["once", "--bytes", "46", "port 53"], MICRO + FIRST + SECOND, MICRO + FIRST, b"", 0),
+    ("a byte less", ["once", "--bytes", "45", "port 53"], MICRO + FIRST + SECOND, MICRO, b"", 0),
+    ("a byte less than both have", ["once", "--bytes", "97", "port 53"], MICRO + FIRST + SECOND, MICRO + FIRST, b"", 0),
+    ("as many as both have", ["once", "--bytes", "98", "port 53"], MICRO + FIRST + SECOND, MICRO + FIRST + SECOND, b"", 0),
+    ("a packet over the limit is not skipped", ["once", "--bytes", "51", "port 53"], MICRO + SECOND + FIRST, MICRO, b"", 0),
+    ("words behind two hyphens", ["once", "--", "port 53"], MICRO + DNS, MICRO + DNS, b"", 0),
+    ("a query that begins with a hyphen", ["once", "--", "-x"], MICRO, b"", b"steno: query: syntax at 0\n", 4),
+    ("a hyphen alone is a word", ["once", "-"], MICRO, b"", b"steno: query: syntax at 0\n", 4),
     ("a record head cut off", ["once", "port 53"], MICRO + DNS + DNS[:10], MICRO + DNS, b"steno: record 2: 10 of 16 bytes\n", 3),
     ("a body cut off", ["once", "port 53"], MICRO + DNS + DNS[:-1], MICRO + DNS, b"steno: record 2: 61 of 62 bytes\n", 3),
     ("nothing", ["once", "port 53"], b"", b"", b"steno: record 0: 0 of 24 bytes\n", 3),
@@ -83,6 +98,18 @@ CASES = [
     ("no words", [], MICRO, b"", USAGE, 2),
     ("no query", ["once"], MICRO, b"", USAGE, 2),
     ("a word too many", ["once", "a", "b"], MICRO, b"", USAGE, 2),
+    ("a word that begins with a hyphen", ["once", "-x"], MICRO, b"", USAGE, 2),
+    ("an option given twice", ["once", "--ns", "tcp", "--ns"], MICRO, b"", USAGE, 2),
+    ("a limit given twice", ["once", "--packets", "1", "--packets=1", "tcp"], MICRO, b"", USAGE, 2),
+    ("an option with a value that takes none", ["once", "--ns=1", "tcp"], MICRO, b"", USAGE, 2),
+    ("an option without its value", ["once", "tcp", "--packets"], MICRO, b"", USAGE, 2),
+    ("an option without its value, and a query", ["once", "--packets", "tcp"], MICRO, b"", USAGE, 2),
+    ("a limit out of range", ["once", "--packets", "4294967296", "tcp"], MICRO, b"", USAGE, 2),
+    ("a limit of eleven digits", ["once", "--bytes", "00000000001", "tcp"], MICRO, b"", USAGE, 2),
+    ("a limit with a sign", ["once", "--bytes=+1", "tcp"], MICRO, b"", USAGE, 2),
+    ("an option of another command", ["once", "--block", "4096", "tcp"], MICRO, b"", USAGE, 2),
+    ("a shortened name", ["once", "--pack", "1", "tcp"], MICRO, b"", USAGE, 2),
+    ("help is no command", ["--help"], MICRO, b"", USAGE, 2),
     ("an unknown command", ["twice", "port 53"], MICRO, b"", USAGE, 2),
     ("a word that is no UTF-8", ["once", b"\xff"], MICRO, b"", USAGE, 2),
     ("a number out of range", ["once", "port 70000"], MICRO, b"", b"steno: query: number at 5\n", 4),
