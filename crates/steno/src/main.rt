@@ -1,9 +1,10 @@
 //! steno: answers a query over captured packets, as a program.
 //!
 //! Its one command is `once QUERY`: it reads a pcap on standard input and writes those of its packets
-//! that match, by second, nanosecond and place, as a pcap with times in microseconds. A run ends by
-//! a status, whose number the process ends with, and by a line on standard error where it isn't 0:
-//! docs/FORMAT.md, "Statuses" and "Messages".
+//! that match, by second, nanosecond and place, as a pcap with times in microseconds, or with `--ns`
+//! in nanoseconds. `--packets N` and `--bytes N` limit the answer's packets and captured bytes. A
+//! run ends by a status, whose number the process ends with, and by a line on standard error where
+//! it isn't 0: docs/FORMAT.md, "Words", "Statuses" and "Messages".
 //!
 //! # What it promises
 //!
@@ -11,10 +12,10 @@
 //!
 //! - What each way to end leaves at the output and as the message (`job`). The answer is the one
 //!   list of the input's records that rises strictly by second, nanosecond and place, and whose
-//!   members are exactly those that match.
-//! - When each way to end comes (`usage`, `query`, `fault`, `complete`). Want of memory alone may
-//!   come at any time.
-//! - Where nothing is written, and where the input is not even touched (`silent`, `unread`).
+//!   members are exactly those that match; within limits it is the longest front that they allow.
+//! - What it says, and when each way to end comes (`says`, `asked`, `fault`, `complete`, `ended`).
+//!   Want of memory alone may come at any time.
+//! - What it leaves as it was (`alone`, `rest`).
 //!
 //! # What it leaves to others
 //!
@@ -23,8 +24,9 @@
 //!
 //! # Where to read
 //!
-//! `specs/Plans.antt`, `specs/Jobs.antt` and `specs/Messages.antt` say what is asked for and left;
-//! `specs/Running.antt` what the calls ensure. Then `runner`, and below it `input`, `order`, `output`.
+//! `specs/Plans.antt`, `specs/Jobs.antt`, `specs/Limited.antt` and `specs/Messages.antt` say what is
+//! asked for and left, `specs/Running.antt` what the calls ensure. Then `runner`, and below it
+//! `input`, `order`, `limit`, `output`.
 #![tactic(auto)]
 
 ghost use Rattle.std.specs.Prelude.{◌≡◌};

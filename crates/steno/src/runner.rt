@@ -32,12 +32,13 @@ use st_query::{Query, QueryErr, parse};
 use std::alloc::Global;
 
 /// Does what the words after the program's name ask for: `once QUERY` writes to `out` the packets
-/// of the pcap in `input` that match, by time, as a pcap with times in microseconds.
+/// of the pcap in `input` that match, by second, nanosecond and place, as a pcap in the unit and
+/// within the limits that the options say.
 ///
-/// The clock is read once, before the query is. Where a record is refused, the answer over the
-/// records before it is written; where the file head is, or the input fails, or memory is wanting,
-/// nothing is. Every status but `Done` puts its line to `err` at once; that this fails changes
-/// nothing. Source: docs/FORMAT.md, "Statuses" and "Messages".
+/// The clock is read once, in microseconds since 1970, before the query is. A refused record ends
+/// the input, and what came before it is answered; nothing is written where the file head is
+/// refused, the input fails, or memory is wanting. Every status but `Done` puts its line to `err` at once;
+/// that this fails changes nothing. Source: docs/FORMAT.md, "Words", "Statuses" and "Messages".
 pub fn run<I: Source, O: Sink, E: Sink, C: Clock>(
     alloc: Global,
     words: &[String],
