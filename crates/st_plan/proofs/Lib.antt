@@ -7,4 +7,4 @@ mod Faults
 mod Back
 mod Finish
 mod Texts
-mod OnePlan
+pub mod OnePlan
