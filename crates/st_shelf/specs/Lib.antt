@@ -1,0 +1,9 @@
+pub mod Folders
+pub mod Disks
+pub mod Calls
+pub mod Books
+pub mod Choosing
+pub mod Marks
+pub mod Listing
+pub mod Ends
+pub mod Runs

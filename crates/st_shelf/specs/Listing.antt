@@ -1,0 +1,47 @@
+-- The list of all names that are there.
+use Rattle.std.specs.Prelude.{◌≡◌, ◌≤◌, ◌<◌, ◌⊎◌, ◌↔◌, ℕ, List, [], ◌∷◌, Option, Some, IsSome, Contains, AllPairs, Result, IsErrOf}
+use Rattle.st_base.specs.Faults.{Rose}
+use Rattle.st_shelf.specs.declared.naming.Kind.TheVariants as kind
+use Rattle.st_shelf.specs.declared.naming.Name.{Name}
+use Rattle.st_shelf.specs.declared.naming.Name.TheVariants.{Block, Index, Parked, Draft}
+use Rattle.st_shelf.specs.declared.changes.Put.{Put}
+use Rattle.st_shelf.specs.declared.changes.Put.TheVariants.{Set, Move}
+use Rattle.st_shelf.specs.declared.shelves.ListErr.{ListErr}
+use Rattle.st_shelf.specs.declared.shelves.ListErr.TheVariants as list_err
+use Rattle.st_shelf.specs.Disks.{Log, reads}
+use Rattle.st_shelf.specs.Calls.{number_of}
+
+-- the sorts of names in their order: blocks, indexes, parked indexes, drafts of blocks, drafts of indexes
+abbrev pub sort_of : Name → ℕ
+sort_of (Block s) = 0
+sort_of (Index s) = 1
+sort_of (Parked s) = 2
+sort_of (Draft kind.Block d) = 3
+sort_of (Draft kind.Index d) = 4
+
+-- the first name stands before the second: by sort, and then by stamp or number
+abbrev pub Before : Name → Name → Type 0
+Before m n = (sort_of m < sort_of n) ⊎ ((sort_of m ≡ sort_of n) × (number_of m < number_of n))
+
+-- each name stands before all behind it, so none stands there twice
+abbrev pub Rises : List Name → Type 0
+Rises names = AllPairs Before names
+
+-- where the log is told, these are just the names that are there
+abbrev pub AreAll : Option Log → List Name → Type 0
+AreAll told names = (log : Log) → told ≡ Some log → (n : Name) → Contains names n ↔ IsSome (reads log n)
+
+-- the name under which a put puts bytes
+abbrev pub target : Put → Name
+target (Set n bytes) = n
+target (Move a b bytes) = b
+
+-- some of these puts is of this name
+abbrev pub IsPut : List Put → Name → Type 0
+IsPut [] n = ⊥
+IsPut (p ∷ ps) n = (target p ≡ n) ⊎ IsPut ps n
+
+-- the count never falls, and a disk fault comes only where it rose
+pub record HasListCause {T : Type 0} (before now : ℕ) (result : Result T ListErr) : Type 0 where
+  pub later : before ≤ now
+  pub failed : IsErrOf result list_err.DiskFault → Rose before now

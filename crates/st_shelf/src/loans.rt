@@ -1,0 +1,65 @@
+// The files that are out, and how often those of blocks were read.
+ghost use Rattle.std.specs.Prelude.{◌≡◌};
+ghost use Rattle.st_shelf.specs.Marks.{none_lent, lend, take_back};
+
+use crate::naming::Kind;
+use std::marker::Model;
+
+#[derive(Drop)]
+pub(crate) struct Loans {
+    lent: u64,
+    peak: u64,
+    block_reads: u64,
+    block_asked: u64,
+}
+
+impl Model for Loans {
+    ghost use Rattle.st_shelf.specs.Marks.{Lending};
+
+    ghost Value = { Lending };
+
+    ghost view = { λ a. record {
+      lent = a.lent;
+      peak = a.peak;
+      block_reads = a.block_reads;
+      block_asked = a.block_asked;
+    } };
+}
+
+impl Loans {
+    pub(crate) fn none() -> Loans
+        ensures { result ≡ none_lent }
+    {
+        Loans {
+            lent: 0,
+            peak: 0,
+            block_reads: 0,
+            block_asked: 0,
+        }
+    }
+
+    // One file more is out.
+    pub(crate) fn lend(&mut self)
+        ensures { self.new ≡ lend self.old }
+    {
+        self.lent = self.lent.saturating_add(1);
+        self.peak = self.peak.max(self.lent);
+    }
+
+    // A file came back.
+    pub(crate) fn take_back(&mut self, kind: Kind, reads: u64, asked: u64)
+        ensures { self.new ≡ take_back kind reads asked self.old }
+    {
+        self.lent = self.lent.saturating_sub(1);
+        if kind == Kind::Block {
+            self.block_reads = self.block_reads.saturating_add(reads);
+            self.block_asked = self.block_asked.saturating_add(asked);
+        }
+    }
+
+    pub(crate) fn peak(&self) -> u64
+        ensures { result ≡ self.now.peak }
+    {
+        self.peak
+    }
+}

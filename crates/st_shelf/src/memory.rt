@@ -1,0 +1,342 @@
+ghost use Rattle.std.specs.Prelude.{Option, ◌≡◌, ◌≤◌, ◌+◌, ◌⊎◌, ◌<◌, ℕ, List, [], None, Some, IfOk, OnOk, OnErr, IfErr};
+ghost use Rattle.st_base.specs.Faults.{Rose, HasCause};
+ghost use Rattle.st_shelf.specs.declared.changes.Call.TheVariants as call;
+ghost use Rattle.st_shelf.specs.declared.changes.Change.TheVariants as change;
+ghost use Rattle.st_shelf.specs.declared.naming.Name.TheVariants as name;
+ghost use Rattle.st_shelf.specs.Folders.{published};
+ghost use Rattle.st_shelf.specs.Disks.{Log, moment as moments, reads};
+ghost use Rattle.st_shelf.specs.Choosing.{IsCrash};
+ghost use Rattle.st_shelf.specs.Calls.{Looks, Adds, Does, Abandons, removal};
+ghost use Rattle.st_shelf.specs.Marks.{none_lent, draft_name, TakesFaults};
+ghost use Rattle.st_shelf.specs.Ends.{end_mark, end_faults};
+ghost use Rattle.st_shelf.specs.Books.{log_of};
+
+use crate::book::Book;
+use crate::changes::{Call, Change};
+use crate::folders::kind_of_name;
+use crate::listing::number;
+use crate::loans::Loans;
+use crate::memory_draft::{MemDraft, MemSealed};
+use crate::memory_file::MemFile;
+use crate::naming::{Kind, Name, Names};
+use crate::schedule::Schedule;
+use crate::shelves::{Draft, End, ListErr, Shelf};
+use st_base::{Failed, NoMemory, Octets};
+use std::alloc::Global;
+
+/// A shelf in memory, which tells its log and keeps it whole, so that a crash at any moment can be
+/// tried.
+///
+/// A call that finds no memory fails like one that the disk fails; it is one moment more only
+/// where there is memory to note it.
+#[derive(Drop)]
+pub struct MemShelf {
+    alloc: Global,
+    book: Book,
+    schedule: Schedule,
+    faults: u64,
+    loans: Loans,
+}
+
+impl MemShelf {
+    /// An empty shelf on which no call fails but for want of memory.
+    pub fn empty(alloc: Global) -> MemShelf
+        ensures log { ⟦<MemShelf as Shelf>⟧.log result ≡ Some (log_of [] [] []) }
+        ensures counts { (⟦<MemShelf as Shelf>⟧.faults result ≡ 0) × (⟦<MemShelf as Shelf>⟧.lending result ≡ none_lent) }
+    {
+        MemShelf::over(alloc, Book::empty(alloc), Schedule::none())
+    }
+
+    /// An empty shelf that fails where it is told to. Each call of the shelf, of its drafts and of
+    /// its files has a number, the first of them 0; those in `fails` fail, and all from `stop` on.
+    pub fn with(alloc: Global, fails: &[u64], stop: Option<u64>) -> Result<MemShelf, NoMemory>
+        ensures log { IfOk result (λ s. ⟦<MemShelf as Shelf>⟧.log s ≡ Some (log_of [] [] [])) }
+        ensures counts { IfOk result (λ s. (⟦<MemShelf as Shelf>⟧.faults s ≡ 0) × (⟦<MemShelf as Shelf>⟧.lending s ≡ none_lent)) }
+    {
+        match Schedule::of(alloc, fails, stop) {
+            Ok(schedule) => Ok(MemShelf::over(alloc, Book::empty(alloc), schedule)),
+            Err(error) => Err(error),
+        }
+    }
+
+    /// The shelf that a crash after the first `moment` of this shelf's own calls may leave, with
+    /// no call made yet and all of it flushed.
+    ///
+    /// The changes that were not flushed by then are numbered from 0, those of the block folder
+    /// first; change i is made exactly where bit i of `choice` is set.
+    pub fn crash(&self, alloc: Global, moment: u64, choice: u64) -> Result<MemShelf, NoMemory>
+        requires { (log : Log) → ⟦<MemShelf as Shelf>⟧.log self.now ≡ Some log → moment ≤ moments log }
+        ensures image { (log : Log) → ⟦<MemShelf as Shelf>⟧.log self.now ≡ Some log → IfOk result (λ s. (new : Log) × (⟦<MemShelf as Shelf>⟧.log s ≡ Some new) × IsCrash log moment choice new) }
+        ensures counts { IfOk result (λ s. (⟦<MemShelf as Shelf>⟧.faults s ≡ 0) × (⟦<MemShelf as Shelf>⟧.lending s ≡ none_lent)) }
+    {
+        match self.book.crash(alloc, moment, choice) {
+            Ok(book) => Ok(MemShelf::over(alloc, book, Schedule::none())),
+            Err(error) => Err(error),
+        }
+    }
+
+    /// How many of the shelf's own calls were made.
+    pub fn moments(&self) -> u64
+        ensures { (log : Log) → ⟦<MemShelf as Shelf>⟧.log self.now ≡ Some log → result ≡ moments log }
+    {
+        self.book.moments()
+    }
+
+    /// How many files were out at most.
+    pub fn peak_lent(&self) -> u64
+        ensures { result ≡ (⟦<MemShelf as Shelf>⟧.lending self.now).peak }
+    {
+        self.loans.peak()
+    }
+
+    /// How many calls of the shelf, its drafts and its files were made; 0 for a shelf of `empty`.
+    pub fn calls(&self) -> u64 {
+        self.schedule.calls()
+    }
+
+    fn over(alloc: Global, book: Book, schedule: Schedule) -> MemShelf
+        ensures book { result.book ≡ book }
+        ensures counts { (result.faults ≡ 0) × (result.loans ≡ none_lent) }
+    {
+        MemShelf {
+            alloc,
+            book,
+            schedule,
+            faults: 0,
+            loans: Loans::none(),
+        }
+    }
+
+    // A call that failed. Where there is memory it is one moment more.
+    fn fail(&mut self) -> Failed
+        ensures log { Looks (Some self.old.book) (Some self.new.book) }
+        ensures rose { (self.old.faults ≤ self.new.faults) × Rose self.old.faults self.new.faults }
+        ensures loans { self.new.loans ≡ self.old.loans }
+    {
+        let _ = self.book.note(Call::Other);
+        self.faults = self.faults.saturating_add(1);
+        Failed
+    }
+}
+
+impl Shelf for MemShelf {
+    type Draft = MemDraft;
+
+    type File = MemFile;
+
+    ghost use Rattle.st_shelf.specs.Marks.{Loan};
+    ghost use Rattle.std.proofs.Common.{refl};
+
+    ghost id = { λ s. 0 };
+
+    ghost log = { λ s. Some s.book };
+
+    ghost faults = { λ s. s.faults };
+
+    ghost lending = { λ s. s.loans };
+
+    ghost loan = { λ f. record { kind = f.kind; home = 0 } };
+
+    ghost drafts_tell = { λ shelf l d told. refl };
+
+    ghost sealed_tell = { λ shelf l s told. refl };
+
+    ghost files_tell = { λ shelf l f told. refl };
+
+    ghost keeps = { λ a b same. same };
+
+    fn create(&mut self, kind: Kind) -> Result<MemDraft, Failed> {
+        if self.schedule.fails() {
+            return Err(self.fail());
+        }
+        let Ok(schedule) = self.schedule.share() else {
+            return Err(self.fail());
+        };
+        match self.book.make(self.alloc, kind) {
+            Ok(number) => Ok(MemDraft {
+                kind,
+                number,
+                bytes: Vec::new(self.alloc),
+                faults: 0,
+                schedule,
+            }),
+            Err(_) => Err(self.fail()),
+        }
+    }
+
+    fn settle(&mut self, sealed: MemSealed, name: Name) -> Result<(), MemSealed> {
+        let MemSealed {
+            kind,
+            number: draft,
+            bytes,
+            faults,
+            schedule,
+        } = sealed;
+        let stamp = number(name);
+        let bytes = match self.put_under(kind, draft, stamp, bytes) {
+            Ok(()) => return Ok(()),
+            Err(bytes) => bytes,
+        };
+        Err(MemSealed {
+            kind,
+            number: draft,
+            bytes,
+            faults,
+            schedule,
+        })
+    }
+
+    fn hide(&mut self, stamp: u64) -> Result<(), Failed> {
+        if self.schedule.fails() {
+            return Err(self.fail());
+        }
+        match self.book.change(self.alloc, Change::Hide { stamp }) {
+            Ok(()) => Ok(()),
+            Err(_) => Err(self.fail()),
+        }
+    }
+
+    fn remove(&mut self, name: Name) -> Result<(), Failed> {
+        if self.schedule.fails() {
+            return Err(self.fail());
+        }
+        match self.book.remove(self.alloc, name) {
+            Ok(()) => Ok(()),
+            Err(_) => Err(self.fail()),
+        }
+    }
+
+    fn flush(&mut self, kind: Kind) -> Result<(), Failed> {
+        if self.schedule.fails() {
+            return Err(self.fail());
+        }
+        match self.book.note(Call::Flush(kind)) {
+            Ok(()) => Ok(()),
+            Err(_) => Err(self.fail()),
+        }
+    }
+
+    fn list(&mut self, alloc: Global) -> Result<Names, ListErr> {
+        if self.schedule.fails() {
+            self.fail();
+            return Err(ListErr::DiskFault);
+        }
+        let Ok(names) = self.book.list(alloc) else {
+            let _ = self.book.note(Call::Other);
+            return Err(ListErr::NoMemory);
+        };
+        match self.book.note(Call::Other) {
+            Ok(()) => Ok(names),
+            Err(_) => Err(ListErr::NoMemory),
+        }
+    }
+
+    fn reader(&mut self, name: Name) -> Result<MemFile, Failed> {
+        if self.schedule.fails() {
+            return Err(self.fail());
+        }
+        let Ok(schedule) = self.schedule.share() else {
+            return Err(self.fail());
+        };
+        let Ok(content) = self.book.copy_of(self.alloc, name) else {
+            return Err(self.fail());
+        };
+        match self.book.note(Call::Other) {
+            Ok(()) => {}
+            Err(_) => return Err(self.fail()),
+        }
+        self.loans.lend();
+        Ok(MemFile {
+            kind: kind_of_name(name),
+            content,
+            reads: 0,
+            asked: 0,
+            faults: 0,
+            schedule,
+        })
+    }
+
+    fn close(&mut self, file: MemFile) {
+        let MemFile {
+            kind,
+            content: _content,
+            reads,
+            asked,
+            faults,
+            schedule: _schedule,
+        } = file;
+        let failed = self.schedule.fails();
+        let noted = self.book.note(Call::Other);
+        if failed || noted.is_err() || faults > 0 {
+            self.faults = self.faults.saturating_add(1);
+        }
+        self.loans.take_back(kind, reads, asked);
+    }
+
+    fn abandon(&mut self, end: End<MemDraft>)
+        requires { (end_mark (λ d. record { kind = d.kind; number = d.number; home = 0 }) (λ s. record { kind = s.kind; number = s.number; home = 0 }) end).home ≡ 0 }
+        ensures log { Abandons (Some self.old.book) (Some self.new.book) (draft_name (end_mark (λ d. record { kind = d.kind; number = d.number; home = 0 }) (λ s. record { kind = s.kind; number = s.number; home = 0 }) end)) self.old.faults self.new.faults }
+        ensures cause { TakesFaults (end_faults (λ d. d.faults) (λ s. s.faults) end) self.old.faults self.new.faults }
+        ensures loans { self.new.loans ≡ self.old.loans }
+    {
+        match end {
+            End::Unsealed(
+                MemDraft {
+                    kind,
+                    number,
+                    bytes: _bytes,
+                    faults,
+                    schedule: _schedule,
+                },
+            ) => self.give_up(kind, number, faults),
+            End::Sealed(
+                MemSealed {
+                    kind,
+                    number,
+                    bytes: _bytes,
+                    faults,
+                    schedule: _schedule,
+                },
+            ) => self.give_up(kind, number, faults),
+        }
+    }
+
+    fn fault_count(&self) -> u64 {
+        self.faults
+    }
+}
+
+impl MemShelf {
+    // Renames a draft to its name, or gives its bytes back.
+    fn put_under(&mut self, kind: Kind, draft: u64, stamp: u64, bytes: Octets) -> Result<(), Octets>
+        ensures log { Does (Some self.old.book) (Some self.new.book) result (λ _. call.Did (change.Settle kind draft stamp bytes)) }
+        ensures there { OnOk result (reads self.new.book (published kind stamp) ≡ Some bytes) }
+        ensures back { IfErr result (λ b. b ≡ bytes) }
+        ensures cause { HasCause self.old.faults self.new.faults result }
+        ensures loans { self.new.loans ≡ self.old.loans }
+    {
+        if self.schedule.fails() {
+            self.fail();
+            return Err(bytes);
+        }
+        match self.book.settle(self.alloc, kind, draft, stamp, bytes) {
+            Ok(()) => Ok(()),
+            Err(bytes) => {
+                self.fail();
+                Err(bytes)
+            }
+        }
+    }
+
+    // Takes a draft back that had so many faults.
+    fn give_up(&mut self, kind: Kind, number: u64, faults: u64)
+        ensures log { Abandons (Some self.old.book) (Some self.new.book) (name.Draft kind number) self.old.faults self.new.faults }
+        ensures cause { TakesFaults faults self.old.faults self.new.faults }
+        ensures loans { self.new.loans ≡ self.old.loans }
+    {
+        if faults > 0 {
+            self.faults = self.faults.saturating_add(1);
+        }
+        let _ = self.remove(Name::Draft { kind, number });
+    }
+}
