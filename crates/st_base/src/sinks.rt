@@ -22,8 +22,8 @@ pub trait Sink {
 
     /// Takes a front of `bytes`, and answers how many it took.
     ///
-    /// `Failed`, and 0 for a piece that isn't empty, come only where `faults` rose. `Failed`
-    /// takes nothing.
+    /// Where `faults` doesn't rise it succeeds, and takes one byte at least of a piece that has
+    /// any. A write that fails takes nothing.
     fn write(&mut self, bytes: &[u8]) -> Result<usize, Failed>
         ensures bound { WritesAtMost result bytes.now }
         ensures bytes { WriteAppends (written self.old) (written self.new) result bytes.now }
