@@ -2,7 +2,7 @@
 use Rattle.std.specs.Prelude.{Option, ◌≡◌, ℕ, ◌+◌, ◌<◌, ◌≤◌, ◌⊎◌, List, ◌++◌, length, take, None, Some, Result, Ok, Err}
 use Rattle.st_base.specs.Records.{Rec}
 use Rattle.st_pcap.specs.declared.errors.PcapErr.{PcapErr}
-use Rattle.st_pcap.specs.declared.errors.PcapErr.TheVariants.{ReadFault}
+use Rattle.st_pcap.specs.declared.errors.PcapErr.TheVariants.{ReadFault, TooMuch}
 use Rattle.st_pcap.specs.declared.entries.Entry.{Entry}
 use Rattle.st_pcap.specs.declared.forms.Form.{Form}
 use Rattle.st_pcap.specs.declared.forms.TheConstants.{MAX_BODY, MAX_INPUT}
@@ -45,3 +45,13 @@ GivesRecord form before number rest left (Ok (Some r)) =
     × (rest ≡ head ++ (r.body ++ more)) × (left ≡ Some more)
 GivesRecord form before number rest left (Err e) =
     IsOutside e ⊎ (end_at form.order form.unit before number rest ≡ Some (Refused e))
+
+-- the cause isn't that too much stands before the record
+abbrev pub IsNoLimit : PcapErr → Type 0
+IsNoLimit e = (n : ℕ) → e ≡ TooMuch n → ⊥
+
+-- Where the most that is read of an input was taken, nothing is read and that is the answer; and
+-- it is the answer only there.
+pub record EndsAtLimit {S : Type 0} (before now : S) (taken still : ℕ) (result : Result (Option Rec) PcapErr) : Type 0 where
+  pub much : MAX_INPUT ≤ taken → (result ≡ Err (TooMuch taken)) × (still ≡ taken) × (now ≡ before)
+  pub much_only : (n : ℕ) → result ≡ Err (TooMuch n) → (n ≡ taken) × (MAX_INPUT ≤ taken)

@@ -1,9 +1,10 @@
 -- What a reader of pcap files stands for, and what its calls ensure.
-use Rattle.std.specs.Prelude.{Option, ◌≡◌, ℕ, ◌+◌, ◌*◌, ◌≤◌, ◌⊎◌, List, [], ◌∷◌, ◌++◌, length, ⊤, None, Some, Result, Ok, Err}
+use Rattle.std.specs.Prelude.{Option, ◌≡◌, ℕ, ◌+◌, ◌*◌, ◌≤◌, ◌⊎◌, List, [], ◌∷◌, ◌++◌, length, ⊤, None, Some, Result, Ok, Err, IfOk, OnSome}
 use Rattle.st_base.specs.Faults.{Rose}
 use Rattle.st_base.specs.Records.{Rec}
 use Rattle.st_pcap.specs.declared.errors.PcapErr.{PcapErr}
-use Rattle.st_pcap.specs.declared.errors.PcapErr.TheVariants.{ReadFault, NoMemory}
+use Rattle.st_pcap.specs.declared.errors.PcapErr.TheVariants.{ReadFault, NoMemory, TooMuch}
+use Rattle.st_pcap.specs.declared.forms.Form.{Form}
 use Rattle.st_pcap.specs.declared.reader.Phase.{Phase}
 use Rattle.st_pcap.specs.declared.reader.Phase.TheVariants.{Fresh, Open, Stopped}
 use Rattle.st_pcap.specs.declared.forms.TheConstants.{MAX_BODY, MAX_INPUT}
@@ -67,3 +68,19 @@ Took (Some xs) (Some ys) before now = before + length xs ≡ now + length ys
 pub record HasReadCause (before now : ℕ) (old : Progress) (result : Result (Option Rec) PcapErr) : Type 0 where
   pub later : before ≤ now
   pub fault : result ≡ Err ReadFault → Rose before now ⊎ (old.phase ≡ Stopped ReadFault)
+
+-- How much a call took: where the source tells its bytes, as many as it lost; never fewer than
+-- before, 16 at least for a record, and no more than the last record that may begin.
+pub record Counts (left still : Option (List ℕ)) (before now : ℕ) (result : Result (Option Rec) PcapErr) : Type 0 where
+  pub taken : Took left still before now
+  pub later : before ≤ now
+  pub grows : IfOk result (λ o. OnSome o (before + 16 ≤ now))
+  pub bound : now ≤ MAX_INPUT + 16 + MAX_BODY
+
+-- An open reader that took the most that is read of an input answers so, takes nothing and leaves
+-- its source as it was. So it answers only there, or where it had stopped at that.
+pub record KeepsLimit {S : Type 0} (before now : S) (old new : Progress) (result : Result (Option Rec) PcapErr) : Type 0 where
+  pub much : (form : Form) → old.phase ≡ Open form → MAX_INPUT ≤ old.taken
+      → (result ≡ Err (TooMuch old.taken)) × (new.taken ≡ old.taken) × (now ≡ before)
+  pub much_only : (n : ℕ) → result ≡ Err (TooMuch n)
+      → ((n ≡ old.taken) × (MAX_INPUT ≤ old.taken)) ⊎ (old.phase ≡ Stopped (TooMuch n))

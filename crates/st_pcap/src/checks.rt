@@ -1,8 +1,8 @@
-ghost use Rattle.std.specs.Prelude.{◌≡◌, ◌≤◌, length, MatchResult, Some};
+ghost use Rattle.std.specs.Prelude.{◌≡◌, ◌≤◌, length, IfErr, MatchResult, Some};
 ghost use Rattle.byteorder.specs.Endian.{little_number};
 ghost use Rattle.st_pcap.specs.Forms.{magic};
 ghost use Rattle.st_pcap.specs.Heads.{IsFileHead, refusal_of_file, refusal_of_rest, refusal_of_entry};
-ghost use Rattle.st_pcap.specs.Checks.{IsEntry};
+ghost use Rattle.st_pcap.specs.Checks.{IsEntry, IsNoLimit};
 
 use crate::entries::Entry;
 use crate::errors::PcapErr;
@@ -13,8 +13,9 @@ use byteorder::{ByteOrder, LittleEndian};
 /// which they are no file head.
 pub fn form_in(head: &[u8]) -> Result<Form, PcapErr>
     requires { length head.now ≤ 24 }
-    ensures { MatchResult result (λ form. IsFileHead form.order form.unit head.now)
+    ensures checks { MatchResult result (λ form. IsFileHead form.order form.unit head.now)
         (λ e. refusal_of_file head.now ≡ Some e) }
+    ensures below { IfErr result IsNoLimit }
 {
     if head.len() < 4 {
         return Err(PcapErr::Truncated {
@@ -36,8 +37,9 @@ pub fn form_in(head: &[u8]) -> Result<Form, PcapErr>
 fn form_with(order: Order, unit: Unit, head: &[u8]) -> Result<Form, PcapErr>
     requires magic { little_number 4 head.now ≡ magic order unit }
     requires size { length head.now ≤ 24 }
-    ensures { MatchResult result (λ form. IsFileHead form.order form.unit head.now)
+    ensures checks { MatchResult result (λ form. IsFileHead form.order form.unit head.now)
         (λ e. refusal_of_rest order head.now ≡ Some e) }
+    ensures below { IfErr result IsNoLimit }
 {
     if head.len() < 24 {
         return Err(PcapErr::Truncated {
@@ -62,8 +64,9 @@ fn form_with(order: Order, unit: Unit, head: &[u8]) -> Result<Form, PcapErr>
 /// is out of range.
 pub fn entry_in(form: Form, number: u64, head: &[u8]) -> Result<Entry, PcapErr>
     requires { length head.now ≡ 16 }
-    ensures { MatchResult result (IsEntry form head.now)
+    ensures checks { MatchResult result (IsEntry form head.now)
         (λ e. refusal_of_entry form.order form.unit number head.now ≡ Some e) }
+    ensures below { IfErr result IsNoLimit }
 {
     let fraction = number_at(form.order, 4, head);
     if fraction >= fractions(form.unit) {

@@ -9,10 +9,11 @@
 //! # What it promises
 //!
 //! - `PcapReader::next` gives the records of the input in their order, None exactly at its whole
-//!   end, and else the cause that the order of checks finds, however the source cuts its bytes. A
-//!   read fault comes only where the source's count of faults rose, or where the reader had
-//!   stopped at one; a reader that has stopped answers its cause again and reads nothing.
-//!   `next_into` is the same over memory that the caller gives.
+//!   end, and else the cause that the order of checks finds, where the source tells its bytes,
+//!   however it cuts them; only want of memory may come instead. Over any source, a read fault
+//!   comes only where the source's count of faults rose, or where the reader had stopped at one;
+//!   behind 2^40 bytes nothing is read; a reader that has stopped answers its cause again and
+//!   reads nothing. `next_into` is the same over memory that the caller gives.
 //! - All bytes are an input of exactly one list of records and one end (`laws::some_reading`,
 //!   `laws::one_reading`).
 //! - `file_head` and `record_head` are the heads of a pcap text, `put_header` and `put_record`
@@ -23,8 +24,8 @@
 //!
 //! # What it leaves to others
 //!
-//! Buffers: a reader makes one call of the source for a head and one for a body, where the source
-//! gives as much as it is asked for, and a writer one `put` for each.
+//! Buffers: a reader asks its source for a head or a body at a time, and a writer puts one at a
+//! time. How many reads and writes that takes is in no clause.
 //!
 //! # Where to read
 //!

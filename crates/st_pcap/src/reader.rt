@@ -40,9 +40,9 @@ impl Model for PcapReader {
 }
 
 impl PcapReader {
-    ghost use Rattle.st_pcap.specs.Reading.{fresh, Stands, Gives, Took, HasReadCause, IsGoing, IsOutside};
+    ghost use Rattle.st_pcap.specs.Reading.{fresh, Stands, Gives, Counts, KeepsLimit, HasReadCause, IsGoing};
     ghost use Rattle.st_pcap.specs.Input.{Input, Refused};
-    ghost use Rattle.st_pcap.specs.Opening.{Opens, KeepsOpening};
+    ghost use Rattle.st_pcap.specs.Opening.{Opens, KeepsOpening, OpensOnce, CountsHead};
 
     /// A reader that has read nothing. It takes no memory.
     pub fn new() -> PcapReader
@@ -62,14 +62,15 @@ impl PcapReader {
         self.taken
     }
 
-    /// The next record, in one allocation of its captured length; None where the input ends where
-    /// a record would begin. The first call reads the file head.
+    /// The next record; None where the input ends where a record would begin, with fewer than 2^40
+    /// bytes before. The first call reads the file head.
     ///
     /// Its nanoseconds are those of the file's fraction, its body has at most 262,144 bytes.
     /// `ReadFault` comes only where the source's `faults` rose in this call, or where an earlier
-    /// call answered it; `NoMemory` where memory was wanting; each other cause exactly where the
-    /// order of checks finds it. The reader has then stopped: it answers the same cause to each
-    /// later call, and reads nothing.
+    /// call answered it. `TooMuch` comes exactly where 2^40 bytes or more were taken, and nothing
+    /// is read then. Each other cause is the one that the order of checks finds, where the source
+    /// tells its bytes, but `NoMemory` may stand in its place. The reader has then stopped: it
+    /// answers the same cause to each later call, and reads nothing.
     pub fn next<S: Source>(
         &mut self,
         alloc: Global,
@@ -84,10 +85,9 @@ impl PcapReader {
         ensures again { (e : PcapErr) → self.old.phase ≡ Phase.Stopped e
             → (result ≡ Err e) × (self.new ≡ self.old) × (source.new ≡ source.old) }
 
-        // How much it took, by which a caller's loop ends.
-        ensures taken { Took (S.left source.old) (S.left source.new) self.old.taken self.new.taken }
-        ensures grows { IfOk result (λ o. OnSome o (self.old.taken + 16 ≤ self.new.taken)) }
-        ensures bound { self.new.taken ≤ MAX_INPUT + 16 + MAX_BODY }
+        // How much it took, by which a caller's loop ends, and that nothing is read behind 2^40 bytes.
+        ensures count { Counts (S.left source.old) (S.left source.new) self.old.taken self.new.taken result }
+        ensures limit { KeepsLimit source.old source.new self.old self.new result }
 
         // What the source's faults say, and what else of the source stays.
         ensures cause { HasReadCause (S.faults source.old) (S.faults source.new) self.old result }
@@ -96,8 +96,8 @@ impl PcapReader {
         self.next_into(source, Vec::new(alloc))
     }
 
-    /// The same with the record's body in the memory of `body`, whatever that has, so that nothing
-    /// is allocated where its capacity is enough.
+    /// The same with the record's body put into the memory of `body`, whatever bytes that has, so
+    /// that a caller may use one buffer again and again.
     pub fn next_into<S: Source>(
         &mut self,
         source: &mut S,
@@ -112,10 +112,9 @@ impl PcapReader {
         ensures again { (e : PcapErr) → self.old.phase ≡ Phase.Stopped e
             → (result ≡ Err e) × (self.new ≡ self.old) × (source.new ≡ source.old) }
 
-        // How much it took, by which a caller's loop ends.
-        ensures taken { Took (S.left source.old) (S.left source.new) self.old.taken self.new.taken }
-        ensures grows { IfOk result (λ o. OnSome o (self.old.taken + 16 ≤ self.new.taken)) }
-        ensures bound { self.new.taken ≤ MAX_INPUT + 16 + MAX_BODY }
+        // How much it took, by which a caller's loop ends, and that nothing is read behind 2^40 bytes.
+        ensures count { Counts (S.left source.old) (S.left source.new) self.old.taken self.new.taken result }
+        ensures limit { KeepsLimit source.old source.new self.old self.new result }
 
         // What the source's faults say, and what else of the source stays.
         ensures cause { HasReadCause (S.faults source.old) (S.faults source.new) self.old result }
@@ -145,14 +144,8 @@ impl PcapReader {
             → Stands self.old bytes rs rest
             → Opens bytes rs self.new (S.left source.new) result }
         ensures phase { KeepsOpening self.new result }
-        ensures again { (e : PcapErr) → self.old.phase ≡ Phase.Stopped e
-            → (result ≡ Err e) × (self.new ≡ self.old) × (source.new ≡ source.old) }
-
-        // How much it took.
-        ensures taken { Took (S.left source.old) (S.left source.new) self.old.taken self.new.taken }
-        ensures number { self.new.number ≡ self.old.number }
-        ensures grows { self.old.taken ≤ self.new.taken }
-        ensures bound { self.new.taken ≤ MAX_INPUT + 16 + MAX_BODY }
+        ensures once { OpensOnce source.old source.new self.old self.new result }
+        ensures count { CountsHead (S.left source.old) (S.left source.new) self.old self.new }
 
         // What the source's faults say, and what else of the source stays.
         ensures fault { result ≡ Err PcapErr.ReadFault
@@ -175,36 +168,5 @@ impl PcapReader {
                 }
             },
         }
-    }
-}
-
-#[cfg(test)]
-mod tests {
-    use super::*;
-    use crate::forms::{Order, Unit};
-    use st_base::MemSource;
-    use std::test::Fail;
-
-    // 2^40 bytes can't be given to a test, so the reader begins behind them.
-    #[test]
-    fn no_record_begins_behind_the_limit(rt: HostRuntime) -> Result<(), Fail> {
-        let alloc = rt.alloc();
-        let form = Form {
-            order: Order::Little,
-            unit: Unit::Micro,
-        };
-        let mut source = MemSource::over(alloc, &[], 1, &[])?;
-        for (taken, wanted) in [
-            (MAX_INPUT - 1, None),
-            (MAX_INPUT, Some(PcapErr::TooMuch { taken: MAX_INPUT })),
-        ] {
-            let mut reader = PcapReader {
-                phase: Phase::Open(form),
-                taken,
-                number: 1,
-            };
-            assert_eq!(rt; reader.next(alloc, &mut source).err(), wanted);
-        }
-        Ok(())
     }
 }

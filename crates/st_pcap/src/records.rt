@@ -1,7 +1,7 @@
-ghost use Rattle.std.specs.Prelude.{◌≡◌, ◌+◌, ◌<◌, ◌^◌, ◌≤◌, ℕ, List, Some, Err, Result, OnOk, IfOk, IfErr, OnSome, vec_len};
+ghost use Rattle.std.specs.Prelude.{◌≡◌, ◌+◌, ◌<◌, ◌≤◌, List, ℕ, Some, Err, IfOk, IfErr, vec_len};
 ghost use Rattle.st_base.specs.Faults.{Rose};
-ghost use Rattle.st_pcap.specs.Reading.{Took};
-ghost use Rattle.st_pcap.specs.Checks.{GivesForm, GivesBody, GivesRecord};
+ghost use Rattle.st_pcap.specs.Reading.{Took, Counts};
+ghost use Rattle.st_pcap.specs.Checks.{GivesForm, GivesBody, GivesRecord, EndsAtLimit, IsNoLimit};
 
 use crate::checks::{entry_in, form_in};
 use crate::entries::Entry;
@@ -16,6 +16,7 @@ pub fn read_form<S: Source>(source: &mut S, taken: &mut u64) -> Result<Form, Pca
     requires { taken.old ≤ MAX_INPUT + 16 + MAX_BODY }
     ensures gives { (bytes : List ℕ) → S.left source.old ≡ Some bytes
         → GivesForm bytes (S.left source.new) result }
+    ensures below { IfErr result IsNoLimit }
     ensures fault { result ≡ Err PcapErr.ReadFault → Rose (S.faults source.old) (S.faults source.new) }
     ensures taken { Took (S.left source.old) (S.left source.new) taken.old taken.new }
     ensures bound { taken.new ≤ taken.old + 24 }
@@ -42,10 +43,8 @@ pub fn read_record<S: Source>(
     ensures gives { (rest : List ℕ) → S.left source.old ≡ Some rest
         → GivesRecord form taken.old number rest (S.left source.new) result }
     ensures fault { result ≡ Err PcapErr.ReadFault → Rose (S.faults source.old) (S.faults source.new) }
-    ensures taken { Took (S.left source.old) (S.left source.new) taken.old taken.new }
-    ensures bound { taken.new ≤ MAX_INPUT + 16 + MAX_BODY }
-    ensures grows { taken.old ≤ taken.new }
-    ensures record { IfOk result (λ o. OnSome o (taken.old + 16 ≤ taken.new)) }
+    ensures count { Counts (S.left source.old) (S.left source.new) taken.old taken.new result }
+    ensures limit { EndsAtLimit source.old source.new taken.old taken.new result }
     ensures later { S.faults source.old ≤ S.faults source.new }
     ensures rest { S.beside source.new ≡ S.beside source.old }
 {
@@ -87,6 +86,7 @@ fn read_body<S: Source>(
     requires below { entry.now.nsec < 1000000000 }
     ensures gives { (rest : List ℕ) → S.left source.old ≡ Some rest
         → GivesBody entry.now number rest (S.left source.new) result }
+    ensures below { IfErr result IsNoLimit }
     ensures fault { result ≡ Err PcapErr.ReadFault → Rose (S.faults source.old) (S.faults source.new) }
     ensures taken { Took (S.left source.old) (S.left source.new) taken.old taken.new }
     ensures bound { taken.new ≤ MAX_INPUT + 16 + MAX_BODY }

@@ -8,11 +8,11 @@ pub returns-in-Err-entry_in-clause-gives : goal.returns-in-Err-entry_in-clause-g
 returns-in-Err-entry_in-clause-gives g c = λ rest told.
     let came = subst (Consumes _ _) (take_all c.in-Ok.have c.take_bytes.new.out (omega arith)) c.in-Ok.ensures.came.2 in
     let (more, _, whole) = left_behind _ _ rest _ told came in
-    inr (entry_refused c.args.form c.args.taken.now c.args.number rest c.take_bytes.new.out more _ (omega arith) (omega arith) whole c.in-Err-entry_in.ensures)
+    inr (entry_refused c.args.form c.args.taken.now c.args.number rest c.take_bytes.new.out more _ (omega arith) (omega arith) whole c.in-Err-entry_in.ensures.checks)
 
 pub returns-in-Err-read_body-clause-gives : goal.returns-in-Err-read_body-clause-gives
 returns-in-Err-read_body-clause-gives g c = λ rest told.
     let came = subst (Consumes _ _) (take_all c.in-Ok.have c.take_bytes.new.out (omega arith)) c.in-Ok.ensures.came.2 in
     let (more, to_come, whole) = left_behind _ _ rest _ told came in
-    body_given c.args.form c.args.taken.now c.args.number rest c.take_bytes.new.out more c.in-Ok-entry_in.entry (g.S.Source.left c.read_body.new.source) _ (omega arith) (omega arith) whole c.in-Ok-entry_in.ensures
+    body_given c.args.form c.args.taken.now c.args.number rest c.take_bytes.new.out more c.in-Ok-entry_in.entry (g.S.Source.left c.read_body.new.source) _ (omega arith) (omega arith) whole c.in-Ok-entry_in.ensures.checks
     (c.in-Err-read_body.ensures.gives more to_come)

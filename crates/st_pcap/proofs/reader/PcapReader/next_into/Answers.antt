@@ -11,7 +11,7 @@ returns-in-Ok-Some-clause-gives g c = λ bytes rest rs told stands.
     let inside = subst (λ p. Stands p bytes rs here) (sym c.self.view_is) stood in
     let left = g.S.Source.left c.read_record.new.source in
     let given = subst (λ o. GivesRecord c.in-Ok.form c.self.inside.taken (c.self.inside.number + 1) here left (Ok o)) c.in-Ok-Some.field-0-is (c.in-Ok-Some.ensures.gives here to_come) in
-    let took = subst (λ o. Took o left c.self.inside.taken c.read_record.new.taken) to_come c.in-Ok-Some.ensures.taken in
+    let took = subst (λ o. Took o left c.self.inside.taken c.read_record.new.taken) to_come c.in-Ok-Some.ensures.count.taken in
     stands_more c.self.inside.phase c.in-Ok.form c.self.inside.taken c.self.inside.number c.read_record.new.taken bytes here rs c.in-Ok-Some.packet left is_open inside given took
 
 pub returns-in-Ok-None-clause-gives : goal.returns-in-Ok-None-clause-gives
@@ -21,7 +21,7 @@ returns-in-Ok-None-clause-gives g c = λ bytes rest rs told stands.
     let inside = subst (λ p. Stands p bytes rs here) (sym c.self.view_is) stood in
     let left = g.S.Source.left c.read_record.new.source in
     let given = subst (λ o. GivesRecord c.in-Ok.form c.self.inside.taken (c.self.inside.number + 1) here left (Ok o)) c.in-Ok-None.field-0-is (c.in-Ok-None.ensures.gives here to_come) in
-    let took = subst (λ o. Took o left c.self.inside.taken c.read_record.new.taken) to_come c.in-Ok-None.ensures.taken in
+    let took = subst (λ o. Took o left c.self.inside.taken c.read_record.new.taken) to_come c.in-Ok-None.ensures.count.taken in
     stands_whole c.self.inside.phase c.in-Ok.form c.self.inside.taken c.self.inside.number c.read_record.new.taken bytes here rs left is_open inside given took
 
 pub returns-in-Err-read_record-clause-gives : goal.returns-in-Err-read_record-clause-gives
