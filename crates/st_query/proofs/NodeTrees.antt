@@ -39,3 +39,20 @@ back_tree = ind-Node (λ q. back (tree q) ≡ q) (λ x y e. subst (λ z. back (t
 -- nodes of one tree are one node
 pub one_node : (p q : Node) → tree p ≡ tree q → p ≡ q
 one_node p q e = sym (back_tree p) ∙ ap back e ∙ back_tree q
+
+pair_of : {a b c d : Tree} (f : Tree → Tree → Tree) → a ≡ c → b ≡ d → f a b ≡ f c d
+pair_of f e g = rw (e, g) refl
+
+-- each tree is a node's
+pub tree_back : (t : Tree) → tree (back t) ≡ t
+unfolding back
+tree_back (both a b) = node.fold-roll-Node Tree tree_step (Node-F.And (back a) (back b)) ∙ pair_of both (tree_back a) (tree_back b)
+tree_back (either a b) = node.fold-roll-Node Tree tree_step (Node-F.Or (back a) (back b)) ∙ pair_of either (tree_back a) (tree_back b)
+tree_back (one (prim.Host a)) = node.fold-roll-Node Tree tree_step (Node-F.Host a)
+tree_back (one (prim.Net a n)) = node.fold-roll-Node Tree tree_step (Node-F.Net a n)
+tree_back (one (prim.Port n)) = node.fold-roll-Node Tree tree_step (Node-F.Port n)
+tree_back (one (prim.Proto n)) = node.fold-roll-Node Tree tree_step (Node-F.Proto n)
+tree_back (one (prim.Vlan n)) = node.fold-roll-Node Tree tree_step (Node-F.Vlan n)
+tree_back (one (prim.Mpls n)) = node.fold-roll-Node Tree tree_step (Node-F.Mpls n)
+tree_back (one (prim.Before w)) = node.fold-roll-Node Tree tree_step (Node-F.Before w)
+tree_back (one (prim.After w)) = node.fold-roll-Node Tree tree_step (Node-F.After w)

@@ -285,24 +285,28 @@ joined_firm a b word joiner t u ts us f w g =
     (firm_append word (codes " " ++ b) (joiner ∷ []) (u ∷ us) (firm_word word joiner w) (firm_space b u us g) (apart_space b)))
     (apart_space (word ++ (codes " " ++ b)))
 
+both_made : (d : ℕ) (a b : Tree) → IsMade d a → IsSide d b → IsMade d (both a b)
+both_made d a b (t, ts, firm, query) (u, us, side, made) = (
+  t,
+  ts ++ token.And ∷ (u ∷ us),
+  joined_firm (printed a) (wrapped (is_joined b) (printed b)) (codes "and") token.And t u ts us firm word_and side,
+  and query made refl,
+)
+
+either_made : (d : ℕ) (a b : Tree) → IsMade d a → IsSide d b → IsMade d (either a b)
+either_made d a b (t, ts, firm, query) (u, us, side, made) = (
+  t,
+  ts ++ token.Or ∷ (u ∷ us),
+  joined_firm (printed a) (wrapped (is_joined b) (printed b)) (codes "or") token.Or t u ts us firm word_or side,
+  or query made refl,
+)
+
 makes : (q : Tree) (d : ℕ) → InRange q → depth q + d ≤ 64 → IsMade d q
 makes (one p) d range h = let (t, ts, firm, made) = make_prim p range in (t, ts, firm, item (primitive made))
 makes (both a b) d (left, right) h =
-    let (t, ts, firm, query) = makes a d left (omega arith) in
-    let (u, us, side, made) = make_side d b right (omega arith) (λ e k. makes b e right k) in (
-      t,
-      ts ++ token.And ∷ (u ∷ us),
-      joined_firm (printed a) (wrapped (is_joined b) (printed b)) (codes "and") token.And t u ts us firm word_and side,
-      and {ts = t ∷ ts} {us = u ∷ us} query made refl,
-    )
+    both_made d a b (makes a d left (omega arith)) (make_side d b right (omega arith) (λ e k. makes b e right k))
 makes (either a b) d (left, right) h =
-    let (t, ts, firm, query) = makes a d left (omega arith) in
-    let (u, us, side, made) = make_side d b right (omega arith) (λ e k. makes b e right k) in (
-      t,
-      ts ++ token.Or ∷ (u ∷ us),
-      joined_firm (printed a) (wrapped (is_joined b) (printed b)) (codes "or") token.Or t u ts us firm word_or side,
-      or {ts = t ∷ ts} {us = u ∷ us} query made refl,
-    )
+    either_made d a b (makes a d left (omega arith)) (make_side d b right (omega arith) (λ e k. makes b e right k))
 
 -- the printed form of a sound query spells it
 pub printed_spells : (q : Tree) → IsSound q → IsSpelled (printed q) q

@@ -1,5 +1,5 @@
 -- What holds of the definitions for all texts, queries and records.
-use Rattle.std.specs.Prelude.{◌≡◌, ℕ, List}
+use Rattle.std.specs.Prelude.{◌≡◌, ◌⊎◌, ℕ, List}
 use Rattle.st_base.specs.Records.{Rec}
 use Rattle.st_query.specs.declared.errors.QueryErr.{QueryErr}
 use Rattle.st_query.specs.declared.nodes.Node.{Node}
@@ -17,6 +17,10 @@ OneRefusal = (text : List ℕ) (d e : QueryErr) → Refuses text d → Refuses t
 -- no text is both spelled and refused
 abbrev pub NotBoth : Type 0
 NotBoth = (text : List ℕ) (q : Node) (e : QueryErr) → Spells text q → Refuses text e → ⊥
+
+-- the text spells a query, or it is refused
+abbrev pub HasReading : List ℕ → Type 0
+HasReading text = ((q : Node) × Spells text q) ⊎ ((e : QueryErr) × Refuses text e)
 
 -- a list of records has one answer at most
 abbrev pub OneAnswer : Type 0

@@ -29,6 +29,17 @@ EndsRun p (b ∷ bs) = IsFalse (p b)
 abbrev pub Begins : List ℕ → List ℕ → Type 0
 Begins text piece = take (length piece) text ≡ piece
 
+-- the token of a protocol's name, or of a word that times are asked by
+abbrev pub protocol_or_time : List ℕ → Option Token
+protocol_or_time w =
+    if bytes_eq w (codes "icmp") then Some (token.Key key.Icmp)
+    else (if bytes_eq w (codes "tcp") then Some (token.Key key.Tcp)
+    else (if bytes_eq w (codes "udp") then Some (token.Key key.Udp)
+    else (if bytes_eq w (codes "before") then Some (token.Key key.Before)
+    else (if bytes_eq w (codes "after") then Some (token.Key key.After)
+    else (if bytes_eq w (codes "ago") then Some (token.Key key.Ago)
+    else None)))))
+
 -- the token of a word that the grammar names, in lower case
 abbrev pub keyword : List ℕ → Option Token
 keyword w =
@@ -42,13 +53,7 @@ keyword w =
     else (if bytes_eq w (codes "proto") then Some (token.Key key.Proto)
     else (if bytes_eq w (codes "vlan") then Some (token.Key key.Vlan)
     else (if bytes_eq w (codes "mpls") then Some (token.Key key.Mpls)
-    else (if bytes_eq w (codes "icmp") then Some (token.Key key.Icmp)
-    else (if bytes_eq w (codes "tcp") then Some (token.Key key.Tcp)
-    else (if bytes_eq w (codes "udp") then Some (token.Key key.Udp)
-    else (if bytes_eq w (codes "before") then Some (token.Key key.Before)
-    else (if bytes_eq w (codes "after") then Some (token.Key key.After)
-    else (if bytes_eq w (codes "ago") then Some (token.Key key.Ago)
-    else None)))))))))))))))
+    else protocol_or_time w)))))))))
 
 -- how many ones lead the address where it is ones followed by zeros, else none
 abbrev pub HasMask : Addr → Option ℕ → Type 0

@@ -1,7 +1,7 @@
 //! The tokens of a text, from the left.
 ghost use Rattle.std.specs.Prelude.{◌≡◌, ℕ, ◌+◌, ◌^◌, ◌≤◌, ◌<◌, ◌↔◌, IsTrue, length, drop};
 ghost use Rattle.std.specs.List.{prefix_len};
-ghost use Rattle.st_query.specs.Tokens.{is_space, is_word_byte, keyword, Begins, EndsRun, HasMask, IsWord};
+ghost use Rattle.st_query.specs.Tokens.{is_space, is_word_byte, keyword, protocol_or_time, Begins, EndsRun, HasMask, IsWord};
 ghost use Rattle.st_query.specs.Lexing.{Next, Front};
 
 use crate::addrs::Addr;
@@ -91,6 +91,13 @@ fn keyword(word: &[u8]) -> Option<Token>
     if word == b"mpls".as_slice() {
         return Some(Token::Key(Keyword::Mpls));
     }
+    protocol_or_time(word)
+}
+
+/// The token of a protocol's name, or of a word that times are asked by.
+fn protocol_or_time(word: &[u8]) -> Option<Token>
+    ensures { result ≡ protocol_or_time word.now }
+{
     if word == b"icmp".as_slice() {
         return Some(Token::Key(Keyword::Icmp));
     }

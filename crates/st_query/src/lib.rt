@@ -8,7 +8,8 @@
 //!
 //! - A text is read as the query that it spells, or refused with the kind and place that the
 //!   grammar gives (`parse`).
-//! - A text spells one query at most, has one refusal at most, and not both (`one_reading`).
+//! - A text spells a query or is refused (`some_reading`), one query or one refusal at most, and
+//!   not both (`one_reading`).
 //! - The printed form is exact, and spells the query again where it has at most 4,096 bytes
 //!   (`print`).
 //! - A query matches exactly the packets of its meaning, at a clock's `now` (`matches`). It takes
@@ -48,7 +49,7 @@ mod words;
 
 pub use addrs::Addr;
 pub use errors::QueryErr;
-pub use laws::{one_answer, one_reading};
+pub use laws::{one_answer, one_reading, some_reading};
 pub use meaning::matches;
 pub use nodes::{Node, Query, When};
 pub use parser::parse;

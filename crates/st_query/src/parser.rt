@@ -11,7 +11,7 @@ use sqlite_items::Items;
 use std::alloc::Global;
 
 /// How many bytes a text may have.
-const MOST_BYTES: usize = 4096;
+pub const MOST_BYTES: usize = 4096;
 
 fn error_at(kind: Kind, place: usize) -> QueryErr
     ensures { result ≡ error_at kind place }

@@ -1,5 +1,5 @@
 //! A query as text.
-ghost use Rattle.std.specs.Prelude.{◌≡◌, ℕ, ◌++◌, ◌≤◌, OnOk, IfOk, List, length, codes, decimal};
+ghost use Rattle.std.specs.Prelude.{◌≡◌, ℕ, ◌++◌, ◌≤◌, IsFalse, OnOk, IfOk, List, length, codes, decimal};
 ghost use Rattle.st_query.specs.WordText.{address_text};
 ghost use Rattle.st_query.specs.Printing.{printed, wrapped, when_text};
 ghost use Rattle.st_query.specs.Spelling.{Spells};
@@ -67,6 +67,25 @@ fn put_node(alloc: Global, node: &Node, out: &mut Vec<u8>) -> Result<(), AllocEr
             out.extend_from_slice(b" or ")?;
             put_side(alloc, right.get(), out)
         }
+        Node::Host(_)
+        | Node::Net { .. }
+        | Node::Port(_)
+        | Node::Proto(_)
+        | Node::Vlan(_)
+        | Node::Mpls(_)
+        | Node::Before(_)
+        | Node::After(_) => put_primitive(alloc, node, out),
+    }
+}
+
+/// Appends the printed form of a query that is not joined from others.
+fn put_primitive(alloc: Global, node: &Node, out: &mut Vec<u8>) -> Result<(), AllocError>
+    requires range { InRange (tree node.now) }
+    requires alone { IsFalse (is_joined (tree node.now)) }
+    ensures { OnOk result (out.new.items ≡ out.old.items ++ printed (tree node.now)) }
+{
+    match node {
+        Node::And { .. } | Node::Or { .. } => unreachable!(),
         Node::Host(addr) => {
             out.extend_from_slice(b"host ")?;
             put_address(alloc, *addr, out)
