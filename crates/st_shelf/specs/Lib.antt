@@ -1,9 +1,9 @@
-pub mod Folders
-pub mod Disks
-pub mod Calls
-pub mod Books
-pub mod Choosing
 pub mod Marks
-pub mod Listing
 pub mod Ends
-pub mod Runs
+pub mod Causes
+pub use Rattle.st_disk.specs.Folders
+pub use Rattle.st_disk.specs.Disks
+pub use Rattle.st_disk.specs.Calls
+pub use Rattle.st_disk.specs.Listing
+pub use Rattle.st_disk.specs.Choosing
+pub use Rattle.st_disk.specs.Runs

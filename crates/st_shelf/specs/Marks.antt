@@ -1,10 +1,10 @@
 -- What stays with a draft, and with a lent file, from its making to its end; and what the shelf counts of them.
 use Rattle.std.specs.Prelude.{◌≡◌, ◌≤◌, ◌<◌, ℕ, ◌+◌, ◌-◌, ◌^◌, min, max, Result, OnErr, IsErrOf}
 use Rattle.st_base.specs.Faults.{Rose}
-use Rattle.st_shelf.specs.declared.naming.Kind.{Kind}
-use Rattle.st_shelf.specs.declared.naming.Kind.TheVariants as kind
-use Rattle.st_shelf.specs.declared.naming.Name.{Name}
-use Rattle.st_shelf.specs.declared.naming.Name.TheVariants.{Draft}
+use Rattle.st_disk.specs.declared.naming.Kind.{Kind}
+use Rattle.st_disk.specs.declared.naming.Kind.TheVariants as kind
+use Rattle.st_disk.specs.declared.naming.Name.{Name}
+use Rattle.st_disk.specs.declared.naming.Name.TheVariants.{Draft}
 
 -- a draft's kind, the number of its name, and the shelf that made it
 pub record Mark : Type 0 where

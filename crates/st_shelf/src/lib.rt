@@ -16,45 +16,28 @@
 //! - A fault is told only where the count of faults rose (each call's clause `cause`).
 //! - `MemShelf` does all of this in memory; `MemShelf::crash` gives the image that a choice by
 //!   bits names, after any moment.
-//! - `RealShelf` answers by the same clauses in a file system, and tells no content.
 //!
 //! # What it leaves to others
 //!
-//! Nothing is proved of what a real disk holds. Which names make a pair in use, and in which order
+//! The shelf in a file system is st_folder's. Which names make a pair in use, and in which order
 //! they are settled, is the spool's to know.
 //!
 //! # Where to read
 //!
-//! `specs/Folders.antt` says what a change does to a folder, `specs/Disks.antt` what a crash may
-//! leave, `specs/Calls.antt` what is said of a call. Then `shelves`, `memory`, `real`.
+//! The disk model is st_disk's: its `specs/Disks.antt` says what a crash may leave, its
+//! `specs/Calls.antt` what is said of a call. Then `shelves`, `memory`.
 #![tactic(auto)]
 
-mod book;
-mod changes;
-mod crashes;
-mod folders;
-mod listing;
 mod loans;
 mod memory;
 mod memory_draft;
 mod memory_file;
-mod naming;
-mod real;
-mod real_draft;
-mod real_file;
-mod real_folders;
-mod real_names;
 mod schedule;
 mod shelves;
-#[cfg(test)]
-mod tests;
 
-pub use changes::{Call, Change, Put};
+pub use loans::Loans;
 pub use memory::MemShelf;
 pub use memory_draft::{MemDraft, MemSealed};
 pub use memory_file::MemFile;
-pub use naming::{Kind, Name, Names};
-pub use real::RealShelf;
-pub use real_draft::{RealDraft, RealSealed};
-pub use real_file::RealFile;
 pub use shelves::{Draft, End, ListErr, SealedPair, Shelf};
+pub use st_disk::{Call, Change, Kind, Name, Names, Put};

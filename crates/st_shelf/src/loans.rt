@@ -1,12 +1,12 @@
-// The files that are out, and how often those of blocks were read.
 ghost use Rattle.std.specs.Prelude.{◌≡◌};
 ghost use Rattle.st_shelf.specs.Marks.{none_lent, lend, take_back};
 
-use crate::naming::Kind;
+use st_disk::Kind;
 use std::marker::Model;
 
+/// The files that a shelf has out, and how often those of blocks that came back were read.
 #[derive(Drop)]
-pub(crate) struct Loans {
+pub struct Loans {
     lent: u64,
     peak: u64,
     block_reads: u64,
@@ -27,7 +27,8 @@ impl Model for Loans {
 }
 
 impl Loans {
-    pub(crate) fn none() -> Loans
+    /// No file was ever lent.
+    pub fn none() -> Loans
         ensures { result ≡ none_lent }
     {
         Loans {
@@ -38,16 +39,16 @@ impl Loans {
         }
     }
 
-    // One file more is out.
-    pub(crate) fn lend(&mut self)
+    /// One file more is out.
+    pub fn lend(&mut self)
         ensures { self.new ≡ lend self.old }
     {
         self.lent = self.lent.saturating_add(1);
         self.peak = self.peak.max(self.lent);
     }
 
-    // A file came back.
-    pub(crate) fn take_back(&mut self, kind: Kind, reads: u64, asked: u64)
+    /// A file of this kind came back, which was read so often, and asked for so many bytes.
+    pub fn take_back(&mut self, kind: Kind, reads: u64, asked: u64)
         ensures { self.new ≡ take_back kind reads asked self.old }
     {
         self.lent = self.lent.saturating_sub(1);
@@ -57,7 +58,8 @@ impl Loans {
         }
     }
 
-    pub(crate) fn peak(&self) -> u64
+    /// How many files were out at most.
+    pub fn peak(&self) -> u64
         ensures { result ≡ self.now.peak }
     {
         self.peak

@@ -1,27 +1,23 @@
 ghost use Rattle.std.specs.Prelude.{Option, ◌≡◌, ◌≤◌, ◌+◌, ◌⊎◌, ◌<◌, ℕ, List, [], None, Some, IfOk, OnOk, OnErr, IfErr};
 ghost use Rattle.st_base.specs.Faults.{Rose, HasCause};
-ghost use Rattle.st_shelf.specs.declared.changes.Call.TheVariants as call;
-ghost use Rattle.st_shelf.specs.declared.changes.Change.TheVariants as change;
-ghost use Rattle.st_shelf.specs.declared.naming.Name.TheVariants as name;
-ghost use Rattle.st_shelf.specs.Folders.{published};
-ghost use Rattle.st_shelf.specs.Disks.{Log, moment as moments, reads};
-ghost use Rattle.st_shelf.specs.Choosing.{IsCrash};
-ghost use Rattle.st_shelf.specs.Calls.{Looks, Adds, Does, Abandons, removal};
+ghost use Rattle.st_disk.specs.declared.changes.Call.TheVariants as call;
+ghost use Rattle.st_disk.specs.declared.changes.Change.TheVariants as change;
+ghost use Rattle.st_disk.specs.declared.naming.Name.TheVariants as name;
+ghost use Rattle.st_disk.specs.Folders.{published};
+ghost use Rattle.st_disk.specs.Disks.{Log, moment as moments, reads};
+ghost use Rattle.st_disk.specs.Choosing.{IsCrash};
+ghost use Rattle.st_disk.specs.Calls.{Looks, Adds, Does, Abandons, removal};
 ghost use Rattle.st_shelf.specs.Marks.{none_lent, draft_name, TakesFaults};
 ghost use Rattle.st_shelf.specs.Ends.{end_mark, end_faults};
-ghost use Rattle.st_shelf.specs.Books.{log_of};
+ghost use Rattle.st_disk.specs.Books.{log_of};
 
-use crate::book::Book;
-use crate::changes::{Call, Change};
-use crate::folders::kind_of_name;
-use crate::listing::number;
 use crate::loans::Loans;
 use crate::memory_draft::{MemDraft, MemSealed};
 use crate::memory_file::MemFile;
-use crate::naming::{Kind, Name, Names};
 use crate::schedule::Schedule;
 use crate::shelves::{Draft, End, ListErr, Shelf};
 use st_base::{Failed, NoMemory, Octets};
+use st_disk::{Book, Call, Change, Kind, Name, Names, kind_of_name, number};
 use std::alloc::Global;
 
 /// A shelf in memory, which tells its log and keeps it whole, so that a crash at any moment can be
@@ -32,7 +28,7 @@ use std::alloc::Global;
 #[derive(Drop)]
 pub struct MemShelf {
     alloc: Global,
-    book: Book,
+    pub(crate) book: Book,
     schedule: Schedule,
     faults: u64,
     loans: Loans,

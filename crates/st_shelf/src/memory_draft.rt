@@ -1,9 +1,9 @@
 ghost use Rattle.std.specs.Prelude.{◌≡◌, Some};
 
-use crate::naming::Kind;
 use crate::schedule::Schedule;
 use crate::shelves::Draft;
 use st_base::{Failed, Octets, Sink};
+use st_disk::Kind;
 
 /// A draft of a shelf in memory. It tells its bytes.
 pub struct MemDraft {

@@ -1,8 +1,8 @@
 ghost use Rattle.std.specs.Prelude.{◌≡◌, Some, length, drop};
 
-use crate::naming::Kind;
 use crate::schedule::Schedule;
 use st_base::{Failed, Octets, Reader};
+use st_disk::Kind;
 
 /// A file that a shelf in memory has lent. It tells its bytes.
 pub struct MemFile {

@@ -1,17 +1,18 @@
 ghost use Rattle.std.specs.Prelude.{Option, ◌≡◌, ℕ, List, None, Some, [], IsSome, IfOk, IfErr, OnOk, MatchResult};
 ghost use Rattle.st_base.specs.Faults.{Rose, HasCause};
-ghost use Rattle.st_shelf.specs.declared.naming.Name.TheVariants as name;
-ghost use Rattle.st_shelf.specs.declared.changes.Change.TheVariants as change;
-ghost use Rattle.st_shelf.specs.declared.changes.Call.TheVariants as call;
-ghost use Rattle.st_shelf.specs.Folders.{kind_of};
-ghost use Rattle.st_shelf.specs.Disks.{Log};
-ghost use Rattle.st_shelf.specs.Calls.{Looks, Does, Reads, given, removal, Abandons, IsFresh, IsPublished, number_of, Shows};
+ghost use Rattle.st_disk.specs.declared.naming.Name.TheVariants as name;
+ghost use Rattle.st_disk.specs.declared.changes.Change.TheVariants as change;
+ghost use Rattle.st_disk.specs.declared.changes.Call.TheVariants as call;
+ghost use Rattle.st_disk.specs.Folders.{kind_of};
+ghost use Rattle.st_disk.specs.Disks.{Log};
+ghost use Rattle.st_disk.specs.Calls.{Looks, Does, Reads, given, removal, Abandons, IsFresh, IsPublished, number_of, Shows};
 ghost use Rattle.st_shelf.specs.Marks.{Mark, Loan, Lending, lend, take_back, draft_name, TakesFaults};
-ghost use Rattle.st_shelf.specs.Listing.{Rises, AreAll, HasListCause};
+ghost use Rattle.st_disk.specs.Listing.{Rises, AreAll};
+ghost use Rattle.st_shelf.specs.Causes.{HasListCause};
 ghost use Rattle.st_shelf.specs.Ends.{end_mark, end_faults};
 
-use crate::naming::{Kind, Name, Names};
 use st_base::{Failed, Reader, Sink};
+use st_disk::{Kind, Name, Names};
 use std::alloc::Global;
 
 /// Why a list of names was not given.

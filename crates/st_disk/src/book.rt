@@ -1,0 +1,285 @@
+ghost use Rattle.std.specs.Prelude.{Option, ◌≡◌, ◌++◌, ◌∷◌, [], None, option_map, OnOk, OnErr, IfOk, IfErr, ℕ, List, ◌≤◌, ◌<◌, vec_len, vec_capacity, option_to_list, ◌↔◌, IsSome, Contains, Some, length};
+ghost use Rattle.st_disk.specs.declared.changes.Change.TheVariants as change;
+ghost use Rattle.st_disk.specs.declared.changes.Call.TheVariants as call;
+ghost use Rattle.st_disk.specs.Folders.{Folder, apply, folder_of, published};
+ghost use Rattle.st_disk.specs.declared.naming.Name.{Name};
+ghost use Rattle.st_disk.specs.Listing.{Rises};
+ghost use Rattle.st_disk.specs.Calls.{removal};
+ghost use Rattle.st_disk.specs.Choosing.{IsCrash};
+ghost use Rattle.st_disk.specs.Disks.{reads, and_then, Leaves, moment};
+ghost use Rattle.st_disk.specs.declared.naming.Name.TheVariants as name;
+ghost use Rattle.st_disk.specs.declared.changes.Put.{Put};
+ghost use Rattle.st_disk.specs.Books.{MakesBelow, ChangesNothing, IsKept, log_of};
+
+use crate::changes::{Call, Change, Put};
+use crate::crashes::{choose, copy_puts, play_all};
+use crate::folders::{find, kind_of_change, kind_of_name, put_of};
+use crate::listing::gather;
+use crate::naming::{Kind, Name, Names};
+use st_base::{NoMemory, Octets};
+use std::alloc::Global;
+use std::marker::Model;
+
+/// The log of a shelf in memory, with its two folders as they are read. Contracts see it as its log.
+///
+/// Each call either adds one call to the log or, where it finds no memory, leaves the log as it was.
+#[derive(Drop)]
+pub struct Book {
+    start_blocks: Vec<Put>,
+    start_indexes: Vec<Put>,
+    calls: Vec<Call>,
+    blocks: Vec<Put>,
+    indexes: Vec<Put>,
+    next: u64,
+}
+
+impl Model for Book {
+    ghost use Rattle.st_disk.specs.Disks.{Log};
+    ghost use Rattle.st_disk.specs.Books.{IsKept};
+
+    ghost Value = { Log };
+
+    ghost view = { λ a. record { start_blocks = a.start_blocks.items; start_indexes = a.start_indexes.items; calls = a.calls.items } };
+
+    ghost invariant = { λ a. IsKept (record { start_blocks = a.start_blocks.items; start_indexes = a.start_indexes.items; calls = a.calls.items }) a.blocks.items a.indexes.items a.next };
+}
+
+impl Book {
+    /// Nothing is there, and no call was made. It takes no memory.
+    pub fn empty(alloc: Global) -> Book
+        ensures { result ≡ record { start_blocks = []; start_indexes = []; calls = [] } }
+    {
+        Book {
+            start_blocks: Vec::new(alloc),
+            start_indexes: Vec::new(alloc),
+            calls: Vec::new(alloc),
+            blocks: Vec::new(alloc),
+            indexes: Vec::new(alloc),
+            next: 0,
+        }
+    }
+
+    /// What is read under a name.
+    pub fn get(&self, name: Name) -> Option<&Octets>
+        ensures { option_map (λ b. b.now) result ≡ reads self.now name }
+    {
+        match kind_of_name(name) {
+            Kind::Block => find(&self.blocks, name),
+            Kind::Index => find(&self.indexes, name),
+        }
+    }
+
+    /// All names that are there, in order, each once.
+    pub fn list(&self, alloc: Global) -> Result<Names, NoMemory>
+        ensures sorted { IfOk result Rises }
+        ensures all { IfOk result (λ names. (n : Name) → Contains names n ↔ IsSome (reads self.now n)) }
+    {
+        let mut items = Vec::new(alloc);
+        gather(self, &self.blocks, &mut items)?;
+        gather(self, &self.indexes, &mut items)?;
+        Ok(Names { items })
+    }
+
+    /// Notes a call that changed no folder.
+    pub fn note(&mut self, call: Call) -> Result<(), NoMemory>
+        requires { ChangesNothing call }
+        ensures ok { OnOk result (self.new ≡ and_then self.old call) }
+        ensures err { OnErr result (self.new ≡ self.old) }
+    {
+        if self.calls.reserve(1).is_err() {
+            return Err(NoMemory);
+        }
+        push_call(&mut self.calls, call);
+        Ok(())
+    }
+
+    /// Makes a change other than the making of a draft. Where memory is wanting it comes back.
+    pub fn change(&mut self, alloc: Global, change: Change) -> Result<(), Change>
+        requires { MakesBelow 0 change }
+        ensures ok { OnOk result (self.new ≡ and_then self.old (call.Did change)) }
+        ensures err { IfErr result (λ c. (c ≡ change) × (self.new ≡ self.old)) }
+    {
+        record_in(
+            alloc,
+            &mut self.calls,
+            &mut self.blocks,
+            &mut self.indexes,
+            change,
+        )
+    }
+
+    /// How many calls were made.
+    pub fn moments(&self) -> u64
+        ensures { result ≡ moment self.now }
+    {
+        self.calls.len() as u64
+    }
+
+    /// What a crash after the first `moment` calls leaves by this choice, flushed and with no call
+    /// made.
+    ///
+    /// The changes that were not flushed by then are numbered from 0, those of the block folder
+    /// first; change i is made exactly where bit i of `choice` is set.
+    pub fn crash(&self, alloc: Global, moment: u64, choice: u64) -> Result<Book, NoMemory>
+        requires { moment ≤ length self.now.calls }
+        ensures { IfOk result (IsCrash self.now moment choice) }
+    {
+        let calls = self.calls.as_slice().split_at(moment as usize).0;
+        let mut blocks = play_all(alloc, Kind::Block, &self.start_blocks, calls)?;
+        let left = choose(alloc, choice, &mut blocks.flushed, &blocks.later)?;
+        let mut indexes = play_all(alloc, Kind::Index, &self.start_indexes, calls)?;
+        choose(alloc, left, &mut indexes.flushed, &indexes.later)?;
+        Ok(Book {
+            start_blocks: copy_puts(alloc, &blocks.flushed)?,
+            start_indexes: copy_puts(alloc, &indexes.flushed)?,
+            calls: Vec::new(alloc),
+            blocks: blocks.flushed,
+            indexes: indexes.flushed,
+            next: self.next,
+        })
+    }
+
+    /// Renames the draft of this kind and number to the name of its kind with this stamp, where it
+    /// then stands with these bytes.
+    ///
+    /// The bytes come back where the draft isn't there, or memory is wanting.
+    pub fn settle(
+        &mut self,
+        alloc: Global,
+        kind: Kind,
+        draft: u64,
+        stamp: u64,
+        bytes: Octets,
+    ) -> Result<(), Octets>
+        ensures ok { OnOk result (self.new ≡ and_then self.old (call.Did (change.Settle kind draft stamp bytes))) }
+        ensures there { OnOk result (reads self.new (published kind stamp) ≡ Some bytes) }
+        ensures err { IfErr result (λ b. (b ≡ bytes) × (self.new ≡ self.old)) }
+    {
+        let name = Name::Draft {
+            kind,
+            number: draft,
+        };
+        if self.get(name).is_none() {
+            return Err(bytes);
+        }
+        let settled = Change::Settle {
+            kind,
+            number: draft,
+            stamp,
+            bytes,
+        };
+        match self.change(alloc, settled) {
+            Ok(()) => Ok(()),
+            Err(Change::Settle { bytes, .. }) => Err(bytes),
+            Err(_) => unreachable!(),
+        }
+    }
+
+    /// Takes a name away; where it isn't there, that is a call that changes no folder.
+    pub fn remove(&mut self, alloc: Global, name: Name) -> Result<(), NoMemory>
+        ensures ok { OnOk result (self.new ≡ and_then self.old (removal (Some self.old) name)) }
+        ensures err { OnErr result (self.new ≡ self.old) }
+    {
+        if self.get(name).is_none() {
+            return self.note(Call::Other);
+        }
+        match self.change(alloc, Change::Remove { name }) {
+            Ok(()) => Ok(()),
+            Err(_) => Err(NoMemory),
+        }
+    }
+
+    /// A copy of what is read under a name.
+    ///
+    /// `NoMemory` comes where nothing is there, too.
+    pub fn copy_of(&self, alloc: Global, name: Name) -> Result<Octets, NoMemory>
+        ensures { IfOk result (λ bytes. reads self.now name ≡ Some bytes) }
+    {
+        match self.get(name) {
+            Some(bytes) => Octets::copy_of(alloc, bytes.bytes()),
+            None => Err(NoMemory),
+        }
+    }
+
+    /// Makes an empty draft and gives its number, which no draft has in any image that a crash may
+    /// leave.
+    ///
+    /// `NoMemory` comes at the draft with the number 2^64 - 1, too.
+    pub fn make(&mut self, alloc: Global, kind: Kind) -> Result<u64, NoMemory>
+        ensures ok { IfOk result (λ n. self.new ≡ and_then self.old (call.Did (change.Make kind n))) }
+        ensures fresh { IfOk result (λ n. (c : Folder) → Leaves self.old c → c (name.Draft kind n) ≡ None) }
+        ensures err { OnErr result (self.new ≡ self.old) }
+    {
+        let number = self.next;
+        if number == u64::MAX {
+            return Err(NoMemory);
+        }
+        self.next = number + 1;
+        match record_in(
+            alloc,
+            &mut self.calls,
+            &mut self.blocks,
+            &mut self.indexes,
+            Change::Make { kind, number },
+        ) {
+            Ok(()) => Ok(number),
+            Err(_) => Err(NoMemory),
+        }
+    }
+}
+
+// Puts a change behind the calls, and into its folder.
+fn record_in(
+    alloc: Global,
+    calls: &mut Vec<Call>,
+    blocks: &mut Vec<Put>,
+    indexes: &mut Vec<Put>,
+    change: Change,
+) -> Result<(), Change>
+    ensures kept { (b i : List Put) (n m : ℕ) → n ≤ m → MakesBelow m change → IsKept (log_of b i calls.old.items) blocks.old.items indexes.old.items n → IsKept (log_of b i calls.new.items) blocks.new.items indexes.new.items m }
+    ensures ok { OnOk result (calls.new.items ≡ calls.old.items ++ call.Did change ∷ []) }
+    ensures err { IfErr result (λ c. (c ≡ change) × (calls.new.items ≡ calls.old.items)) }
+{
+    match kind_of_change(&change) {
+        Kind::Block => record_change(alloc, calls, blocks, change),
+        Kind::Index => record_change(alloc, calls, indexes, change),
+    }
+}
+
+// Puts a change behind the calls, and behind the puts of its folder.
+fn record_change(
+    alloc: Global,
+    calls: &mut Vec<Call>,
+    puts: &mut Vec<Put>,
+    change: Change,
+) -> Result<(), Change>
+    ensures calls { OnOk result (calls.new.items ≡ calls.old.items ++ call.Did change ∷ []) }
+    ensures puts { OnOk result (folder_of puts.new.items ≡ apply change (folder_of puts.old.items)) }
+    ensures err { IfErr result (λ c. (c ≡ change) × (calls.new.items ≡ calls.old.items) × (puts.new.items ≡ puts.old.items)) }
+{
+    let Ok(put) = put_of(alloc, puts, &change) else {
+        return Err(change);
+    };
+    if calls.reserve(1).is_err() || puts.reserve(1).is_err() {
+        return Err(change);
+    }
+    push_call(calls, Call::Did(change));
+    push_put(puts, put);
+    Ok(())
+}
+
+fn push_call(calls: &mut Vec<Call>, call: Call)
+    requires { vec_len calls.old < vec_capacity calls.old }
+    ensures { calls.new.items ≡ calls.old.items ++ call ∷ [] }
+{
+    let _ = calls.push(call);
+}
+
+fn push_put(puts: &mut Vec<Put>, put: Option<Put>)
+    requires { vec_len puts.old < vec_capacity puts.old }
+    ensures { puts.new.items ≡ puts.old.items ++ option_to_list put }
+{
+    if let Some(put) = put {
+        let _ = puts.push(put);
+    }
+}

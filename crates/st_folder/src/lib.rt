@@ -1,0 +1,28 @@
+//! The shelf in a folder of the machine's file system: the trusted edge of st_shelf.
+//!
+//! Source of the names: docs/FORMAT.md, "Folders and names". Which system calls each call makes, and
+//! in which order, stands in docs/ARCHITECTURE.md, "What RealShelf does in a file system".
+//!
+//! # What it promises
+//!
+//! - `RealShelf` answers by the clauses of `Shelf`: a fault only where the count of faults rose, and
+//!   each lent file counted.
+//!
+//! # What it leaves to others
+//!
+//! It tells no content, and nothing is proved of what a real disk holds.
+//!
+//! # Where to read
+//!
+//! `real`, which has each call of the trait, then `real_folders`, `real_names`.
+#![tactic(auto)]
+
+mod real;
+mod real_draft;
+mod real_file;
+mod real_folders;
+mod real_names;
+
+pub use real::RealShelf;
+pub use real_draft::{RealDraft, RealSealed};
+pub use real_file::RealFile;

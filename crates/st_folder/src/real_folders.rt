@@ -1,0 +1,134 @@
+// A shelf's folders in a file system, as its first call makes and opens them.
+use crate::real_names::{folder_path, name_of};
+use st_shelf::{Kind, Name};
+use std::alloc::Global;
+use std::fs::{DirBuilder, DirEntry, File, TryLockError};
+use std::io::ErrorKind;
+use std::os::unix::fs::DirBuilderExt;
+use std::rt::HostRuntime;
+use std::{fs, io};
+
+// What stays open from the first call to the shelf's end: the spool folder, whose lock keeps other
+// programs out, both folders, and a number above those of all drafts.
+#[derive(Drop)]
+pub(crate) struct RealFolders {
+    pub(crate) _lock: File,
+    pub(crate) blocks: File,
+    pub(crate) indexes: File,
+    pub(crate) next: u64,
+}
+
+impl RealFolders {
+    pub(crate) fn open(rt: &HostRuntime, alloc: Global, root: &str) -> io::Result<RealFolders> {
+        make_folders(rt, root)?;
+        let lock = File::open(rt, root)?;
+        match lock.try_lock() {
+            Ok(()) => {}
+            Err(TryLockError::WouldBlock) => return Err(io::Error::from(ErrorKind::WouldBlock)),
+            Err(TryLockError::Error(error)) => return Err(error),
+        }
+        let blocks = open_folder(rt, alloc, root, Kind::Block)?;
+        let indexes = open_folder(rt, alloc, root, Kind::Index)?;
+        let mut names = Vec::new(alloc);
+        read_names(rt, alloc, root, Kind::Block, &mut names)?;
+        read_names(rt, alloc, root, Kind::Index, &mut names)?;
+        Ok(RealFolders {
+            _lock: lock,
+            blocks,
+            indexes,
+            next: number_above(&names),
+        })
+    }
+
+    // Has the disk keep all changes of a folder.
+    pub(crate) fn sync(&self, kind: Kind) -> io::Result<()> {
+        match kind {
+            Kind::Block => self.blocks.sync_all(),
+            Kind::Index => self.indexes.sync_all(),
+        }
+    }
+}
+
+// Adds the names of a folder; files of other names, and what is no file, are passed over.
+pub(crate) fn read_names(
+    rt: &HostRuntime,
+    alloc: Global,
+    root: &str,
+    kind: Kind,
+    names: &mut Vec<Name>,
+) -> io::Result<()> {
+    let path = folder_path(alloc, root, kind)?;
+    for entry in fs::read_dir(rt, path.as_str())? {
+        match entry {
+            Ok(entry) => add_entry(kind, &entry, names)?,
+            // A name that is no text is none of a shelf's.
+            Err(error) => {
+                if error.kind() != ErrorKind::InvalidFilename {
+                    return Err(error);
+                }
+            }
+        }
+    }
+    Ok(())
+}
+
+fn add_entry(kind: Kind, entry: &DirEntry, names: &mut Vec<Name>) -> io::Result<()> {
+    let Some(name) = name_of(kind, entry.file_name()) else {
+        return Ok(());
+    };
+    if entry.file_type()?.is_file() {
+        names.push(name)?;
+    }
+    Ok(())
+}
+
+fn number_above(names: &[Name]) -> u64 {
+    let mut next = 0u64;
+    for name in names {
+        if let Name::Draft { number, .. } = name {
+            next = next.max(number.saturating_add(1));
+        }
+    }
+    next
+}
+
+fn open_folder(rt: &HostRuntime, alloc: Global, root: &str, kind: Kind) -> io::Result<File> {
+    let path = folder_path(alloc, root, kind)?;
+    make_folder(rt, path.as_str())?;
+    File::open(rt, path.as_str())
+}
+
+// Makes the folder, and those that it lies in, where they aren't there.
+fn make_folders(rt: &HostRuntime, path: &str) -> io::Result<()> {
+    match make_folder(rt, path) {
+        Err(error) if error.kind() == ErrorKind::NotFound => {}
+        other => return other,
+    }
+    for end in 1..path.len() {
+        if let Some((folder, rest)) = path.split_at_checked(end) {
+            if rest.starts_with('/') {
+                make_folder(rt, folder)?;
+            }
+        }
+    }
+    make_folder(rt, path)
+}
+
+// A new folder is its owner's alone, and is on the disk before anything stands in it.
+fn make_folder(rt: &HostRuntime, path: &str) -> io::Result<()> {
+    let mut builder = DirBuilder::new();
+    builder.mode(0o700);
+    match builder.create(rt, path) {
+        Ok(()) => File::open(rt, parent_of(path))?.sync_all(),
+        Err(error) if error.kind() == ErrorKind::AlreadyExists => Ok(()),
+        Err(error) => Err(error),
+    }
+}
+
+fn parent_of(path: &str) -> &str {
+    match path.trim_end_matches('/').rsplit_once('/') {
+        Some((parent, _)) if parent.is_empty() => "/",
+        Some((parent, _)) => parent,
+        None => ".",
+    }
+}

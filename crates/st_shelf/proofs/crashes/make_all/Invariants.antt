@@ -1,9 +1,0 @@
-use Rattle.std.proofs.Common.{◌≡◌, length}
-use Rattle.st_shelf.specs.Folders.{apply_all, folder_of}
-use Rattle.st_shelf.proofs.crashes.make_all.Given as goal
-
-abbrev pub invariant-changes : goal.invariant-changes
-invariant-changes l = apply_all l.rest (folder_of l.puts.items) ≡ apply_all l.changes (folder_of l.fn.puts.items)
-
-abbrev pub decreases-changes : goal.decreases-changes
-decreases-changes l = length l.rest

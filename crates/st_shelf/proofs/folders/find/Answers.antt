@@ -1,7 +1,0 @@
-use Rattle.std.proofs.Common.{refl}
-use Rattle.st_shelf.specs.Folders.{folder_of, bare}
-use Rattle.st_shelf.proofs.folders.find.Goals as goal
-
-pub puts-init : goal.puts-init
-unfolding folder_of
-puts-init c = (bare, refl, refl)

@@ -1,9 +1,0 @@
-use Rattle.std.proofs.Common.{◌≡◌, IsSome, Some, option_map, ◌∙◌, sym, ap, subst, rules}
-use Rattle.st_shelf.specs.Disks.{reads}
-use Rattle.st_shelf.proofs.Gathering.{one_has}
-use Rattle.st_shelf.proofs.listing.gather_one.Goals as goal
-
-pub returns-in-Some-clause-has : goal.returns-in-Some-clause-has
-returns-in-Some-clause-has c =
-    let there : IsSome (reads c.args.book.now c.target_name-name.result) = search rules in
-    one_has c.add_name.result c.args.names.now.items c.add_name.new.names.items c.target_name-name.result _ (reads c.args.book.now) c.target_name-name.ensures there c.add_name.ensures.has
