@@ -8,3 +8,4 @@ pub mod Settling
 pub mod Bits
 pub mod Crashing
 pub mod Runs
+pub mod OneSet

@@ -5,3 +5,4 @@ pub mod Books
 pub mod Choosing
 pub mod Listing
 pub mod Runs
+pub mod Pairs

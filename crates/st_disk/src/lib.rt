@@ -23,7 +23,7 @@
 //! # Where to read
 //!
 //! `specs/Folders.antt` says what a change does to a folder, `specs/Disks.antt` what a crash may
-//! leave, `specs/Calls.antt` what is said of a call. Callers prove
+//! leave, `specs/Calls.antt` what is said of a call, `specs/Pairs.antt` which pairs a folder has. Callers prove
 //! with `proofs/Images.antt` and `proofs/Runs.antt`.
 #![tactic(auto)]
 
@@ -31,11 +31,13 @@ mod book;
 mod changes;
 mod crashes;
 mod folders;
+mod laws;
 mod listing;
 mod naming;
 
 pub use book::Book;
 pub use changes::{Call, Change, Put};
 pub use folders::{kind_of_name, published_name};
+pub use laws::one_file_set;
 pub use listing::{number, rising};
 pub use naming::{Kind, Name, Names};

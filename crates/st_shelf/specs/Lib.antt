@@ -7,3 +7,4 @@ pub use Rattle.st_disk.specs.Calls
 pub use Rattle.st_disk.specs.Listing
 pub use Rattle.st_disk.specs.Choosing
 pub use Rattle.st_disk.specs.Runs
+pub use Rattle.st_disk.specs.Pairs
