@@ -8,7 +8,7 @@ use Rattle.st_disk.proofs.book.Book.make.Goals.{in-Ok, in-Err}
 pub invariant_of-self : goal.invariant_of-self
 invariant_of-self c =
     let a = c.self.inside in
-    c.record_in.ensures.kept a.start_blocks.items a.start_indexes.items a.next (a.next + 1) (omega arith) (omega arith) c.self.invariant
+    c.record_in.ensures.kept a.start_blocks.items a.start_indexes.items a.next _ (omega arith) (omega arith) c.self.invariant
 
 pub returns-clause-fresh : goal.returns-clause-fresh
 returns-clause-fresh c =
