@@ -22,6 +22,8 @@ mod real_draft;
 mod real_file;
 mod real_folders;
 mod real_names;
+#[cfg(test)]
+mod tests;
 
 pub use real::RealShelf;
 pub use real_draft::{RealDraft, RealSealed};

@@ -34,6 +34,8 @@ mod memory_draft;
 mod memory_file;
 mod schedule;
 mod shelves;
+#[cfg(test)]
+mod tests;
 
 pub use loans::Loans;
 pub use memory::MemShelf;
