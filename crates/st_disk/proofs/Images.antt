@@ -1,9 +1,8 @@
 -- What one call more does to what is read and to what a crash may leave.
-use Rattle.std.proofs.Common.{◌≡◌, ◌⊎◌, ℕ, List, [], ◌∷◌, ◌++◌, cond, true, false, refl, sym, ◌∙◌, ap, subst, inl, inr, ⊎_elim}
+use Rattle.std.proofs.Common.{◌≡◌, ◌⊎◌, List, [], ◌∷◌, ◌++◌, cond, refl, sym, ◌∙◌, ap, subst, inl, inr, ⊎_elim}
 use Rattle.st_disk.specs.declared.naming.Kind.{Kind}
 use Rattle.st_disk.specs.declared.naming.Kind.TheVariants as kind
 use Rattle.st_disk.specs.declared.naming.Name.{Name}
-use Rattle.st_disk.specs.declared.naming.Name.TheVariants.{Block, Index, Parked, Draft}
 use Rattle.st_disk.specs.declared.changes.Change.{Change}
 use Rattle.st_disk.specs.declared.changes.Call.{Call}
 use Rattle.st_disk.specs.declared.changes.Call.TheVariants.{Did, Flush, Other}

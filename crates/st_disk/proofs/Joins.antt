@@ -1,13 +1,11 @@
 -- A change of one folder is a change of both as one.
-use Rattle.std.proofs.Common.{◌≡◌, ℕ, List, [], Option, None, Some, Bool, true, false, cond, refl, sym, ◌∙◌, ap, nat_eq}
-use Rattle.st_disk.specs.declared.naming.Kind.{Kind}
+use Rattle.std.proofs.Common.{◌≡◌, ℕ, List, [], Option, None, Some, refl, ◌∙◌, ap}
 use Rattle.st_disk.specs.declared.naming.Kind.TheVariants as kind
 use Rattle.st_disk.specs.declared.naming.Name.{Name}
 use Rattle.st_disk.specs.declared.naming.Name.TheVariants.{Block, Index, Parked, Draft}
 use Rattle.st_disk.specs.declared.changes.Change.{Change}
 use Rattle.st_disk.specs.declared.changes.Change.TheVariants.{Make, Settle, Hide, Remove}
-use Rattle.st_disk.specs.declared.changes.Put.{Put}
-use Rattle.st_disk.specs.Folders.{Folder, put, by_kind, kind_of, published, same_name, join, apply, change_kind, where_there}
+use Rattle.st_disk.specs.Folders.{Folder, put, by_kind, kind_of, join, apply, change_kind, where_there}
 
 -- at each name, a name put into one folder is put into both
 put_at : (b i : Folder) (n : Name) (v : Option (List ℕ)) (m : Name) → put (join b i) n v m ≡ by_kind (kind_of n) (join (put b n v) i) (join b (put i n v)) m

@@ -1,5 +1,5 @@
 -- What a shelf in memory keeps, as calls go on.
-use Rattle.std.proofs.Common.{◌≡◌, ◌≤◌, ◌<◌, ◌⊎◌, ◌&&◌, ℕ, List, [], ◌∷◌, ◌++◌, Option, None, Some, Bool, true, false, cond, nat_eq, refl, sym, ◌∙◌, ap, subst, inl, inr, ⊎_elim, arith, option_to_list, MatchOption, Result, Ok, Err, OnOk, IfErr}
+use Rattle.std.proofs.Common.{◌≡◌, ◌≤◌, ◌<◌, ◌&&◌, ℕ, List, [], ◌∷◌, ◌++◌, Option, None, Some, Bool, true, false, cond, nat_eq, refl, sym, ◌∙◌, ap, subst, ⊎_elim, arith, option_to_list, MatchOption, Result, Ok, Err, OnOk, IfErr}
 use Rattle.std.proofs.lemmas.List.{append-nil, take_all}
 use Rattle.std.proofs.lemmas.Bool.Decides.{nat_tests}
 use Rattle.st_disk.specs.declared.naming.Kind.{Kind}
@@ -11,9 +11,9 @@ use Rattle.st_disk.specs.declared.changes.Change.TheVariants.{Make, Settle, Hide
 use Rattle.st_disk.specs.declared.changes.Call.{Call}
 use Rattle.st_disk.specs.declared.changes.Call.TheVariants.{Did, Flush, Other}
 use Rattle.st_disk.specs.declared.changes.Put.{Put}
-use Rattle.st_disk.specs.Folders.{Folder, put, put_on, puts_on, folder_of, bare, same_kind, same_name, change_kind, apply, apply_all, where_there, published, kind_of, by_kind, join}
-use Rattle.st_disk.specs.Disks.{Log, Side, step, side, read_of, reads, Leaves, Since, and_then}
-use Rattle.st_disk.specs.Books.{ReadsAs, NoDraft, NumbersBelow, MakesBelow, ChangesNothing, IsKept, log_of}
+use Rattle.st_disk.specs.Folders.{Folder, put, put_on, puts_on, folder_of, bare, same_kind, change_kind, apply, apply_all, where_there, published, kind_of, by_kind, join}
+use Rattle.st_disk.specs.Disks.{Log, Side, side, read_of, reads, Leaves, and_then}
+use Rattle.st_disk.specs.Books.{NoDraft, NumbersBelow, MakesBelow, ChangesNothing, IsKept, log_of}
 use Rattle.st_disk.proofs.Images.{side_then, all_snoc, leaves_did, leaves_flush, leaves_other}
 use Rattle.st_disk.proofs.Moments.{since_now, since_then}
 

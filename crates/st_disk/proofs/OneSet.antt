@@ -1,7 +1,7 @@
 -- A folder has one file set at most.
-use Rattle.std.proofs.Common.{◌≡◌, ◌<◌, ◌⊎◌, ℕ, List, [], ◌∷◌, Option, None, Some, Bool, true, false, cond, nat_eq, refl, sym, ◌∙◌, ap, arith, ⊎_elim}
+use Rattle.std.proofs.Common.{◌≡◌, ◌<◌, ℕ, List, [], ◌∷◌, Option, None, Some, Bool, true, false, cond, nat_eq, refl, sym, ◌∙◌, ap, arith}
 use Rattle.std.proofs.lemmas.Bool.Decides.{nat_tests}
-use Rattle.st_disk.specs.Pairs.{Entry, Files, files_of, IsBelow, IsFileSet, files_at, PairsIn, OneFileSet}
+use Rattle.st_disk.specs.Pairs.{Entry, Files, files_of, IsBelow, IsFileSet, files_at, OneFileSet}
 
 pub below_less : (s t : ℕ) (es : List Entry) → s < t → IsBelow t es → IsBelow s es
 below_less s t [] lt h = tt

@@ -1,15 +1,14 @@
 -- A run of calls, one call after the other, whether it succeeded or not.
-use Rattle.std.proofs.Common.{◌≡◌, ◌≤◌, ◌+◌, ◌⊎◌, ℕ, List, [], ◌∷◌, ◌++◌, length, take, Option, None, Some, Result, Ok, Err, refl, sym, ◌∙◌, ap, subst, inl, inr, ⊎_elim, arith, length-append}
+use Rattle.std.proofs.Common.{◌≡◌, ◌≤◌, ◌+◌, ℕ, List, [], ◌∷◌, ◌++◌, length, Option, None, Some, Result, Ok, Err, refl, sym, ap, subst, inl, inr, ⊎_elim, arith, length-append}
 use Rattle.std.proofs.lemmas.List.{take_all}
-use Rattle.st_base.specs.Faults.{Rose}
 use Rattle.st_disk.specs.declared.naming.Kind.{Kind}
 use Rattle.st_disk.specs.declared.naming.Name.{Name}
 use Rattle.st_disk.specs.declared.changes.Change.{Change}
-use Rattle.st_disk.specs.declared.changes.Change.TheVariants.{Make, Settle, Hide, Remove}
+use Rattle.st_disk.specs.declared.changes.Change.TheVariants.{Remove}
 use Rattle.st_disk.specs.declared.changes.Call.{Call}
 use Rattle.st_disk.specs.declared.changes.Call.TheVariants.{Did, Flush, Other}
 use Rattle.st_disk.specs.Folders.{Folder, apply, where_there}
-use Rattle.st_disk.specs.Disks.{Log, reads, Leaves, and_then, moment, at_moment, Since}
+use Rattle.st_disk.specs.Disks.{Log, reads, Leaves, and_then, moment, Since}
 use Rattle.st_disk.specs.Calls.{Adds, Looks, Does, removal, Abandons}
 use Rattle.st_disk.specs.Books.{log_of}
 use Rattle.st_disk.specs.Runs.{Each, LeavesOnly}

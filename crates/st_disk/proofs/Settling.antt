@@ -1,13 +1,12 @@
 -- What is read of a file that was settled.
-use Rattle.std.proofs.Common.{◌≡◌, ℕ, List, [], Option, None, Some, Bool, true, false, cond, refl, sym, ◌∙◌, ap, IsSome}
+use Rattle.std.proofs.Common.{◌≡◌, ℕ, List, [], Option, None, Some, Bool, cond, refl, sym, ◌∙◌, ap, IsSome}
 use Rattle.st_disk.specs.declared.naming.Kind.{Kind}
 use Rattle.st_disk.specs.declared.naming.Kind.TheVariants as kind
 use Rattle.st_disk.specs.declared.naming.Name.{Name}
 use Rattle.st_disk.specs.declared.naming.Name.TheVariants.{Block, Index, Parked, Draft}
-use Rattle.st_disk.specs.declared.changes.Change.{Change}
-use Rattle.st_disk.specs.declared.changes.Change.TheVariants.{Make, Settle, Hide, Remove}
-use Rattle.st_disk.specs.declared.changes.Call.TheVariants.{Did, Flush, Other}
-use Rattle.st_disk.specs.Folders.{Folder, put, where_there, published, apply, folder_of}
+use Rattle.st_disk.specs.declared.changes.Change.TheVariants.{Make, Settle}
+use Rattle.st_disk.specs.declared.changes.Call.TheVariants.{Did}
+use Rattle.st_disk.specs.Folders.{Folder, put, where_there, published, folder_of}
 use Rattle.st_disk.specs.Disks.{Log, side, reads, and_then}
 use Rattle.st_disk.specs.Calls.{Adds, number_of, IsPublished}
 use Rattle.st_disk.specs.Books.{log_of}

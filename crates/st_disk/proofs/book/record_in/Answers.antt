@@ -1,7 +1,4 @@
-use Rattle.std.proofs.Common.{◌≡◌, List, sym, subst, rules, IfErr}
-use Rattle.st_disk.specs.declared.changes.Call.{Call}
-use Rattle.st_disk.specs.declared.changes.Put.{Put}
-use Rattle.st_disk.specs.Books.{IsKept, log_of}
+use Rattle.std.proofs.Common.{rules}
 use Rattle.st_disk.proofs.Keeping.{recorded_block, recorded_index}
 use Rattle.st_disk.proofs.book.record_in.Goals as goal
 

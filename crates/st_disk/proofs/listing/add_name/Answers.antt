@@ -1,4 +1,4 @@
-use Rattle.std.proofs.Common.{◌≡◌, ◌<◌, ◌≤◌, ◌⊎◌, ℕ, List, length, get_or, false, sym, ◌∙◌, ap, subst, rules, Contains, ⊎_elim}
+use Rattle.std.proofs.Common.{◌≡◌, ◌<◌, ◌≤◌, ℕ, List, length, get_or, false, sym, ◌∙◌, subst, rules, Contains, ⊎_elim}
 use Rattle.std.specs.List.{insert}
 use Rattle.st_disk.specs.declared.naming.Name.{Name}
 use Rattle.st_disk.specs.Folders.{same_name}

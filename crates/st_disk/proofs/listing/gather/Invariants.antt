@@ -1,4 +1,4 @@
-use Rattle.std.proofs.Common.{◌≡◌, ◌⊎◌, length, IsSome, Contains}
+use Rattle.std.proofs.Common.{◌⊎◌, length, IsSome, Contains}
 use Rattle.st_disk.specs.declared.naming.Name.{Name}
 use Rattle.st_disk.specs.Disks.{reads}
 use Rattle.st_disk.specs.Listing.{Rises, IsPut}

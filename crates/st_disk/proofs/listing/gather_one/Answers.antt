@@ -1,4 +1,4 @@
-use Rattle.std.proofs.Common.{◌≡◌, IsSome, Some, option_map, ◌∙◌, sym, ap, subst, rules}
+use Rattle.std.proofs.Common.{IsSome, rules}
 use Rattle.st_disk.specs.Disks.{reads}
 use Rattle.st_disk.proofs.Gathering.{one_has}
 use Rattle.st_disk.proofs.listing.gather_one.Goals as goal

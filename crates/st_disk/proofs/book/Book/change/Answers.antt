@@ -1,4 +1,4 @@
-use Rattle.std.proofs.Common.{◌≤◌, arith}
+use Rattle.std.proofs.Common.{arith}
 use Rattle.st_disk.proofs.Keeping.{makes_higher}
 use Rattle.st_disk.proofs.book.Book.change.Goals as goal
 

@@ -1,9 +1,7 @@
-use Rattle.std.proofs.Common.{◌≡◌, ◌≤◌, ◌+◌, length, List, take, sym, ◌∙◌, ap, subst, rules}
+use Rattle.std.proofs.Common.{◌≡◌, ◌≤◌, ◌+◌, length, List, take, sym, ◌∙◌, ap, subst}
 use Rattle.st_disk.specs.declared.changes.Call.{Call}
-use Rattle.st_disk.specs.declared.changes.Put.{Put}
-use Rattle.st_disk.specs.Folders.{folder_of}
 use Rattle.st_disk.specs.Disks.{Log}
-use Rattle.st_disk.specs.Books.{log_of, NumbersBelow}
+use Rattle.st_disk.specs.Books.{log_of}
 use Rattle.st_disk.specs.Choosing.{IsCrash}
 use Rattle.st_disk.proofs.Crashing.{whole, block_side, index_side, is_crash, kept_crash}
 use Rattle.st_disk.proofs.book.Book.crash.Goals as goal

@@ -1,4 +1,4 @@
-use Rattle.std.proofs.Common.{◌≡◌, rules, ◌∙◌, ap, sym}
+use Rattle.std.proofs.Common.{◌≡◌, rules, ◌∙◌, ap}
 use Rattle.st_disk.specs.declared.naming.Kind.TheVariants as kind
 use Rattle.st_disk.specs.Folders.{kind_of, folder_of}
 use Rattle.st_disk.specs.Disks.{Log, reads}

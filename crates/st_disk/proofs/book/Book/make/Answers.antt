@@ -1,4 +1,4 @@
-use Rattle.std.proofs.Common.{◌≡◌, ◌≤◌, ◌<◌, ◌+◌, arith, subst, sym}
+use Rattle.std.proofs.Common.{arith, subst, sym}
 use Rattle.st_disk.specs.Disks.{Log, Leaves}
 use Rattle.st_disk.specs.Books.{log_of}
 use Rattle.st_disk.proofs.Keeping.{numbers_now}

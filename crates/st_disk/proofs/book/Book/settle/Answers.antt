@@ -1,4 +1,4 @@
-use Rattle.std.proofs.Common.{◌≡◌, IsSome, ◌∙◌, ap, rules}
+use Rattle.std.proofs.Common.{IsSome, ◌∙◌, ap, rules}
 use Rattle.st_disk.specs.declared.naming.Name.TheVariants as name
 use Rattle.st_disk.specs.Folders.{published}
 use Rattle.st_disk.specs.Disks.{Log, reads}
