@@ -114,14 +114,23 @@ fn make_folders(rt: &HostRuntime, path: &str) -> io::Result<()> {
     make_folder(rt, path)
 }
 
-// A new folder is its owner's alone, and is on the disk before anything stands in it.
+// A new folder is its owner's alone, and is on the disk before anything stands in it. One that is
+// there may have been made by a program that was killed before it came so far.
 fn make_folder(rt: &HostRuntime, path: &str) -> io::Result<()> {
     let mut builder = DirBuilder::new();
     builder.mode(0o700);
     match builder.create(rt, path) {
         Ok(()) => File::open(rt, parent_of(path))?.sync_all(),
-        Err(error) if error.kind() == ErrorKind::AlreadyExists => Ok(()),
+        Err(error) if error.kind() == ErrorKind::AlreadyExists => sync_parent(rt, path),
         Err(error) => Err(error),
+    }
+}
+
+// Who may not look into the folder above did not make the one below.
+fn sync_parent(rt: &HostRuntime, path: &str) -> io::Result<()> {
+    match File::open(rt, parent_of(path)) {
+        Ok(parent) => parent.sync_all(),
+        Err(_) => Ok(()),
     }
 }
 
