@@ -10,8 +10,8 @@
 //! - `list` prints each name, a line each; `read NAME` prints how many bytes were read.
 //! - `faults` prints how often the shelf failed.
 //!
-//! A name that is put or hidden to must not be there. A KIND is `block` or `index`. A NAME is `block STAMP`, `index STAMP`, `parked STAMP` or
-//! `draft KIND NUMBER`.
+//! A KIND is `block` or `index`. A NAME is `block STAMP`, `index STAMP`, `parked STAMP` or
+//! `draft KIND NUMBER`. A name that is put, or hidden to, must not be there.
 #![tactic(auto)]
 
 mod calls;

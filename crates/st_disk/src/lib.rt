@@ -23,8 +23,8 @@
 //! # Where to read
 //!
 //! `specs/Folders.antt` says what a change does to a folder, `specs/Disks.antt` what a crash may
-//! leave, `specs/Calls.antt` what is said of a call, `specs/Pairs.antt` which pairs a folder has. Callers prove
-//! with `proofs/Images.antt` and `proofs/Runs.antt`.
+//! leave, `specs/Calls.antt` what is said of a call, `specs/Pairs.antt` which pairs a folder has.
+//! Callers prove with `proofs/Images.antt` and `proofs/Runs.antt`.
 #![tactic(auto)]
 
 mod book;

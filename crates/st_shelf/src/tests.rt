@@ -118,6 +118,8 @@ fn each_call_fails_where_it_is_told_to(rt: HostRuntime) -> Result<(), Fail> {
         for (mut shelf, (answer, faults, left)) in [(once, alone), (stop, stopped)] {
             assert_eq!(rt; run(&mut shelf, alloc), answer, "call {call}");
             assert_eq!(rt; shelf.fault_count(), faults, "call {call}");
+            // One file was out where the call of number 6, `reader`, was Ok.
+            assert_eq!(rt; shelf.peak_lent(), u64::from(call > 6), "call {call}");
             // All changes that were not flushed, of which there are fewer than 64.
             let mut image = shelf.crash(alloc, shelf.moments(), u64::MAX)?;
             assert_eq!(rt; image.list(alloc)?.items(), left, "call {call}");
@@ -173,5 +175,8 @@ fn a_crash_leaves_what_the_choice_says(rt: HostRuntime) -> Result<(), Fail> {
             "{choice} at {moment}"
         );
     }
+    let mut sure = MemShelf::empty(alloc);
+    assert_eq!(rt; put_file(&mut sure, Kind::Index, 7), Ok(()));
+    assert_eq!(rt; (sure.moments(), sure.calls()), (2, 0));
     Ok(())
 }
