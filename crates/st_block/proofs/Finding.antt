@@ -1,0 +1,178 @@
+-- What is read at the position of a record of a file.
+use Rattle.std.proofs.Common.{◌≡◌, ℕ, ◌+◌, ◌-◌, ◌<◌, ◌≤◌, ◌^◌, cond, List, [], ◌∷◌, ◌++◌, length, length-append, take, drop, Option, Some, None, Result, Ok, Err, refl, sym, ap, ◌∙◌, subst, arith, append_assoc, inl, inr}
+use Rattle.std.specs.Prelude.{replicate}
+use Rattle.std.proofs.lemmas.Bool.{le-ltb}
+use Rattle.std.proofs.lemmas.Option.{none-some, get_or_from_slice_get, slice_get_within}
+use Rattle.std.proofs.lemmas.List.{drop_at, take_at, drop-drop}
+use Rattle.byteorder.specs.Endian.{little_number}
+use Rattle.byteorder.specs.Numbers.{little_number-reads_back}
+use Rattle.st_base.specs.Records.{Rec, InRange}
+use Rattle.st_block.specs.Fault.{fault_of}
+use Rattle.st_block.specs.Fields.{Number, text, above, first_wrong}
+use Rattle.st_block.specs.BlockText.{padded, record_head, BlockText}
+use Rattle.st_block.specs.Reading.{head_outside, body_outside, record_outside, head_wrong, HeadStands, GivesHead, GivesBody, StandsAt, HeadOf, BodyOf}
+use Rattle.st_block.specs.declared.record.Head.{Head}
+use Rattle.st_block.specs.declared.errors.HeadErr.{HeadErr}
+use Rattle.st_block.specs.declared.errors.HeadErr.TheVariants as head_err
+use Rattle.st_block.specs.declared.errors.BlockErr.{BlockErr}
+use Rattle.st_block.specs.declared.errors.BlockErr.TheVariants as block_err
+use Rattle.st_block.proofs.Texts.{length-text}
+use Rattle.st_block.proofs.Standing.{Part, record_split, size_head, in_file}
+
+-- a head and the body behind it stand at this place
+record Laid (bytes : List ℕ) (position : ℕ) (r : Rec) : Type 0 where
+  next : ℕ
+  front : List ℕ
+  rest : List ℕ
+  split : bytes ≡ front ++ (text (record_head next r) ++ (r.body ++ rest))
+  here : length front ≡ position
+
+laid : (bytes : List ℕ) (position : ℕ) (r : Rec) → Part bytes 0 position r → Laid bytes position r
+laid bytes position r p =
+    let zeros : List ℕ = replicate (padded (length r.body) - length r.body) 0 in
+    record {
+      next = p.next;
+      front = p.front;
+      rest = zeros ++ p.back;
+      split =
+          p.split
+          ∙ ap (λ l. p.front ++ (l ++ p.back)) (record_split p.next r)
+          ∙ ap (λ l. p.front ++ l) (append_assoc (text (record_head p.next r)) (r.body ++ zeros) p.back ∙ ap (λ l. text (record_head p.next r) ++ l) (append_assoc r.body zeros p.back));
+      here = let h = p.here in omega (arith, h);
+    }
+
+-- a record's head has 48 bytes
+length_head : (next : ℕ) (r : Rec) → length (text (record_head next r)) ≡ 48
+length_head next r = length-text (record_head next r) ∙ size_head next r
+
+-- the bytes there
+head_there : (bytes : List ℕ) (position : ℕ) (r : Rec) (l : Laid bytes position r) → take 48 (drop position bytes) ≡ text (record_head l.next r)
+head_there bytes position r l =
+    ap (λ b. take 48 (drop position b)) l.split
+    ∙ ap (take 48) (drop_at l.front (text (record_head l.next r) ++ (r.body ++ l.rest)) position l.here)
+    ∙ take_at (text (record_head l.next r)) (r.body ++ l.rest) 48 (length_head l.next r)
+
+body_there : (bytes : List ℕ) (position : ℕ) (r : Rec) (l : Laid bytes position r) → take (length r.body) (drop (position + 48) bytes) ≡ r.body
+body_there bytes position r l =
+    ap (take (length r.body)) (sym (drop-drop 48 position bytes))
+    ∙ ap (λ b. take (length r.body) (drop 48 (drop position b))) l.split
+    ∙ ap (λ b. take (length r.body) (drop 48 b)) (drop_at l.front (text (record_head l.next r) ++ (r.body ++ l.rest)) position l.here)
+    ∙ ap (take (length r.body)) (drop_at (text (record_head l.next r)) (r.body ++ l.rest) 48 (length_head l.next r))
+    ∙ take_at r.body l.rest (length r.body) refl
+
+lies_inside : (bytes : List ℕ) (position : ℕ) (r : Rec) → Laid bytes position r → position + 48 + length r.body ≤ length bytes
+lies_inside bytes position r l =
+    let whole = ap length l.split ∙ length-append l.front (text (record_head l.next r) ++ (r.body ++ l.rest)) in
+    let inner = length-append (text (record_head l.next r)) (r.body ++ l.rest) in
+    let body = length-append r.body l.rest in
+    let head = length_head l.next r in
+    let here = l.here in
+    omega (arith, whole, inner, body, head, here)
+
+-- what the numbers of a head read as
+number_of_sec : (next : ℕ) (r : Rec) → r.sec < 256 ^ 4 → little_number 4 (drop 4 (text (record_head next r))) ≡ r.sec
+unfolding record_head
+number_of_sec next r l = little_number-reads_back 4 r.sec (drop 8 (text (record_head next r))) l
+
+number_of_nsec : (next : ℕ) (r : Rec) → r.nsec < 256 ^ 4 → little_number 4 (drop 8 (text (record_head next r))) ≡ r.nsec
+unfolding record_head
+number_of_nsec next r l = little_number-reads_back 4 r.nsec (drop 12 (text (record_head next r))) l
+
+number_of_len : (next : ℕ) (r : Rec) → length r.body < 256 ^ 4 → little_number 4 (drop 12 (text (record_head next r))) ≡ length r.body
+unfolding record_head
+number_of_len next r l = little_number-reads_back 4 (length r.body) (drop 16 (text (record_head next r))) l
+
+number_of_orig : (next : ℕ) (r : Rec) → r.orig < 256 ^ 4 → little_number 4 (drop 16 (text (record_head next r))) ≡ r.orig
+unfolding record_head
+number_of_orig next r l = little_number-reads_back 4 r.orig (drop 20 (text (record_head next r))) l
+
+-- the status and the offsets of the body are as they are to be
+fields_good : (place next : ℕ) (r : Rec) → first_wrong place (Number 4 0 ∷ Number 2 48 ∷ Number 2 48 ∷ []) (drop 20 (text (record_head next r))) ≡ None
+unfolding record_head
+fields_good place next r = refl
+
+-- a number that is no more than the one wanted
+above_not : (place found want : ℕ) → found ≤ want → above place found want ≡ None
+above_not place found want l = ap (λ t. cond t (Some (record { place = place; found = found; want = want })) None) (le-ltb want found l)
+
+-- a head that lies in the file
+head_inside : (size position : ℕ) → position + 48 ≤ size → head_outside size position ≡ None
+head_inside size position l = ap (λ t. cond t (Some (record { place = position; found = size; want = position + 48 })) None) (le-ltb size (position + 48) l)
+
+-- the head of a record whose body lies in the file
+head_good : (size position next : ℕ) (r : Rec) → InRange r → position + 48 + length r.body ≤ size → head_wrong size position (text (record_head next r)) ≡ None
+head_good size position next r range l =
+    let n : r.nsec < 256 ^ 4 = let h = range.nsec in omega (arith, h) in
+    let m : length r.body < 256 ^ 4 = range.body in
+    let nsec = number_of_nsec next r n in
+    let len = number_of_len next r m in
+    let first = fields_good (position + 20) next r in
+    let second : above (position + 8) (little_number 4 (drop 8 (text (record_head next r)))) 999999999 ≡ None =
+    above_not (position + 8) _ 999999999 (let h = range.nsec in omega (arith, nsec, h)) in
+    let third : body_outside size position (little_number 4 (drop 12 (text (record_head next r)))) ≡ None =
+    above_not (position + 12) _ (size - position - 48) (omega (arith, len)) in
+    rw (first, second, third) refl
+
+-- the record that stands there, and the file's bytes
+record Found (content : Option (List ℕ)) (position : ℕ) (r : Rec) : Type 0 where
+  bytes : List ℕ
+  told : content ≡ Some bytes
+  range : InRange r
+  laid : Laid bytes position r
+
+found : (content : Option (List ℕ)) (position : ℕ) (r : Rec) → StandsAt content position r → Found content position r
+found content position r s =
+    let within = slice_get_within s.records s.number r s.item in
+    let same = get_or_from_slice_get s.records s.number r r s.item in
+    let part = in_file s.size s.records s.number r s.whole s.item in
+    record {
+      bytes = BlockText s.size s.records;
+      told = s.told;
+      range = subst InRange same (s.whole.range s.number r within);
+      laid = laid (BlockText s.size s.records) position r (subst (λ p. Part (BlockText s.size s.records) 0 p r) (sym s.place) part);
+    }
+
+-- the 48 bytes there are those of the record's head
+is_head_of : (content : Option (List ℕ)) (size position : ℕ) (r : Rec) (f : Found content position r) (head : List ℕ) → HeadStands content size position head → head ≡ text (record_head f.laid.next r)
+is_head_of content size position r f head (inside, len, part) =
+    part f.bytes f.told ∙ ap (λ n. take n (drop position f.bytes)) len ∙ head_there f.bytes position r f.laid
+
+-- at a record's position its head is read, and nothing is damaged
+pub head_found : (content : Option (List ℕ)) (size position : ℕ) (result : Result Head HeadErr) → ((bytes : List ℕ) → content ≡ Some bytes → length bytes ≡ size) → GivesHead content size position result → (r : Rec) → StandsAt content position r → HeadOf r result
+head_found content size position (Ok h) told (head, stands, none, is) r s =
+    let f = found content position r s in
+    let same = is_head_of content size position r f head stands in
+    let n : r.nsec < 256 ^ 4 = let h = f.range.nsec in omega (arith, h) in (
+      sym is.sec ∙ ap (λ l. little_number 4 (drop 4 l)) same ∙ number_of_sec f.laid.next r f.range.sec,
+      sym is.nsec ∙ ap (λ l. little_number 4 (drop 8 l)) same ∙ number_of_nsec f.laid.next r n,
+      sym is.len ∙ ap (λ l. little_number 4 (drop 12 l)) same ∙ number_of_len f.laid.next r f.range.body,
+      sym is.orig ∙ ap (λ l. little_number 4 (drop 16 l)) same ∙ number_of_orig f.laid.next r f.range.orig,
+    )
+head_found content size position (Err (head_err.Damaged d)) told (inl outside) r s =
+    let f = found content position r s in
+    let size_is = told f.bytes f.told in
+    let inside = lies_inside f.bytes position r f.laid in
+    none-some (fault_of d) (sym (head_inside size position (omega (arith, size_is, inside))) ∙ outside)
+head_found content size position (Err (head_err.Damaged d)) told (inr (head, stands, wrong)) r s =
+    let f = found content position r s in
+    let same = is_head_of content size position r f head stands in
+    let size_is = told f.bytes f.told in
+    let inside = lies_inside f.bytes position r f.laid in
+    none-some (fault_of d) (sym (head_good size position f.laid.next r f.range (omega (arith, size_is, inside))) ∙ ap (head_wrong size position) (sym same) ∙ wrong)
+head_found content size position (Err head_err.ReadFault) told gives r s = tt
+
+-- behind it its body is read, and nothing is damaged
+pub body_found : (content : Option (List ℕ)) (size position len : ℕ) (result : Result (List ℕ) BlockErr) → ((bytes : List ℕ) → content ≡ Some bytes → length bytes ≡ size) → GivesBody content size position len result → (r : Rec) → StandsAt content position r → len ≡ length r.body → BodyOf r result
+body_found content size position len (Ok body) told (inside, long, part) r s e =
+    let f = found content position r s in
+    part f.bytes f.told ∙ ap (λ n. take n (drop (position + 48) f.bytes)) (long ∙ e) ∙ body_there f.bytes position r f.laid
+body_found content size position len (Err (block_err.Damaged d)) told outside r s e =
+    let f = found content position r s in
+    let size_is = told f.bytes f.told in
+    let inside = lies_inside f.bytes position r f.laid in
+    let head = head_inside size position (omega (arith, size_is, inside)) in
+    let body : body_outside size position len ≡ None = above_not (position + 12) len (size - position - 48) (omega (arith, size_is, inside)) in
+    let whole : record_outside size position len ≡ None = rw (head, body) refl in
+    none-some (fault_of d) (sym whole ∙ outside)
+body_found content size position len (Err block_err.ReadFault) told gives r s e = tt
+body_found content size position len (Err block_err.NoMemory) told gives r s e = tt

@@ -1,0 +1,25 @@
+-- Laws of block files, which the functions of `laws` ensure.
+use Rattle.std.specs.Prelude.{◌≡◌, ℕ, ◌*◌, ◌^◌, ◌<◌, List, ◌++◌, length}
+use Rattle.st_base.specs.Records.{Rec}
+use Rattle.st_block.specs.BlockText.{blocks, BlockText, HasFile}
+use Rattle.st_block.specs.Position.{PositionOf}
+
+-- a file has as many bytes as its blocks have
+abbrev pub FileLength : Type 0
+FileLength = (size : ℕ) (rs : List Rec) → HasFile size rs → length (BlockText size rs) ≡ size * length (blocks size rs)
+
+-- positions strictly rise
+abbrev pub PositionsRise : Type 0
+PositionsRise = (size i j : ℕ) (rs : List Rec) → HasFile size rs → i < j → j < length rs → PositionOf size rs i < PositionOf size rs j
+
+-- a position fits four bytes
+abbrev pub PositionsFit : Type 0
+PositionsFit = (size i : ℕ) (rs : List Rec) → HasFile size rs → i < length rs → PositionOf size rs i < 2 ^ 32
+
+-- a record's position stays where more records follow
+abbrev pub PositionsStay : Type 0
+PositionsStay = (size i : ℕ) (rs more : List Rec) → i < length rs → PositionOf size (rs ++ more) i ≡ PositionOf size rs i
+
+-- the bytes of a file are those of one block size and one list of records only
+abbrev pub OneFile : Type 0
+OneFile = (size other : ℕ) (rs qs : List Rec) → HasFile size rs → HasFile other qs → BlockText size rs ≡ BlockText other qs → (size ≡ other) × (rs ≡ qs)

@@ -1,0 +1,46 @@
+//! Block files: the packets of one pair, in the order in which they were added.
+//!
+//! A file is 1 to 4,095 blocks of one size, a power of two from 4,096 to 1,048,576 bytes. A block
+//! is a head of 48 bytes, then records, each padded with zeros to a multiple of 16 bytes, then
+//! zeros. A record is named by its position: the offset of its head in the file, in bytes, below
+//! 2^32. Numbers are little-endian. The layout is ours, after the blocks of Linux's TPACKET_V3:
+//! docs/FORMAT.md, "Block file".
+//!
+//! # What it promises
+//!
+//! - A builder gives the block of the records that were added (`BlockBuilder::finish`), and takes
+//!   no memory once it is made.
+//! - The block's number and the record's offset in it give its position (`position_in`); positions
+//!   rise, fit 32 bits and stay where more records follow (`positions_rise`, `positions_fit`,
+//!   `positions_stay`).
+//! - A file's bytes are those of one block size and one list of records only (`one_file`).
+//! - A record comes back from its position by at most two reads, of 48 bytes and of its captured
+//!   length (`record_head_at`, `record_body_at`).
+//! - A head that breaks the layout, or that lies with its body past the file's end, is `Damaged`,
+//!   with the place, what was found and what was wanted.
+//!
+//! # What it leaves to others
+//!
+//! A block has no checksum, so a changed body goes unseen here. Which records match a query is
+//! st_index's to know.
+//!
+//! # Where to read
+//!
+//! `specs/BlockText.antt` says what a file's bytes are, from the list of its records, and
+//! `specs/Position.antt` where each head lies; `specs/Fields.antt` says what a field is and when it
+//! is wrong. Then `builder`, `record`, `layout`.
+#![tactic(auto)]
+
+mod builder;
+mod errors;
+mod laws;
+mod layout;
+mod record;
+#[cfg(test)]
+mod tests;
+
+pub use builder::BlockBuilder;
+pub use errors::{BlockErr, HeadErr};
+pub use laws::{file_length, one_file, positions_fit, positions_rise, positions_stay};
+pub use layout::position_in;
+pub use record::{Head, record_body_at, record_head_at};
