@@ -5,3 +5,13 @@ pub mod Finding
 pub mod Adding
 pub mod Rising
 pub mod Unique
+pub mod Laying
+pub mod Checking
+pub mod Whole
+pub mod Sound
+pub mod Going
+pub mod Starting
+pub mod Steps
+pub mod Giving
+pub mod Good
+pub mod Unhurt

@@ -5,3 +5,8 @@ pub mod Position
 pub mod Reading
 pub mod Building
 pub mod Laws
+pub mod Scanning
+pub mod Layout
+pub mod Progress
+pub mod Scans
+pub mod ScanLaws

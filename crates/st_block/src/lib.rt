@@ -16,6 +16,9 @@
 //! - A file's bytes are those of one block size and one list of records only (`one_file`).
 //! - A record comes back from its position by at most two reads, of 48 bytes and of its captured
 //!   length (`record_head_at`, `record_body_at`).
+//! - A scan gives the records of a file with their positions, each of a block that was checked
+//!   whole; it reaches its end exactly where the file is the text of the records that it gave, and
+//!   else the first check of the file that fails (`Scan::next`, `file_unhurt`, `one_given`).
 //! - A head that breaks the layout, or that lies with its body past the file's end, is `Damaged`,
 //!   with the place, what was found and what was wanted.
 //!
@@ -28,7 +31,8 @@
 //!
 //! `specs/BlockText.antt` says what a file's bytes are, from the list of its records, and
 //! `specs/Position.antt` where each head lies; `specs/Fields.antt` says what a field is and when it
-//! is wrong. Then `builder`, `record`, `layout`.
+//! is wrong, `specs/Scanning.antt` in which order a file is checked, `specs/Scans.antt` what a scan
+//! gives. Then `builder`, `record`, `layout`, `scan`.
 #![tactic(auto)]
 
 mod builder;
@@ -36,6 +40,15 @@ mod errors;
 mod laws;
 mod layout;
 mod record;
+mod scan;
+mod scan_block;
+mod scan_course;
+mod scan_fields;
+mod scan_laws;
+mod scan_layout;
+mod scan_start;
+#[cfg(test)]
+mod scan_tests;
 #[cfg(test)]
 mod tests;
 
@@ -44,3 +57,5 @@ pub use errors::{BlockErr, HeadErr};
 pub use laws::{file_length, one_file, positions_fit, positions_rise, positions_stay};
 pub use layout::position_in;
 pub use record::{Head, record_body_at, record_head_at};
+pub use scan::Scan;
+pub use scan_laws::{file_unhurt, one_given};

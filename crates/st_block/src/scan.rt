@@ -1,0 +1,94 @@
+ghost use Rattle.std.specs.Prelude.{◌≡◌, ◌≤◌, ◌*◌, List, ℕ, Some, Err, IfOk, IfErr, IfSome, OnErr};
+ghost use Rattle.st_block.specs.Progress.{HasFault, IsOutside};
+ghost use Rattle.st_block.specs.Scans.{Placed, IsFile, Stands, Gives, Follows, Enters, HasEnterCause, IsSameFile};
+
+use crate::errors::{BlockErr, HeadErr};
+use crate::scan_course::Course;
+use crate::scan_start::enter;
+use st_base::{Damage, Reader, Record};
+use std::alloc::Global;
+
+/// A scan of a block file: gives its records in their order, each with its position, and finds the
+/// first check that fails.
+///
+/// It holds the file, and one block of it at a time. A contract sees what it has come to, its
+/// `course`; of which bytes it then gave which records is said by `Stands` of `specs/Scans.antt`.
+/// Source: docs/FORMAT.md, "Block file" and "Checks".
+#[derive(Drop)]
+pub struct Scan<'a, R: Reader> {
+    file: &'a mut R,
+    course: Course,
+    ghost inside: { course.size * course.blocks ≤ R.extent file.now },
+}
+
+impl<'a, R: Reader> Scan<'a, R> {
+    /// A scan over `file`, which gives nothing before it is entered. It reads nothing and takes no
+    /// memory.
+    pub fn over(file: &'a mut R) -> Scan<'a, R>
+        ensures same_reference { result.file.ghost_name ≡ file.entry.ghost_name }
+        ensures same { result.file.now ≡ file.old }
+    {
+        Scan {
+            file,
+            course: Course::fresh(4_096, 0),
+        }
+    }
+
+    /// Enters the file: checks its layout version, its block size and its length, by one read of
+    /// eight bytes, and stands before the first record. It takes no memory.
+    ///
+    /// `Damaged` comes exactly where one of these checks fails, and is the first of them that does.
+    /// `ReadFault` comes only where the file's `faults` rose in this call. After either the scan is
+    /// unchanged.
+    pub fn enter(&mut self) -> Result<(), HeadErr>
+        // What it answers, where the file tells its bytes, and where the scan then is.
+        ensures enters { (bytes : List ℕ) → R.content self.old.file.now ≡ Some bytes
+            → Enters bytes self.new.course result }
+        ensures whole { (bytes : List ℕ) (rs : List Placed) → R.content self.old.file.now ≡ Some bytes
+            → IsFile bytes rs → IfErr result (λ e. e ≡ HeadErr.ReadFault) }
+        ensures err { OnErr result (self.new.course ≡ self.old.course) }
+
+        // What becomes of the file.
+        ensures same_reference { self.new.file.ghost_name ≡ self.old.file.ghost_name }
+        ensures cause { HasEnterCause (R.faults self.old.file.now) (R.faults self.new.file.now) result }
+        ensures same { IsSameFile (R.content self.old.file.now) (R.content self.new.file.now) (R.extent self.old.file.now) (R.extent self.new.file.now) (R.beside self.old.file.now) (R.beside self.new.file.now) }
+    {
+        match enter(self.file) {
+            Ok(course) => {
+                self.course = course;
+                Ok(())
+            }
+            Err(error) => Err(error),
+        }
+    }
+
+    /// The next record with its position, or `None` at the file's end. A record is given only of a
+    /// block that was checked whole.
+    ///
+    /// The first call takes the memory of one block; each record's body is one allocation.
+    /// `None` comes exactly where the file is the text of the records given. `Damaged` comes
+    /// exactly where a check fails that is the first of the file to fail; every later call answers
+    /// it again, and reads nothing. `ReadFault` comes only where the file's `faults` rose in this
+    /// call, `NoMemory` where memory was wanting; after either the scan is where it was, and the
+    /// next call tries again.
+    pub fn next(&mut self, alloc: Global) -> Result<Option<(u32, Record)>, BlockErr>
+        // What it answers, where the file tells its bytes, and what the scan has come to then.
+        ensures gives { (bytes : List ℕ) (given : List Placed) → R.content self.old.file.now ≡ Some bytes
+            → Stands self.old.course bytes given → Gives bytes given self.new.course result }
+        ensures whole { (bytes : List ℕ) (given rs : List Placed) → R.content self.old.file.now ≡ Some bytes
+            → IsFile bytes rs → Stands self.old.course bytes given → IfErr result IsOutside }
+        ensures stops { (d : Damage) → result ≡ Err (BlockErr.Damaged d) → self.new.course.stopped ≡ Some d }
+        ensures again { (d : Damage) → self.old.course.stopped ≡ Some d
+            → (result ≡ Err (BlockErr.Damaged d)) × (self.new.course ≡ self.old.course) × (self.new.file.now ≡ self.old.file.now) }
+
+        // How far it goes, by which a caller's loop ends.
+        ensures follows { IfOk result (λ o. IfSome o (Follows self.old.course self.new.course)) }
+
+        // What becomes of the file.
+        ensures same_reference { self.new.file.ghost_name ≡ self.old.file.ghost_name }
+        ensures cause { HasFault (R.faults self.old.file.now) (R.faults self.new.file.now) result }
+        ensures same { IsSameFile (R.content self.old.file.now) (R.content self.new.file.now) (R.extent self.old.file.now) (R.extent self.new.file.now) (R.beside self.old.file.now) (R.beside self.new.file.now) }
+    {
+        self.course.next_in(alloc, self.file)
+    }
+}

@@ -1,0 +1,53 @@
+ghost use Rattle.std.specs.Prelude.{◌≡◌, ◌≤◌, ◌+◌, ◌*◌, ◌%◌, ◌^◌, length, None, Some, MatchResult, IfOk, OnOk, option_map};
+ghost use Rattle.st_block.specs.Fault.{fault_of};
+ghost use Rattle.st_block.specs.Scanning.{join_wrong, block_wrong};
+ghost use Rattle.st_block.specs.Layout.{IsLayout, IsWholeBlock};
+
+use crate::scan_fields::{fields_wrong, first_of};
+use crate::scan_layout::{Layout, captured_at, lay_out};
+use st_base::Damage;
+
+/// What is wrong with the first record of a block behind one with `before` used bytes: it must not
+/// have fitted there.
+fn join_wrong(place: u64, before: Option<usize>, block: &[u8]) -> Option<Damage>
+    requires least { 4096 ≤ length block.now }
+    requires place { place + length block.now ≤ 2 ^ 32 }
+    ensures { option_map fault_of result ≡ join_wrong (length block.now) place before block.now }
+{
+    let before = before?;
+    let found = captured_at(block.split_at(48).1) as u64;
+    let want = (block.len() as u64 - 47).saturating_sub(before as u64);
+    if found < want {
+        return Some(Damage {
+            place: place + 60,
+            found,
+            want,
+        });
+    }
+    None
+}
+
+/// Checks a block whole: how its records are laid out, or the first check that fails.
+///
+/// `number` is the block's in its file, counted from 0, `before` how many bytes are used of the
+/// block before, if there is one.
+#[tactic(auto, unfolding(crate::specs::Scanning::block_wrong))]
+pub fn check_block(number: u32, before: Option<usize>, block: &[u8]) -> Result<Layout, Damage>
+    requires least { 4096 ≤ length block.now }
+    requires whole { length block.now % 16 ≡ 0 }
+    requires place { length block.now * number + length block.now ≤ 2 ^ 32 }
+    ensures wrong { MatchResult result (λ _. block_wrong (length block.now) number before block.now ≡ None) (λ d. block_wrong (length block.now) number before block.now ≡ Some (fault_of d)) }
+    ensures whole { OnOk result (IsWholeBlock block.now) }
+    ensures laid { IfOk result (IsLayout block.now) }
+{
+    let place = block.len() as u64 * number as u64;
+    let layout = match lay_out(place, block) {
+        Ok(layout) => layout,
+        Err(damage) => return Err(damage),
+    };
+    let join = join_wrong(place, before, block);
+    match first_of(join, fields_wrong(place, number, layout, block)) {
+        Some(damage) => Err(damage),
+        None => Ok(layout),
+    }
+}
