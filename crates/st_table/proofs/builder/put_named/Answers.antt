@@ -1,0 +1,7 @@
+use Rattle.st_tblock.specs.Build.{block_text}
+use Rattle.st_table.specs.Builder.{stored_text}
+use Rattle.st_table.proofs.Texts.{whole_front}
+use Rattle.st_table.proofs.builder.put_named.Goals as goal
+
+pub returns-in-Err-add-clause-bytes : goal.returns-in-Err-add-clause-bytes
+returns-in-Err-add-clause-bytes g c = whole_front _ _ (stored_text (block_text c.args.block.now)) c.in-Ok.ensures.bytes

@@ -1,0 +1,275 @@
+ghost use Rattle.std.specs.Prelude.{◌≡◌, ◌≤◌, ◌<◌, ◌+◌, ◌^◌, ◌++◌, ◌∷◌, [], List, ℕ, length, OnOk, IfOk, IsTrue, Some, Ok, ◌↔◌};
+ghost use Rattle.st_base.specs.Pieces.{Puts};
+ghost use Rattle.st_tblock.specs.Block.{Row, Good, front_of, is_above};
+ghost use Rattle.st_tblock.specs.Build.{empty, block_size, block_text, Holds};
+ghost use Rattle.st_tblock.specs.Handles.{handle_text, footer_text, footer_in};
+ghost use Rattle.st_table.specs.Table.{IsTable};
+ghost use Rattle.st_table.specs.Builder.{fresh, room_of, next_handle, stored_text, after_row, written_by, ending_at, finishing};
+ghost use Rattle.st_table.specs.Builds.{Builds, Indexes, MayAdd, Follows, kept_at, last_added};
+ghost use Rattle.st_table.specs.Writing.{HasWriteCause, Names};
+
+use crate::build_errors::BuildErr;
+use crate::limits::{BLOCK_SIZE, DATA_INTERVAL, INDEX_INTERVAL, MAX_KEY, ROOM_LIMIT, VALUE_LIMIT};
+use crate::puts::{put_block, put_stored};
+use st_base::{Failed, NoMemory, Sink, put};
+use st_tblock::{EntryBlock, Handle, footer, put_handle};
+use std::alloc::Global;
+use std::marker::Model;
+
+/// A block without entries, as the metaindex block is.
+const METAINDEX: [u8; 8] = [0, 0, 0, 0, 1, 0, 0, 0];
+
+/// Puts a data block and names it in the index under its last key. The data block stays as it was.
+fn put_named<S: Sink>(
+    block: &mut EntryBlock,
+    index: &mut EntryBlock,
+    handle: Handle,
+    sink: &mut S,
+) -> Result<(), BuildErr>
+    requires above { IsTrue (is_above index.old.last (front_of block.old.last)) }
+    requires key { length (front_of block.old.last) ≤ MAX_KEY }
+    requires room { block_size index.old < 2 ^ 32 }
+    ensures bytes { Puts (S.written sink.old) (S.written sink.new) (stored_text (block_text block.old)) result }
+    ensures good { OnOk result ((rows : List Row) → Holds block.old rows → Good (block_text block.old) rows) }
+    ensures index { Names index.old index.new (front_of block.old.last) handle result }
+    ensures named { OnOk result ((rows : List Row) → Holds index.old rows → Holds index.new (rows ++ (front_of block.old.last, handle_text handle) ∷ [])) }
+    ensures same { block.new ≡ block.old }
+    ensures cause { HasWriteCause (S.faults sink.old) (S.faults sink.new) result }
+    ensures rest { S.beside sink.new ≡ S.beside sink.old }
+{
+    match put_block(block, sink) {
+        Ok(()) => match index.add(block.last_key(), put_handle(handle).as_slice()) {
+            Ok(()) => Ok(()),
+            Err(NoMemory) => Err(BuildErr::NoMemory),
+        },
+        Err(error) => Err(error),
+    }
+}
+
+/// Puts the data block at hand, names it in the index and empties it. `at` is the offset of the
+/// next block in the file.
+fn close<S: Sink>(
+    block: &mut EntryBlock,
+    index: &mut EntryBlock,
+    at: &mut u64,
+    sink: &mut S,
+) -> Result<(), BuildErr>
+    requires above { IsTrue (is_above index.old.last (front_of block.old.last)) }
+    requires key { length (front_of block.old.last) ≤ MAX_KEY }
+    requires room { block_size index.old < 2 ^ 32 }
+    requires at { at.old + block_size block.old < 2 ^ 63 }
+    ensures bytes { Puts (S.written sink.old) (S.written sink.new) (stored_text (block_text block.old)) result }
+    ensures good { OnOk result ((rows : List Row) → Holds block.old rows → Good (block_text block.old) rows) }
+    ensures index { Names index.old index.new (front_of block.old.last) (next_handle at.old (block_size block.old)) result }
+    ensures named { OnOk result ((rows : List Row) → Holds index.old rows → Holds index.new (rows ++ (front_of block.old.last, handle_text (next_handle at.old (block_size block.old))) ∷ [])) }
+    ensures block { block.new ≡ empty block.old.interval }
+    ensures at { at.new ≡ at.old + (block_size block.old + 5) }
+    ensures cause { HasWriteCause (S.faults sink.old) (S.faults sink.new) result }
+    ensures rest { S.beside sink.new ≡ S.beside sink.old }
+{
+    let offset = *at;
+    let size = block.size();
+    let written = put_named(block, index, Handle { offset, size }, sink);
+    block.clear();
+    *at = offset + size + 5;
+    written
+}
+
+/// Puts the index block, and behind it the footer.
+fn put_index<S: Sink>(
+    index: &mut EntryBlock,
+    meta: Handle,
+    named: Handle,
+    sink: &mut S,
+) -> Result<(), BuildErr>
+    ensures bytes { Puts (S.written sink.old) (S.written sink.new) (stored_text (block_text index.old) ++ footer_text meta named) result }
+    ensures good { OnOk result ((rows : List Row) → Holds index.old rows → Good (block_text index.old) rows) }
+    ensures size { length (footer_text meta named) ≡ 48 }
+    ensures read { footer_in (footer_text meta named) ≡ Ok (meta, named) }
+    ensures cause { HasWriteCause (S.faults sink.old) (S.faults sink.new) result }
+    ensures rest { S.beside sink.new ≡ S.beside sink.old }
+{
+    let foot = footer(meta, named);
+    match put_block(index, sink) {
+        Ok(()) => match put(sink, &foot) {
+            Ok(()) => Ok(()),
+            Err(Failed) => Err(BuildErr::WriteFault),
+        },
+        Err(error) => Err(error),
+    }
+}
+
+/// Puts what stands behind the last data block, at the offset `at`, and answers the file's length.
+fn put_ending<S: Sink>(index: &mut EntryBlock, at: u64, sink: &mut S) -> Result<u64, BuildErr>
+    requires at { at < 2 ^ 62 }
+    requires room { block_size index.old < 2 ^ 62 }
+    ensures bytes { Puts (S.written sink.old) (S.written sink.new) (ending_at at index.old) result }
+    ensures length { IfOk result (λ n. n ≡ at + length (ending_at at index.old)) }
+    ensures table { OnOk result ((bytes : List ℕ) (rows : List Row) → length bytes ≡ at → Indexes index.old bytes rows → IsTable (bytes ++ ending_at at index.old) rows) }
+    ensures cause { HasWriteCause (S.faults sink.old) (S.faults sink.new) result }
+    ensures rest { S.beside sink.new ≡ S.beside sink.old }
+{
+    let meta = Handle {
+        offset: at,
+        size: 8,
+    };
+    let named = Handle {
+        offset: at + 13,
+        size: index.size(),
+    };
+    match put_stored(sink, &METAINDEX) {
+        Ok(()) => match put_index(index, meta, named, sink) {
+            Ok(()) => Ok(named.offset + named.size + 53),
+            Err(error) => Err(error),
+        },
+        Err(Failed) => Err(BuildErr::WriteFault),
+    }
+}
+
+/// Puts the data block at hand, if it has rows, and what stands behind the last one, and answers
+/// the file's length. `at` is the offset of the next block in the file.
+fn put_rest<S: Sink>(
+    block: &mut EntryBlock,
+    index: &mut EntryBlock,
+    at: u64,
+    sink: &mut S,
+) -> Result<u64, BuildErr>
+    requires order { Follows index.old.last block.old.last }
+    requires key { length (front_of block.old.last) ≤ MAX_KEY }
+    requires room { block_size index.old < 2 ^ 32 }
+    requires at { at + block_size block.old < 2 ^ 61 }
+    ensures bytes { Puts (S.written sink.old) (S.written sink.new) (finishing (kept_at block.old index.old at)) result }
+    ensures length { IfOk result (λ n. n ≡ at + length (finishing (kept_at block.old index.old at))) }
+    ensures table { OnOk result ((bytes : List ℕ) (rows : List Row) → Builds (kept_at block.old index.old at) bytes rows
+        → IsTable (bytes ++ finishing (kept_at block.old index.old at)) rows) }
+    ensures cause { HasWriteCause (S.faults sink.old) (S.faults sink.new) result }
+    ensures rest { S.beside sink.new ≡ S.beside sink.old }
+{
+    if block.is_empty() {
+        return put_ending(index, at, sink);
+    }
+    let mut at = at;
+    match close(block, index, &mut at, sink) {
+        Ok(()) => put_ending(index, at, sink),
+        Err(error) => Err(error),
+    }
+}
+
+/// A table that is being written: rows in the order of their keys, in data blocks of 4,096 bytes
+/// or little more.
+///
+/// It keeps the data block at hand and the index block, and neither the rows nor the bytes that
+/// were written: `Builds` says for which of these it stands. Lengths are in bytes.
+#[derive(Drop)]
+pub struct TableBuilder {
+    block: EntryBlock,
+    index: EntryBlock,
+    at: u64,
+    spent: u64,
+}
+
+impl Model for TableBuilder {
+    ghost use Rattle.st_table.specs.Builder.{Kept};
+    ghost use Rattle.st_table.specs.Builds.{IsSteady};
+
+    ghost Value = { Kept };
+
+    ghost view = { λ a. record { block = a.block; index = a.index; at = a.at; spent = a.spent } };
+
+    ghost invariant = { λ a. IsSteady (record { block = a.block; index = a.index; at = a.at; spent = a.spent }) };
+}
+
+impl TableBuilder {
+    /// A builder without rows. What it puts is to stand from the file's first byte on.
+    ///
+    /// Source: LevelDB, table/table_builder.cc; docs/FORMAT.md, "Table file".
+    pub fn new(alloc: Global) -> Result<TableBuilder, NoMemory>
+        ensures fresh { IfOk result (λ b. b ≡ fresh) }
+        ensures builds { IfOk result (λ b. Builds b [] []) }
+    {
+        let block = EntryBlock::new(alloc, DATA_INTERVAL)?;
+        let index = EntryBlock::new(alloc, INDEX_INTERVAL)?;
+        Ok(TableBuilder {
+            block,
+            index,
+            at: 0,
+            spent: 0,
+        })
+    }
+
+    /// Whether `key` is above the last key.
+    fn is_above(&self, key: &[u8]) -> bool
+        ensures { result ≡ is_above (last_added self.now) key.now }
+    {
+        if self.block.is_empty() {
+            self.index.takes(key)
+        } else {
+            self.block.takes(key)
+        }
+    }
+
+    /// Whether the row may be added: its key is above the last one and has at most 64 bytes, its
+    /// value is shorter than 2^32 bytes, and the bytes of all rows, this one included, with 32 for
+    /// each come to less than 2^37.
+    pub fn takes(&self, key: &[u8], value: &[u8]) -> bool
+        ensures { IsTrue result ↔ MayAdd self.now (key.now, value.now) }
+    {
+        key.len() <= MAX_KEY
+            && (value.len() as u64) < VALUE_LIMIT
+            && self.spent + (key.len() as u64 + value.len() as u64 + 32) < ROOM_LIMIT
+            && self.is_above(key)
+    }
+
+    /// Adds a row, and puts the data block where it is full by that: two `put`s.
+    ///
+    /// `WriteFault` comes only where the sink's `faults` rose in this call. After an error a front
+    /// of what the row writes stands behind what the sink had, and the builder is only dropped.
+    /// Source: LevelDB, table/table_builder.cc; docs/FORMAT.md, "Table file".
+    pub fn add<S: Sink>(&mut self, key: &[u8], value: &[u8], sink: &mut S) -> Result<(), BuildErr>
+        requires { MayAdd self.old (key.now, value.now) }
+        // What is written, and what the builder then is.
+        ensures bytes { Puts (S.written sink.old) (S.written sink.new) (written_by self.old (key.now, value.now)) result }
+        ensures kept { OnOk result (self.new ≡ after_row self.old (key.now, value.now)) }
+        ensures last { OnOk result (last_added self.new ≡ Some key.now) }
+        ensures spent { OnOk result (self.new.spent ≡ self.old.spent + room_of (key.now, value.now)) }
+        // The rows for which it stands.
+        ensures builds { OnOk result ((bytes : List ℕ) (rows : List Row) → Builds self.old bytes rows
+            → Builds self.new (bytes ++ written_by self.old (key.now, value.now)) (rows ++ (key.now, value.now) ∷ [])) }
+        // When it fails, and what stays.
+        ensures cause { HasWriteCause (S.faults sink.old) (S.faults sink.new) result }
+        ensures rest { S.beside sink.new ≡ S.beside sink.old }
+    {
+        match self.block.add(key, value) {
+            Ok(()) => {}
+            Err(NoMemory) => return Err(BuildErr::NoMemory),
+        }
+        self.spent += key.len() as u64 + value.len() as u64 + 32;
+        let size = self.block.size();
+        if size < BLOCK_SIZE {
+            return Ok(());
+        }
+        close(&mut self.block, &mut self.index, &mut self.at, sink)
+    }
+
+    /// Puts the data block at hand, if it has rows, and what stands behind the last one, and
+    /// answers the file's length.
+    ///
+    /// `WriteFault` comes only where the sink's `faults` rose in this call. After an error a front
+    /// of the table's end stands behind what the sink had.
+    /// Source: LevelDB, table/table_builder.cc; docs/FORMAT.md, "Table file".
+    pub fn finish<S: Sink>(self, sink: &mut S) -> Result<u64, BuildErr>
+        ensures bytes { Puts (S.written sink.old) (S.written sink.new) (finishing self) result }
+        ensures length { IfOk result (λ n. n ≡ self.at + length (finishing self)) }
+        ensures table { OnOk result ((bytes : List ℕ) (rows : List Row) → Builds self bytes rows → IsTable (bytes ++ finishing self) rows) }
+        ensures cause { HasWriteCause (S.faults sink.old) (S.faults sink.new) result }
+        ensures rest { S.beside sink.new ≡ S.beside sink.old }
+    {
+        let TableBuilder {
+            mut block,
+            mut index,
+            at,
+            spent: _,
+        } = self;
+        put_rest(&mut block, &mut index, at, sink)
+    }
+}

@@ -1,0 +1,56 @@
+//! Blocks as they stand in a file: with the type byte and the sum behind them.
+
+ghost use Rattle.std.specs.Prelude.{◌≡◌, ◌∷◌, List, OnOk};
+ghost use Rattle.byteorder.specs.Endian.{little_bytes};
+ghost use Rattle.st_base.specs.Faults.{HasCause};
+ghost use Rattle.st_base.specs.Pieces.{Puts};
+ghost use Rattle.st_tblock.specs.Block.{Row, Good};
+ghost use Rattle.st_tblock.specs.Build.{block_text, Holds};
+ghost use Rattle.st_table.specs.Table.{sum_of};
+ghost use Rattle.st_table.specs.Builder.{stored_text};
+ghost use Rattle.st_table.specs.Writing.{HasWriteCause};
+
+use crate::build_errors::BuildErr;
+use byteorder::{ByteOrder, LittleEndian};
+use st_base::{Failed, NoMemory, Sink, put};
+use st_tblock::{EntryBlock, crc32c, mask};
+
+/// The five bytes behind a block: its type byte, 0, and the masked sum of both.
+#[tactic(auto, unfolding(crate::specs::Table::sum_of))]
+fn trailer(block: &[u8]) -> [u8; 5]
+    ensures { result ≡ 0 ∷ little_bytes 4 (sum_of 0 block.now) }
+{
+    let sum = mask(crc32c(block, 0));
+    let mut bytes = [0; 5];
+    LittleEndian::write_u32(&mut bytes[1..], sum);
+    bytes
+}
+
+/// Puts a block by one `put`, and its trailer by another.
+pub fn put_stored<S: Sink>(sink: &mut S, block: &[u8]) -> Result<(), Failed>
+    ensures bytes { Puts (S.written sink.old) (S.written sink.new) (stored_text block.now) result }
+    ensures cause { HasCause (S.faults sink.old) (S.faults sink.new) result }
+    ensures rest { S.beside sink.new ≡ S.beside sink.old }
+{
+    match put(sink, block) {
+        Ok(()) => put(sink, &trailer(block)),
+        Err(error) => Err(error),
+    }
+}
+
+/// Puts the block that was built, which itself stays as it was.
+pub fn put_block<S: Sink>(block: &mut EntryBlock, sink: &mut S) -> Result<(), BuildErr>
+    ensures bytes { Puts (S.written sink.old) (S.written sink.new) (stored_text (block_text block.old)) result }
+    ensures good { OnOk result ((rows : List Row) → Holds block.old rows → Good (block_text block.old) rows) }
+    ensures same { block.new ≡ block.old }
+    ensures cause { HasWriteCause (S.faults sink.old) (S.faults sink.new) result }
+    ensures rest { S.beside sink.new ≡ S.beside sink.old }
+{
+    match block.finish() {
+        Ok(bytes) => match put_stored(sink, bytes) {
+            Ok(()) => Ok(()),
+            Err(Failed) => Err(BuildErr::WriteFault),
+        },
+        Err(NoMemory) => Err(BuildErr::NoMemory),
+    }
+}
