@@ -7,3 +7,17 @@ mod Built
 mod Ending
 pub mod Rising
 pub mod OneTable
+pub mod Order
+pub mod Entries
+pub mod Walking
+pub mod Lookups
+pub mod Indexes
+pub mod Blocks
+pub mod Finding
+pub mod Entering
+pub mod Values
+pub mod Tables
+pub mod Ranges
+pub mod Stepping
+pub mod Coming
+pub mod Naming

@@ -3,3 +3,10 @@ pub mod Rows
 pub mod Builder
 pub mod Builds
 pub mod Writing
+pub mod Lookup
+pub mod Errors
+pub mod ReadingBlock
+pub mod ReadingRows
+pub mod ReadingIndex
+pub mod ReadingTable
+pub mod ReadingRange

@@ -1,39 +1,55 @@
-//! Tables: files of rows in the order of their keys, in LevelDB's format.
+//! Tables: files of rows in the order of their keys, in LevelDB's format, both ways.
 //!
 //! A row is a key and a value; keys are ordered by bytes, and lengths are in bytes. A file is data
-//! blocks, a metaindex block, an index block and a footer, without gaps; behind each block stand
-//! its type byte and its masked sum. The format is LevelDB's doc/table_format.md and
-//! table/table_builder.cc; docs/FORMAT.md, "Table file", here.
+//! blocks, a metaindex block, an index block and a footer; behind each block stand its type byte
+//! and its masked sum. The format is LevelDB's doc/table_format.md and table/table_builder.cc;
+//! docs/FORMAT.md, "Table file", here.
 //!
 //! # What it promises
 //!
 //! - A builder writes a table of just the rows that were added, in LevelDB's bytes: a data block is
 //!   closed once it takes 4,096 bytes or more, and the index names it by its last key
 //!   (`TableBuilder::add`, `TableBuilder::finish`).
-//! - A write fault is told only where the sink's count of faults rose; a front of the bytes then
-//!   stands behind what the sink had.
+//! - Over a table a reader gives the value of a key, or none, by one read at most (`Table::get`),
+//!   and the rows between two keys in their order (`Table::range`, `Table::step`). Over other bytes
+//!   it is refused by the first check that fails in what it reads, with its place.
+//! - A fault of the sink or of the file is told only where its count rose.
 //! - The keys of a table rise over all its blocks, and bytes are a table of one list of rows at
 //!   most (`keys_rise`, `one_list_of_rows`).
 //!
 //! # What it leaves to others
 //!
 //! What a block's bytes are is st_tblock's to know. A builder that answered an error is only
-//! dropped: no clause says for which rows it stands.
+//! dropped: no clause says for which rows it stands. A data block that no call reads isn't looked
+//! at, nor is the metaindex block.
 //!
 //! # Where to read
 //!
-//! `specs/Table.antt` says what a table is, `specs/Builder.antt` what a builder writes and
-//! `specs/Builds.antt` for which rows it stands. Then `puts` and `builder`.
+//! `specs/Table.antt` says what a table is, `specs/Builder.antt` what a builder writes,
+//! `specs/Lookup.antt` what is looked for. Then `builder` and `puts`; `table`, and below it
+//! `stored`, `index`, `rows` and `cursor`.
 #![tactic(auto)]
 
 mod build_errors;
 mod builder;
+#[cfg(test)]
+mod builder_tests;
+mod cursor;
+mod errors;
+mod index;
 mod laws;
 mod limits;
 mod puts;
+mod rows;
+mod stored;
+mod table;
 #[cfg(test)]
-mod tests;
+mod table_tests;
 
 pub use build_errors::BuildErr;
 pub use builder::TableBuilder;
+pub use cursor::Cursor;
+pub use errors::TableErr;
 pub use laws::{keys_rise, one_list_of_rows};
+pub use rows::Row;
+pub use table::Table;

@@ -1,0 +1,67 @@
+-- The entries of an index, as they are read.
+use Rattle.std.proofs.Common.{◌≡◌, ℕ, ◌≤◌, true, List, [], ◌∷◌, ◌++◌, take, drop, Option, Some, None, Result, Ok, Err, sym, ap, ◌∙◌, subst, inl, inr, arith}
+use Rattle.std.specs.Prelude.{nat_eq}
+use Rattle.byteorder.specs.Endian.{little_number}
+use Rattle.st_tblock.specs.Fault.{Fault, no}
+use Rattle.st_tblock.specs.Standing.{Standing}
+use Rattle.st_tblock.specs.Block.{Row}
+use Rattle.st_tblock.specs.Handles.{handle_in, handles_in, footer_in, named, IsHandle}
+use Rattle.st_tblock.specs.declared.handle.Handle.{Handle}
+use Rattle.st_tblock.specs.declared.handle.TheConstants.{MAGIC}
+use Rattle.st_tblock.proofs.Longer.{chosen}
+use Rattle.st_table.specs.ReadingRows.{Behind, row_of}
+use Rattle.st_table.specs.ReadingIndex.{Decodes, StepsIndex, HasEntries, holds_handle, is_whole}
+use Rattle.st_table.specs.declared.index.IndexEntry.{IndexEntry}
+use Rattle.st_table.proofs.Walking.{behind_on, behind_all}
+
+-- a footer's check fails within its first forty-one bytes
+named_place : (o : Option (Handle × Handle)) (f : Fault) → named o ≡ Err f → f.place ≤ 40
+named_place None f e = let same : no 0 ≡ f = cc in omega (arith, ap (λ (g : Fault). g.place) same)
+named_place (Some x) f e = cc
+
+pub footer_place : (bytes : List ℕ) (f : Fault) → footer_in bytes ≡ Err f → f.place ≤ 40
+unfolding footer_in
+footer_place bytes f e =
+    let wrong : Result (Handle × Handle) Fault = Err (record { place = 40; found = little_number 8 (drop 40 bytes); want = MAGIC }) in
+    elim (chosen (nat_eq (little_number 8 (drop 40 bytes)) MAGIC) (named (handles_in (take 40 bytes))) wrong (Err f) e) [
+      | inl h ↦ named_place (handles_in (take 40 bytes)) f h.1
+      | inr h ↦
+          let same : ◌≡◌ {A = Fault} (record { place = 40; found = little_number 8 (drop 40 bytes); want = MAGIC }) f = let k = h.1 in cc in
+          omega (arith, ap (λ (g : Fault). g.place) same)
+    ]
+
+-- a value that is one handle passes
+pub handle_passes : (value : List ℕ) (h : Handle) → IsHandle value h → is_whole (handle_in value) ≡ true
+handle_passes value h e = ap is_whole e
+
+-- one more entry
+pub decodes_push : (rows : List Row) (entries : List IndexEntry) (r : Row) (e : IndexEntry) → Decodes rows entries → e.key ≡ r.0 → IsHandle r.1 e.handle → Decodes (rows ++ r ∷ []) (entries ++ e ∷ [])
+decodes_push [] [] r e d k h = (k, h, tt)
+decodes_push [] (q ∷ entries) r e d k h = absurd d
+decodes_push (p ∷ rows) [] r e d k h = absurd d
+decodes_push (p ∷ rows) (q ∷ entries) r e d k h = (d.0, d.1, decodes_push rows entries r e d.2 k h)
+
+-- what the entries read so far are
+pub record Collected (block : List ℕ) (place : ℕ) (s : Standing) (entries : List IndexEntry) : Type 0 where
+  pub rows : List Row
+  pub behind : Behind holds_handle block s.walk rows
+  pub here : s.place ≡ place
+  pub decoded : Decodes rows entries
+
+-- and with one more
+pub collected_on : (block : List ℕ) (place : ℕ) (old new : Standing) (entries now : List IndexEntry) (e : IndexEntry) → Collected block place old entries → StepsIndex old new (Ok (Some e)) → now ≡ entries ++ e ∷ [] → Collected block place new now
+collected_on block place old new entries now e k s n =
+    let x = s.0 in
+    let w = old.walk in
+    let row = row_of w x in
+    let walk = ap (λ (t : Standing). t.walk) s.4 in
+    record {
+      rows = k.rows ++ row ∷ [];
+      behind = behind_on holds_handle block w new.walk k.rows x k.behind s.1 (handle_passes x.0.value e.handle s.3) walk;
+      here = ap (λ (t : Standing). t.place) s.4 ∙ k.here;
+      decoded = subst (Decodes (k.rows ++ row ∷ [])) (sym n) (decodes_push k.rows entries row e k.decoded s.2 s.3);
+    }
+
+-- at the block's end they are all
+pub collected_all : (block : List ℕ) (place : ℕ) (old new : Standing) (entries : List IndexEntry) → Collected block place old entries → StepsIndex old new (Ok None) → HasEntries block entries
+collected_all block place old new entries k s = (k.rows, behind_all holds_handle block old.walk k.rows k.behind s.0 s.1, k.decoded)

@@ -1,0 +1,45 @@
+-- Why a call on a table refuses.
+use Rattle.std.specs.Prelude.{◌≡◌, ℕ, ◌≤◌, List, Option, Result, IfErr}
+use Rattle.st_base.specs.Faults.{Rose}
+use Rattle.st_tblock.specs.Fault.{Fault, fault_of}
+use Rattle.st_tblock.specs.declared.cursor.CursorErr.{CursorErr}
+use Rattle.st_tblock.specs.declared.cursor.CursorErr.TheVariants as cursor
+use Rattle.st_table.specs.declared.errors.TableErr.{TableErr}
+use Rattle.st_table.specs.declared.errors.TableErr.TheVariants.{ReadFault, Damaged, Compressed, NoMemory}
+
+-- what a refusal says, by its numbers: the outside failed, a check fails, a block is compressed, or memory was wanting
+pub data Refusal : Type 0 where
+  Unread : Refusal
+  Broken : Fault → Refusal
+  Snappy : ℕ → Refusal
+  Unheld : Refusal
+
+-- what a `TableErr` says
+abbrev pub refusal_of : TableErr → Refusal
+refusal_of ReadFault = Unread
+refusal_of (Damaged d) = Broken (fault_of d)
+refusal_of (Compressed place) = Snappy place
+refusal_of NoMemory = Unheld
+
+-- a refusal that says nothing of the file's bytes
+abbrev pub IsOutside : TableErr → Type 0
+IsOutside ReadFault = Unit {0}
+IsOutside (Damaged d) = ⊥
+IsOutside (Compressed place) = ⊥
+IsOutside NoMemory = Unit {0}
+
+-- the file's count of faults never falls, and `ReadFault` comes only where it rose
+pub record HasFileCause {T : Type 0} (before now : ℕ) (result : Result T TableErr) : Type 0 where
+  pub later : before ≤ now
+  pub failed : IfErr result (λ e. e ≡ ReadFault → Rose before now)
+
+-- a file keeps its content, its length and what else of it there is
+pub record IsSameFile {B : Type 0} (bytes now : Option (List ℕ)) (length size : ℕ) (others rest : B) : Type 0 where
+  pub content : now ≡ bytes
+  pub extent : size ≡ length
+  pub beside : rest ≡ others
+
+-- a refusal of a cursor, said by a table
+abbrev pub Repeats : CursorErr → TableErr → Type 0
+Repeats (cursor.Damaged d) e = refusal_of e ≡ Broken (fault_of d)
+Repeats cursor.NoMemory e = e ≡ NoMemory

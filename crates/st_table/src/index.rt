@@ -1,0 +1,199 @@
+//! The footer of a table and its index block.
+
+ghost use Rattle.std.specs.Prelude.{◌≡◌, ◌≢◌, ◌+◌, ◌^◌, ◌<◌, ◌≤◌, List, ℕ, length, Some, Ok, IfOk, IfErr, OnSome, MatchOption, MatchResult, None, true, false, All, take, option_map, vec_len};
+ghost use Rattle.st_tblock.specs.Handles.{handle_in, IsHandle};
+ghost use Rattle.st_table.specs.Errors.{refusal_of, HasFileCause, IsSameFile};
+ghost use Rattle.st_table.specs.ReadingIndex.{is_whole, StepsIndex, HasEntries, ReadsFooter, Entered, RefusesTable, Decodes, holds_handle};
+ghost use Rattle.st_table.specs.ReadingTable.{IsBlockAt, Rises, found_at, last_key};
+ghost use Rattle.st_table.specs.Lookup.{find};
+ghost use Rattle.st_tblock.specs.Block.{Row, front_of, is_before};
+ghost use Rattle.st_table.specs.ReadingRows.{RefusesBlock};
+
+use crate::errors::TableErr;
+use crate::rows::{Bounds, broken, refused_by};
+use crate::stored::read_block;
+use st_base::{Damage, NoMemory, Octets, Reader, read_whole};
+use st_tblock::{EntryCursor, Handle, get_handle, read_footer};
+use std::alloc::Global;
+
+/// An entry of the index: a key at or above every key of its data block, and where that stands.
+#[derive(Drop)]
+pub struct IndexEntry {
+    pub key: Octets,
+    pub handle: Handle,
+}
+
+/// The handle that `value` is.
+fn handle_of(value: &[u8]) -> Option<Handle>
+    ensures { MatchOption result (is_whole (handle_in value.now) ≡ false) (λ h. IsHandle value.now h) }
+{
+    match get_handle(value) {
+        Some((handle, [])) => Some(handle),
+        Some((_, _)) => None,
+        None => None,
+    }
+}
+
+/// Goes behind the next entry of the index block, and gives it.
+fn next_entry(alloc: Global, cursor: &mut EntryCursor<'_>) -> Result<Option<IndexEntry>, TableErr>
+    ensures steps { StepsIndex cursor.old cursor.new result }
+    ensures shorter { IfOk result (λ o. OnSome o (length cursor.new.walk.rest < length cursor.old.walk.rest)) }
+    ensures error { IfErr result (λ e. e ≢ TableErr.ReadFault) }
+{
+    let place = cursor.offset();
+    match cursor.step(alloc) {
+        Ok(Some(value)) => match handle_of(value) {
+            Some(handle) => match Octets::copy_of(alloc, cursor.key()) {
+                Ok(key) => Ok(Some(IndexEntry { key, handle })),
+                Err(NoMemory) => Err(TableErr::NoMemory),
+            },
+            None => Err(broken(place)),
+        },
+        Ok(None) => Ok(None),
+        Err(error) => Err(refused_by(error)),
+    }
+}
+
+/// The entries of the index block `block`, which stands at the offset `place` of its file.
+fn entries_in(alloc: Global, block: &[u8], place: u64) -> Result<Vec<IndexEntry>, TableErr>
+    requires { place + length block.now < 2 ^ 64 }
+    ensures entries { MatchResult result (λ v. HasEntries block.now v.items) (λ e. RefusesBlock holds_handle place block.now e) }
+    ensures error { IfErr result (λ e. e ≢ TableErr.ReadFault) }
+{
+    let mut cursor = match EntryCursor::new(block, place) {
+        Ok(cursor) => cursor,
+        Err(damage) => return Err(TableErr::Damaged(damage)),
+    };
+    let mut entries = Vec::new(alloc);
+    'entries: loop {
+        match next_entry(alloc, &mut cursor) {
+            Ok(Some(entry)) => match entries.push(entry) {
+                Ok(()) => {}
+                Err(_) => return Err(TableErr::NoMemory),
+            },
+            Ok(None) => return Ok(entries),
+            Err(error) => return Err(error),
+        }
+    }
+}
+
+/// The same check at its place in the file, where the footer stands at the offset `at`.
+fn placed(damage: Damage, at: u64) -> Damage
+    requires { at + damage.place < 2 ^ 64 }
+    ensures place { result.place ≡ at + damage.place }
+    ensures found { result.found ≡ damage.found }
+    ensures want { result.want ≡ damage.want }
+{
+    Damage {
+        place: at + damage.place,
+        found: damage.found,
+        want: damage.want,
+    }
+}
+
+/// The handle of the index block, by one read of the table's footer at most.
+fn read_handle<R: Reader>(file: &mut R) -> Result<Handle, TableErr>
+    ensures footer { (bytes : List ℕ) → R.content file.old ≡ Some bytes → ReadsFooter bytes result }
+    ensures cause { HasFileCause (R.faults file.old) (R.faults file.new) result }
+    ensures reads { R.reads file.new ≤ R.reads file.old + 1 }
+    ensures same { IsSameFile (R.content file.old) (R.content file.new) (R.extent file.old) (R.extent file.new) (R.beside file.old) (R.beside file.new) }
+{
+    let size = file.size();
+    if size < 48 {
+        return Err(TableErr::Damaged(Damage {
+            place: 0,
+            found: size,
+            want: 48,
+        }));
+    }
+    let mut footer = [0; 48];
+    match read_whole(file, size - 48, &mut footer) {
+        Ok(()) => {}
+        Err(_) => return Err(TableErr::ReadFault),
+    }
+    match read_footer(&footer) {
+        Ok((_, index)) => Ok(index),
+        Err(damage) => Err(TableErr::Damaged(placed(damage, size - 48))),
+    }
+}
+
+/// The entries of a table's index, by two reads at most: of the footer, and of the index block
+/// into `block`.
+///
+/// Damage is that of the first check that fails, of the footer and then of the index block.
+pub fn read_index<R: Reader>(
+    alloc: Global,
+    file: &mut R,
+    block: &mut Vec<u8>,
+) -> Result<Vec<IndexEntry>, TableErr>
+    ensures entered { (bytes : List ℕ) → R.content file.old ≡ Some bytes
+        → MatchResult result (λ v. Entered bytes v.items) (λ e. RefusesTable bytes e) }
+    ensures cause { HasFileCause (R.faults file.old) (R.faults file.new) result }
+    ensures reads { R.reads file.new ≤ R.reads file.old + 2 }
+    ensures same { IsSameFile (R.content file.old) (R.content file.new) (R.extent file.old) (R.extent file.new) (R.beside file.old) (R.beside file.new) }
+{
+    let handle = match read_handle(file) {
+        Ok(handle) => handle,
+        Err(error) => return Err(error),
+    };
+    match read_block(file, handle, block) {
+        Ok(()) => {}
+        Err(error) => return Err(error),
+    }
+    entries_in(alloc, block.as_slice(), handle.offset)
+}
+
+/// The number of the first entry whose key is `key` or behind it, which names the block that may
+/// have `key`; or the number of entries.
+pub fn position(entries: &[IndexEntry], key: &[u8]) -> usize
+    ensures within { result ≤ length entries.now }
+    ensures found { (index : List Row) → Decodes index entries.now → Rises None index
+        → find key.now None index ≡ found_at index result }
+    ensures before { (index : List Row) → Decodes index entries.now → Rises None index
+        → All (λ e. is_before e.0 key.now ≡ true) (take result index) }
+{
+    let mut low = 0;
+    let mut high = entries.len();
+    'halves: while low < high {
+        let middle = low + (high - low) / 2;
+        if entries[middle].key.bytes().cmp(key).is_lt() {
+            low = middle + 1;
+        } else {
+            high = middle;
+        }
+    }
+    low
+}
+
+/// The key of the entry before the one of this number, where there is one.
+pub fn key_before(entries: &[IndexEntry], i: usize) -> Option<&[u8]>
+    requires { i < length entries.now }
+    ensures { (index : List Row) → Decodes index entries.now
+        → option_map (λ k. k.now) result ≡ last_key None (take i index) }
+{
+    if i == 0 {
+        return None;
+    }
+    Some(entries[i - 1].key.bytes())
+}
+
+/// The index keys around the block that the entry of this number names, and where it stands.
+pub fn block_at(entries: &[IndexEntry], i: usize) -> (Bounds<'_>, Handle)
+    requires { i < length entries.now }
+    ensures { (index : List Row) → Decodes index entries.now → IsBlockAt index i result.0 result.1 }
+{
+    let low = key_before(entries, i);
+    let entry = &entries[i];
+    let high = entry.key.bytes();
+    (Bounds { low, high }, entry.handle)
+}
+
+/// The key of the last entry, or no bytes where there is none.
+pub fn last_of(entries: &[IndexEntry]) -> &[u8]
+    ensures { (index : List Row) → Decodes index entries.now → result.now ≡ front_of (last_key None index) }
+{
+    if entries.is_empty() {
+        return &[];
+    }
+    entries[entries.len() - 1].key.bytes()
+}

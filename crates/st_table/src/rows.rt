@@ -1,0 +1,221 @@
+//! The rows of a data block, which lie between the index keys around it.
+
+ghost use Rattle.std.specs.Prelude.{◌≡◌, ◌+◌, ◌^◌, ◌<◌, ◌≤◌, List, ℕ, length, IfOk, IfErr, OnSome, ◌≢◌, option_map, OnOk, MatchResult, ◌++◌, ◌∷◌, []};
+ghost use Rattle.st_tblock.specs.Fault.{no};
+ghost use Rattle.st_tblock.specs.Block.{front_of};
+ghost use Rattle.st_table.specs.Errors.{refusal_of, Broken, Repeats};
+ghost use Rattle.st_table.specs.ReadingRows.{lies_in, StepsOn, ReadsValue, RefusesBlock, answer_behind};
+ghost use Rattle.st_table.specs.ReadingRange.{KeepsRange};
+ghost use Rattle.st_table.specs.Lookup.{in_range};
+
+use crate::errors::TableErr;
+use st_base::{Damage, NoMemory, Octets};
+use st_tblock::{CursorErr, EntryCursor};
+use std::alloc::Global;
+use std::collections::VecDeque;
+use std::marker::Model;
+
+/// The index keys around a data block: that of the block before it, where there is one, and its
+/// own.
+#[derive(Drop)]
+pub struct Bounds<'a> {
+    pub low: Option<&'a [u8]>,
+    pub high: &'a [u8],
+}
+
+impl<'a> Model for Bounds<'a> {
+    ghost use Rattle.std.specs.Prelude.{option_map};
+    ghost use Rattle.st_table.specs.ReadingRows.{Around};
+
+    ghost Value = { Around };
+
+    ghost view = { λ a. record { low = option_map (λ k. k.now) a.low; high = a.high.now } };
+}
+
+/// A yes-or-no check that fails at `place`.
+pub fn broken(place: u64) -> TableErr
+    ensures { refusal_of result ≡ Broken (no place) }
+{
+    TableErr::Damaged(Damage {
+        place,
+        found: 0,
+        want: 1,
+    })
+}
+
+/// The same refusal as a cursor's.
+pub fn refused_by(error: CursorErr) -> TableErr
+    ensures { Repeats error result }
+{
+    match error {
+        CursorErr::Damaged(damage) => TableErr::Damaged(damage),
+        CursorErr::NoMemory => TableErr::NoMemory,
+    }
+}
+
+/// Whether a key lies between the index keys around its block.
+fn is_within(bounds: &Bounds<'_>, key: &[u8]) -> bool
+    ensures { (value : List ℕ) → result ≡ lies_in bounds.now (key.now, value) }
+{
+    if bounds.high.cmp(key).is_lt() {
+        return false;
+    }
+    match bounds.low {
+        Some(low) => low.cmp(key).is_lt(),
+        None => true,
+    }
+}
+
+/// Goes behind the next row of a data block, and gives its value.
+fn next_row<'a>(
+    alloc: Global,
+    cursor: &mut EntryCursor<'a>,
+    bounds: &Bounds<'_>,
+) -> Result<Option<&'a [u8]>, TableErr>
+    ensures steps { StepsOn (lies_in bounds.now) cursor.old cursor.new result }
+    ensures shorter { IfOk result (λ o. OnSome o (length cursor.new.walk.rest < length cursor.old.walk.rest)) }
+    ensures error { IfErr result (λ e. e ≢ TableErr.ReadFault) }
+{
+    let place = cursor.offset();
+    match cursor.step(alloc) {
+        Ok(Some(value)) => {
+            if is_within(bounds, cursor.key()) {
+                return Ok(Some(value));
+            }
+            Err(broken(place))
+        }
+        Ok(None) => Ok(None),
+        Err(error) => Err(refused_by(error)),
+    }
+}
+
+/// `found`, or `value` where its key is the wanted one.
+fn chosen<'a>(
+    found: Option<&'a [u8]>,
+    value: &'a [u8],
+    key: &[u8],
+    wanted: &[u8],
+) -> Option<&'a [u8]>
+    ensures { option_map (λ v. v.now) result ≡ answer_behind wanted.now (key.now, value.now) (option_map (λ v. v.now) found.entry) }
+{
+    if key.cmp(wanted).is_lt() || wanted.cmp(key).is_lt() {
+        return found;
+    }
+    Some(value)
+}
+
+/// A copy of a value.
+fn copied(alloc: Global, found: Option<&[u8]>) -> Result<Option<Octets>, TableErr>
+    ensures ok { IfOk result (λ o. o ≡ option_map (λ v. v.now) found.entry) }
+    ensures err { IfErr result (λ e. e ≡ TableErr.NoMemory) }
+{
+    let Some(value) = found else {
+        return Ok(None);
+    };
+    match Octets::copy_of(alloc, value) {
+        Ok(copy) => Ok(Some(copy)),
+        Err(NoMemory) => Err(TableErr::NoMemory),
+    }
+}
+
+/// The value of `wanted` in the data block `block`, which stands at the offset `place` of its file
+/// and is read to its end.
+///
+/// Damage is that of the first check that fails: the restarts, an entry, its key against the index
+/// keys around the block.
+pub fn value_in(
+    alloc: Global,
+    block: &[u8],
+    place: u64,
+    bounds: &Bounds<'_>,
+    wanted: &[u8],
+) -> Result<Option<Octets>, TableErr>
+    requires { place + length block.now < 2 ^ 64 }
+    ensures value { ReadsValue (lies_in bounds.now) wanted.now place block.now result }
+    ensures error { IfErr result (λ e. e ≢ TableErr.ReadFault) }
+{
+    let mut cursor = match EntryCursor::new(block, place) {
+        Ok(cursor) => cursor,
+        Err(damage) => return Err(TableErr::Damaged(damage)),
+    };
+    let mut found = None;
+    'rows: loop {
+        match next_row(alloc, &mut cursor, bounds) {
+            Ok(Some(value)) => found = chosen(found, value, cursor.key(), wanted),
+            Ok(None) => return copied(alloc, found),
+            Err(error) => return Err(error),
+        }
+    }
+}
+
+/// A row of a table.
+#[derive(Drop)]
+pub struct Row {
+    pub key: Octets,
+    pub value: Octets,
+}
+
+impl Model for Row {
+    ghost use Rattle.std.specs.Prelude.{List, ℕ};
+
+    ghost Value = { List ℕ × List ℕ };
+
+    ghost view = { λ a. (a.key, a.value) };
+}
+
+/// Keeps a copy of a row whose key lies from `low` to `high`.
+fn keep(
+    alloc: Global,
+    kept: &mut VecDeque<Row>,
+    key: &[u8],
+    value: &[u8],
+    low: &[u8],
+    high: &[u8],
+) -> Result<(), NoMemory>
+    ensures { OnOk result (kept.new.items ≡ kept.old.items ++ in_range low.now high.now ((key.now, value.now) ∷ [])) }
+{
+    if high.cmp(key).is_lt() || key.cmp(low).is_lt() {
+        return Ok(());
+    }
+    let key = Octets::copy_of(alloc, key)?;
+    let value = Octets::copy_of(alloc, value)?;
+    match kept.push_back(Row { key, value }) {
+        Ok(()) => Ok(()),
+        Err(_) => Err(NoMemory),
+    }
+}
+
+/// The rows whose keys lie from `low` to `high`, both included, of the data block `block`, which
+/// stands at the offset `place` of its file and is read to its end.
+///
+/// Damage is that of the first check that fails: the restarts, an entry, its key against the index
+/// keys around the block.
+pub fn rows_in(
+    alloc: Global,
+    block: &[u8],
+    place: u64,
+    bounds: &Bounds<'_>,
+    low: &[u8],
+    high: &[u8],
+) -> Result<VecDeque<Row>, TableErr>
+    requires { place + length block.now < 2 ^ 64 }
+    ensures rows { MatchResult result (λ kept. KeepsRange (lies_in bounds.now) block.now low.now high.now kept.items)
+        (λ e. RefusesBlock (lies_in bounds.now) place block.now e) }
+    ensures error { IfErr result (λ e. e ≢ TableErr.ReadFault) }
+{
+    let mut cursor = match EntryCursor::new(block, place) {
+        Ok(cursor) => cursor,
+        Err(damage) => return Err(TableErr::Damaged(damage)),
+    };
+    let mut kept = VecDeque::new(alloc);
+    'rows: loop {
+        match next_row(alloc, &mut cursor, bounds) {
+            Ok(Some(value)) => match keep(alloc, &mut kept, cursor.key(), value, low, high) {
+                Ok(()) => {}
+                Err(NoMemory) => return Err(TableErr::NoMemory),
+            },
+            Ok(None) => return Ok(kept),
+            Err(error) => return Err(error),
+        }
+    }
+}

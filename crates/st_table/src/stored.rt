@@ -1,0 +1,127 @@
+//! Blocks as they stand in a table's file, each with its type byte and its sum behind it.
+
+ghost use Rattle.std.specs.Prelude.{◌≡◌, ◌≢◌, ◌+◌, ◌-◌, ◌^◌, ◌<◌, ◌≤◌, List, ℕ, length, Some, OnOk, IfErr, IfSome, MatchOption, option_map, vec_len};
+ghost use Rattle.st_base.specs.Places.{HasPart};
+ghost use Rattle.st_table.specs.Table.{sum_of};
+ghost use Rattle.st_table.specs.Errors.{refusal_of, IsOutside, HasFileCause, IsSameFile};
+ghost use Rattle.st_table.specs.ReadingBlock.{handle_wrong, part_wrong, ReadsBlock};
+
+use crate::errors::TableErr;
+use byteorder::{ByteOrder, LittleEndian};
+use st_base::{Damage, Reader, read_whole};
+use st_tblock::{Handle, crc32c, mask};
+
+/// The sum that is stored behind `block` and the type byte 0.
+#[tactic(auto, unfolding(crate::specs::Table::sum_of))]
+fn sum_behind(block: &[u8]) -> u32
+    ensures { result ≡ sum_of 0 block.now }
+{
+    mask(crc32c(block, 0))
+}
+
+/// What is wrong with the type byte or the sum of a block that was read with them.
+#[tactic(auto, unfolding(crate::specs::ReadingBlock::part_wrong))]
+fn part_refused(handle: Handle, part: &[u8]) -> Option<TableErr>
+    requires whole { length part.now ≡ handle.size + 5 }
+    requires fits { handle.offset + handle.size + 5 < 2 ^ 64 }
+    ensures value { option_map refusal_of result ≡ part_wrong handle.offset handle.size part.now }
+    ensures found { IfSome result (λ e. e ≢ TableErr.ReadFault) }
+{
+    let size = handle.size as usize;
+    let place = handle.offset + handle.size;
+    let kind = part[size];
+    if kind == 1 {
+        return Some(TableErr::Compressed { place });
+    }
+    if kind != 0 {
+        return Some(TableErr::Damaged(Damage {
+            place,
+            found: u64::from(kind),
+            want: 0,
+        }));
+    }
+    let found = LittleEndian::read_u32(part.split_at(size + 1).1);
+    let want = sum_behind(part.split_at(size).0);
+    if found == want {
+        return None;
+    }
+    Some(TableErr::Damaged(Damage {
+        place: place + 1,
+        found: u64::from(found),
+        want: u64::from(want),
+    }))
+}
+
+/// What is wrong with where a block and its five bytes end.
+#[tactic(auto, unfolding(crate::specs::ReadingBlock::handle_wrong))]
+fn handle_refused(limit: u64, handle: Handle) -> Option<TableErr>
+    requires { limit < 2 ^ 64 - 1 }
+    ensures value { option_map refusal_of result ≡ handle_wrong limit handle }
+    ensures within { MatchOption result (handle.offset + (handle.size + 5) ≤ limit) (λ e. e ≢ TableErr.ReadFault) }
+{
+    let end = u128::from(handle.offset) + (u128::from(handle.size) + 5);
+    if end <= u128::from(limit) {
+        return None;
+    }
+    Some(TableErr::Damaged(Damage {
+        place: handle.offset,
+        found: end.min(u128::from(u64::MAX)) as u64,
+        want: limit,
+    }))
+}
+
+/// Fills `part` with `len` bytes of the file from `place`, by one read.
+fn read_part<R: Reader>(
+    file: &mut R,
+    place: u64,
+    len: usize,
+    part: &mut Vec<u8>,
+) -> Result<(), TableErr>
+    requires { place + len ≤ R.extent file.old }
+    ensures bytes { OnOk result ((vec_len part.new ≡ len)
+        × HasPart (R.content file.old) place part.new.items) }
+    ensures error { IfErr result IsOutside }
+    ensures cause { HasFileCause (R.faults file.old) (R.faults file.new) result }
+    ensures reads { R.reads file.new ≤ R.reads file.old + 1 }
+    ensures same { IsSameFile (R.content file.old) (R.content file.new) (R.extent file.old) (R.extent file.new) (R.beside file.old) (R.beside file.new) }
+{
+    if part.resize(len, 0).is_err() {
+        return Err(TableErr::NoMemory);
+    }
+    match read_whole(file, place, part.as_mut_slice()) {
+        Ok(()) => Ok(()),
+        Err(_) => Err(TableErr::ReadFault),
+    }
+}
+
+/// Reads the block that `handle` names into `block`, by one read at most.
+///
+/// Damage is that of the first check that fails: where the block ends, its type byte, its sum.
+/// After an error `block` has what the read left in it.
+pub fn read_block<R: Reader>(
+    file: &mut R,
+    handle: Handle,
+    block: &mut Vec<u8>,
+) -> Result<(), TableErr>
+    ensures block { (bytes : List ℕ) → R.content file.old ≡ Some bytes
+        → ReadsBlock (length bytes - 48) bytes handle block.new.items result }
+    ensures fits { OnOk result (handle.offset + vec_len block.new < 2 ^ 64) }
+    ensures cause { HasFileCause (R.faults file.old) (R.faults file.new) result }
+    ensures reads { R.reads file.new ≤ R.reads file.old + 1 }
+    ensures same { IsSameFile (R.content file.old) (R.content file.new) (R.extent file.old) (R.extent file.new) (R.beside file.old) (R.beside file.new) }
+{
+    let limit = file.size().saturating_sub(48);
+    if let Some(error) = handle_refused(limit, handle) {
+        return Err(error);
+    }
+    let size = handle.size as usize;
+    match read_part(file, handle.offset, size + 5, block) {
+        Ok(()) => {}
+        Err(error) => return Err(error),
+    }
+    if let Some(error) = part_refused(handle, block.as_slice()) {
+        return Err(error);
+    }
+    block.truncate(size);
+    Ok(())
+}

@@ -1,0 +1,192 @@
+ghost use Rattle.std.specs.Prelude.{◌≡◌, ◌≤◌, ◌+◌, ◌-◌, List, ℕ, [], length, Some, None, All, IfOk, IfErr, OnErr, IsTrue};
+ghost use Rattle.st_tblock.specs.Block.{Row as Pair, front_of};
+ghost use Rattle.st_table.specs.Table.{IsTable, is_at_most};
+ghost use Rattle.st_table.specs.Lookup.{find, in_range};
+ghost use Rattle.st_table.specs.ReadingRange.{unread, Steps, Coming, StepsRow, IsSound, GivesNamed};
+ghost use Rattle.st_table.specs.Errors.{IsOutside, HasFileCause, IsSameFile};
+ghost use Rattle.st_table.specs.ReadingIndex.{Decodes, Entered, Enters};
+ghost use Rattle.st_table.specs.ReadingTable.{Rises, Gets, GetsRow, found_at, last_key};
+
+use crate::cursor::{Cursor, step_in};
+use crate::errors::TableErr;
+use crate::index::{IndexEntry, block_at, last_of, position, read_index};
+use crate::rows::{Row, value_in};
+use crate::stored::read_block;
+use st_base::{NoMemory, Octets, Reader};
+use std::alloc::Global;
+
+/// A table in a file that it reads at places.
+///
+/// It keeps the entries of its index, and the memory of the block that it read last.
+/// Source: LevelDB, doc/table_format.md; docs/FORMAT.md, "Table file".
+#[derive(Drop)]
+pub struct Table<'a, R> {
+    file: &'a mut R,
+    entries: Vec<IndexEntry>,
+    block: Vec<u8>,
+}
+
+/// The value of `key`, by one read at most, of the block that the index names for it.
+fn get_in<R: Reader>(
+    alloc: Global,
+    file: &mut R,
+    entries: &[IndexEntry],
+    block: &mut Vec<u8>,
+    key: &[u8],
+) -> Result<Option<Octets>, TableErr>
+    ensures gets { (bytes : List ℕ) (index : List Pair) → R.content file.old ≡ Some bytes
+        → Decodes index entries.now → Rises None index
+        → Gets (length bytes - 48) bytes key.now index result }
+    ensures cause { HasFileCause (R.faults file.old) (R.faults file.new) result }
+    ensures reads { R.reads file.new ≤ R.reads file.old + 1 }
+    ensures same { IsSameFile (R.content file.old) (R.content file.new) (R.extent file.old) (R.extent file.new) (R.beside file.old) (R.beside file.new) }
+{
+    let i = position(entries, key);
+    if i >= entries.len() {
+        return Ok(None);
+    }
+    let (bounds, handle) = block_at(entries, i);
+    match read_block(file, handle, block) {
+        Ok(()) => {}
+        Err(error) => return Err(error),
+    }
+    value_in(alloc, block.as_slice(), handle.offset, &bounds, key)
+}
+
+impl<'a, R: Reader> Table<'a, R> {
+    /// A table over `file`, which is yet to be entered: it has no rows. It takes no memory.
+    pub fn over(alloc: Global, file: &'a mut R) -> Table<'a, R>
+        ensures same_reference { result.file.ghost_name ≡ file.entry.ghost_name }
+        ensures same { result.file.now ≡ file.old }
+        ensures none { result.entries.items ≡ [] }
+    {
+        Table {
+            file,
+            entries: Vec::new(alloc),
+            block: Vec::new(alloc),
+        }
+    }
+
+    /// Reads the footer and the index block, by two reads at most. The metaindex block is not read.
+    ///
+    /// Damage is that of the first check that fails, in the order of docs/FORMAT.md, "Checks": the
+    /// file holds a footer, its magic number, its handles; the index block's end, its type byte,
+    /// its sum, its restarts; each entry, its key above the last one, its value one handle.
+    /// `Compressed` comes exactly where the type byte is 1. `ReadFault` comes only where the file
+    /// failed in this call. After an error the table has the entries that it had.
+    pub fn enter(&mut self, alloc: Global) -> Result<(), TableErr>
+        ensures enters { (bytes : List ℕ) → R.content self.old.file.now ≡ Some bytes
+            → Enters bytes self.new.entries.items result }
+        ensures table { (bytes : List ℕ) (rows : List Pair) → R.content self.old.file.now ≡ Some bytes
+            → IsTable bytes rows → IfErr result IsOutside }
+        ensures err { OnErr result (self.new.entries ≡ self.old.entries) }
+
+        // What becomes of the file.
+        ensures same_reference { self.new.file.ghost_name ≡ self.old.file.ghost_name }
+        ensures cause { HasFileCause (R.faults self.old.file.now) (R.faults self.new.file.now) result }
+        ensures reads { R.reads self.new.file.now ≤ R.reads self.old.file.now + 2 }
+        ensures same { IsSameFile (R.content self.old.file.now) (R.content self.new.file.now) (R.extent self.old.file.now) (R.extent self.new.file.now) (R.beside self.old.file.now) (R.beside self.new.file.now) }
+    {
+        match read_index(alloc, self.file, &mut self.block) {
+            Ok(entries) => {
+                self.entries = entries;
+                Ok(())
+            }
+            Err(error) => Err(error),
+        }
+    }
+
+    /// The value of `key`, or `None` where the table has no row of that key; by one read at most.
+    ///
+    /// The data block that the index names for `key` is read whole. Damage is that of its first
+    /// check that fails, in the order of docs/FORMAT.md, "Checks": its end, its type byte, its sum,
+    /// its restarts; each entry, its key above the last one and between the index keys around the
+    /// block. `Compressed` comes exactly where the type byte is 1. `ReadFault` comes only where the
+    /// file failed in this call. The table's entries stay.
+    pub fn get(&mut self, alloc: Global, key: &[u8]) -> Result<Option<Octets>, TableErr>
+        ensures gets { (bytes : List ℕ) → R.content self.old.file.now ≡ Some bytes
+            → (entered : Entered bytes self.old.entries.items)
+            → Gets (length bytes - 48) bytes key.now entered.index result }
+        ensures table { (bytes : List ℕ) (rows : List Pair) → R.content self.old.file.now ≡ Some bytes
+            → Entered bytes self.old.entries.items → IsTable bytes rows
+            → GetsRow key.now rows result }
+        ensures entries { self.new.entries ≡ self.old.entries }
+
+        // What becomes of the file.
+        ensures same_reference { self.new.file.ghost_name ≡ self.old.file.ghost_name }
+        ensures cause { HasFileCause (R.faults self.old.file.now) (R.faults self.new.file.now) result }
+        ensures reads { R.reads self.new.file.now ≤ R.reads self.old.file.now + 1 }
+        ensures same { IsSameFile (R.content self.old.file.now) (R.content self.new.file.now) (R.extent self.old.file.now) (R.extent self.new.file.now) (R.beside self.old.file.now) (R.beside self.new.file.now) }
+    {
+        get_in(
+            alloc,
+            self.file,
+            self.entries.as_slice(),
+            &mut self.block,
+            key,
+        )
+    }
+
+    /// A reading of the rows whose keys lie from `low` to `high`, both included, before the first
+    /// of them. It reads nothing.
+    ///
+    /// It is for [`Table::step`] of this table, or of another one over the same bytes.
+    pub fn range(&self, alloc: Global, low: &[u8], high: &[u8]) -> Result<Cursor, NoMemory>
+        ensures unread { IfOk result (λ c. c ≡ unread low.now high.now c.next) }
+        ensures first { (bytes : List ℕ) (entered : Entered bytes self.now.entries.items)
+            → IfOk result (λ c. find low.now None entered.index ≡ found_at entered.index c.next) }
+        ensures table { (bytes : List ℕ) (rows : List Pair) (entered : Entered bytes self.now.entries.items)
+            → IsTable bytes rows
+            → IfOk result (λ c. Coming (length bytes - 48) bytes entered.index c (in_range low.now high.now rows)) }
+    {
+        let next = position(self.entries.as_slice(), low);
+        Cursor::begin(alloc, low, high, next)
+    }
+
+    /// The next row of `cursor`, in the order of the keys, or `None` behind the last one.
+    ///
+    /// Each data block is read whole, by one read at most, before its first row is given. Damage is
+    /// that of its first check that fails, in the order of docs/FORMAT.md, "Checks": its end, its
+    /// type byte, its sum, its restarts; each entry, its key above the last one and between the
+    /// index keys around the block. `Compressed` comes exactly where the type byte is 1.
+    /// `ReadFault` comes only where the file failed in this call. After an error `cursor` stands
+    /// before that block.
+    pub fn step(&mut self, alloc: Global, cursor: &mut Cursor) -> Result<Option<Row>, TableErr>
+        ensures steps { (bytes : List ℕ) → R.content self.old.file.now ≡ Some bytes
+            → (entered : Entered bytes self.old.entries.items)
+            → Steps (length bytes - 48) bytes entered.index cursor.old cursor.new result }
+        ensures table { (bytes : List ℕ) (more : List Pair) → R.content self.old.file.now ≡ Some bytes
+            → (entered : Entered bytes self.old.entries.items)
+            → Coming (length bytes - 48) bytes entered.index cursor.old more
+            → StepsRow (length bytes - 48) bytes entered.index more cursor.new result }
+        ensures sound { (bytes : List ℕ) → R.content self.old.file.now ≡ Some bytes
+            → (entered : Entered bytes self.old.entries.items)
+            → IsSound (length bytes - 48) bytes entered.index cursor.old
+            → IsSound (length bytes - 48) bytes entered.index cursor.new × GivesNamed (length bytes - 48) bytes entered.index result }
+        ensures entries { self.new.entries ≡ self.old.entries }
+
+        // What becomes of the file.
+        ensures same_reference { self.new.file.ghost_name ≡ self.old.file.ghost_name }
+        ensures cause { HasFileCause (R.faults self.old.file.now) (R.faults self.new.file.now) result }
+        ensures same { IsSameFile (R.content self.old.file.now) (R.content self.new.file.now) (R.extent self.old.file.now) (R.extent self.new.file.now) (R.beside self.old.file.now) (R.beside self.new.file.now) }
+    {
+        step_in(
+            alloc,
+            self.file,
+            self.entries.as_slice(),
+            &mut self.block,
+            cursor,
+        )
+    }
+
+    /// The last key of the index, at or above every key of the table; no bytes where the index has
+    /// no entries.
+    pub fn last_key(&self) -> &[u8]
+        ensures last { (bytes : List ℕ) (entered : Entered bytes self.now.entries.items)
+            → result.now ≡ front_of (last_key None entered.index) }
+        ensures table { (bytes : List ℕ) (rows : List Pair) → Entered bytes self.now.entries.items
+            → IsTable bytes rows → All (λ r. IsTrue (is_at_most result.now r.0)) rows }
+    {
+        last_of(self.entries.as_slice())
+    }
+}
