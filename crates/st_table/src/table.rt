@@ -15,15 +15,33 @@ use crate::stored::read_block;
 use st_base::{NoMemory, Octets, Reader};
 use std::alloc::Global;
 
-/// A table in a file that it reads at places.
-///
-/// It keeps the entries of its index, and the memory of the block that it read last.
-/// Source: LevelDB, doc/table_format.md; docs/FORMAT.md, "Table file".
+/// What a table keeps of its file: the entries of its index, and the memory of the block that was
+/// read last.
 #[derive(Drop)]
-pub struct Table<'a, R> {
-    file: &'a mut R,
+pub struct Kept {
     entries: Vec<IndexEntry>,
     block: Vec<u8>,
+}
+
+/// A table in a file that it reads at places.
+///
+/// What it keeps has a parameter's type, which is always `Kept`: so a drop says what becomes of
+/// the file, which it could not of a struct whose own fields hold memory.
+/// Source: LevelDB, doc/table_format.md; docs/FORMAT.md, "Table file".
+pub struct Table<'a, R, K = Kept> {
+    file: &'a mut R,
+    kept: K,
+}
+
+impl<R, K: Drop> Drop for Table<'_, R, K> {
+    fn drop(self)
+        ensures { self.exit.0.now ≡ self.entry.file.now }
+    {
+        let Table {
+            file: _file,
+            kept: _kept,
+        } = self;
+    }
 }
 
 /// The value of `key`, by one read at most, of the block that the index names for it.
@@ -58,12 +76,14 @@ impl<'a, R: Reader> Table<'a, R> {
     pub fn over(alloc: Global, file: &'a mut R) -> Table<'a, R>
         ensures same_reference { result.file.ghost_name ≡ file.entry.ghost_name }
         ensures same { result.file.now ≡ file.old }
-        ensures none { result.entries.items ≡ [] }
+        ensures none { result.kept.entries.items ≡ [] }
     {
         Table {
             file,
-            entries: Vec::new(alloc),
-            block: Vec::new(alloc),
+            kept: Kept {
+                entries: Vec::new(alloc),
+                block: Vec::new(alloc),
+            },
         }
     }
 
@@ -76,10 +96,10 @@ impl<'a, R: Reader> Table<'a, R> {
     /// failed in this call. After an error the table has the entries that it had.
     pub fn enter(&mut self, alloc: Global) -> Result<(), TableErr>
         ensures enters { (bytes : List ℕ) → R.content self.old.file.now ≡ Some bytes
-            → Enters bytes self.new.entries.items result }
+            → Enters bytes self.new.kept.entries.items result }
         ensures table { (bytes : List ℕ) (rows : List Pair) → R.content self.old.file.now ≡ Some bytes
             → IsTable bytes rows → IfErr result IsOutside }
-        ensures err { OnErr result (self.new.entries ≡ self.old.entries) }
+        ensures err { OnErr result (self.new.kept.entries ≡ self.old.kept.entries) }
 
         // What becomes of the file.
         ensures same_reference { self.new.file.ghost_name ≡ self.old.file.ghost_name }
@@ -87,9 +107,9 @@ impl<'a, R: Reader> Table<'a, R> {
         ensures reads { R.reads self.new.file.now ≤ R.reads self.old.file.now + 2 }
         ensures same { IsSameFile (R.content self.old.file.now) (R.content self.new.file.now) (R.extent self.old.file.now) (R.extent self.new.file.now) (R.beside self.old.file.now) (R.beside self.new.file.now) }
     {
-        match read_index(alloc, self.file, &mut self.block) {
+        match read_index(alloc, self.file, &mut self.kept.block) {
             Ok(entries) => {
-                self.entries = entries;
+                self.kept.entries = entries;
                 Ok(())
             }
             Err(error) => Err(error),
@@ -105,12 +125,12 @@ impl<'a, R: Reader> Table<'a, R> {
     /// file failed in this call. The table's entries stay.
     pub fn get(&mut self, alloc: Global, key: &[u8]) -> Result<Option<Octets>, TableErr>
         ensures gets { (bytes : List ℕ) → R.content self.old.file.now ≡ Some bytes
-            → (entered : Entered bytes self.old.entries.items)
+            → (entered : Entered bytes self.old.kept.entries.items)
             → Gets (length bytes - 48) bytes key.now entered.index result }
         ensures table { (bytes : List ℕ) (rows : List Pair) → R.content self.old.file.now ≡ Some bytes
-            → Entered bytes self.old.entries.items → IsTable bytes rows
+            → Entered bytes self.old.kept.entries.items → IsTable bytes rows
             → GetsRow key.now rows result }
-        ensures entries { self.new.entries ≡ self.old.entries }
+        ensures entries { self.new.kept.entries ≡ self.old.kept.entries }
 
         // What becomes of the file.
         ensures same_reference { self.new.file.ghost_name ≡ self.old.file.ghost_name }
@@ -121,8 +141,8 @@ impl<'a, R: Reader> Table<'a, R> {
         get_in(
             alloc,
             self.file,
-            self.entries.as_slice(),
-            &mut self.block,
+            self.kept.entries.as_slice(),
+            &mut self.kept.block,
             key,
         )
     }
@@ -133,13 +153,13 @@ impl<'a, R: Reader> Table<'a, R> {
     /// It is for [`Table::step`] of this table, or of another one over the same bytes.
     pub fn range(&self, alloc: Global, low: &[u8], high: &[u8]) -> Result<Cursor, NoMemory>
         ensures unread { IfOk result (λ c. c ≡ unread low.now high.now c.next) }
-        ensures first { (bytes : List ℕ) (entered : Entered bytes self.now.entries.items)
+        ensures first { (bytes : List ℕ) (entered : Entered bytes self.now.kept.entries.items)
             → IfOk result (λ c. find low.now None entered.index ≡ found_at entered.index c.next) }
-        ensures table { (bytes : List ℕ) (rows : List Pair) (entered : Entered bytes self.now.entries.items)
+        ensures table { (bytes : List ℕ) (rows : List Pair) (entered : Entered bytes self.now.kept.entries.items)
             → IsTable bytes rows
             → IfOk result (λ c. Coming (length bytes - 48) bytes entered.index c (in_range low.now high.now rows)) }
     {
-        let next = position(self.entries.as_slice(), low);
+        let next = position(self.kept.entries.as_slice(), low);
         Cursor::begin(alloc, low, high, next)
     }
 
@@ -153,17 +173,17 @@ impl<'a, R: Reader> Table<'a, R> {
     /// before that block.
     pub fn step(&mut self, alloc: Global, cursor: &mut Cursor) -> Result<Option<Row>, TableErr>
         ensures steps { (bytes : List ℕ) → R.content self.old.file.now ≡ Some bytes
-            → (entered : Entered bytes self.old.entries.items)
+            → (entered : Entered bytes self.old.kept.entries.items)
             → Steps (length bytes - 48) bytes entered.index cursor.old cursor.new result }
         ensures table { (bytes : List ℕ) (more : List Pair) → R.content self.old.file.now ≡ Some bytes
-            → (entered : Entered bytes self.old.entries.items)
+            → (entered : Entered bytes self.old.kept.entries.items)
             → Coming (length bytes - 48) bytes entered.index cursor.old more
             → StepsRow (length bytes - 48) bytes entered.index more cursor.new result }
         ensures sound { (bytes : List ℕ) → R.content self.old.file.now ≡ Some bytes
-            → (entered : Entered bytes self.old.entries.items)
+            → (entered : Entered bytes self.old.kept.entries.items)
             → IsSound (length bytes - 48) bytes entered.index cursor.old
             → IsSound (length bytes - 48) bytes entered.index cursor.new × GivesNamed (length bytes - 48) bytes entered.index result }
-        ensures entries { self.new.entries ≡ self.old.entries }
+        ensures entries { self.new.kept.entries ≡ self.old.kept.entries }
 
         // What becomes of the file.
         ensures same_reference { self.new.file.ghost_name ≡ self.old.file.ghost_name }
@@ -173,8 +193,8 @@ impl<'a, R: Reader> Table<'a, R> {
         step_in(
             alloc,
             self.file,
-            self.entries.as_slice(),
-            &mut self.block,
+            self.kept.entries.as_slice(),
+            &mut self.kept.block,
             cursor,
         )
     }
@@ -182,11 +202,11 @@ impl<'a, R: Reader> Table<'a, R> {
     /// The last key of the index, at or above every key of the table; no bytes where the index has
     /// no entries.
     pub fn last_key(&self) -> &[u8]
-        ensures last { (bytes : List ℕ) (entered : Entered bytes self.now.entries.items)
+        ensures last { (bytes : List ℕ) (entered : Entered bytes self.now.kept.entries.items)
             → result.now ≡ front_of (last_key None entered.index) }
-        ensures table { (bytes : List ℕ) (rows : List Pair) → Entered bytes self.now.entries.items
+        ensures table { (bytes : List ℕ) (rows : List Pair) → Entered bytes self.now.kept.entries.items
             → IsTable bytes rows → All (λ r. IsTrue (is_at_most result.now r.0)) rows }
     {
-        last_of(self.entries.as_slice())
+        last_of(self.kept.entries.as_slice())
     }
 }
