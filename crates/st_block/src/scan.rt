@@ -8,17 +8,38 @@ use crate::scan_start::enter;
 use st_base::{Damage, Reader, Record};
 use std::alloc::Global;
 
+/// What a scan has come to, in a file that reaches at least so far.
+pub trait Reaching {
+    ghost end: { Self → ℕ };
+}
+
+impl Reaching for Course {
+    ghost end = { λ p. p.size * p.blocks };
+}
+
 /// A scan of a block file: gives its records in their order, each with its position, and finds the
 /// first check that fails.
 ///
 /// It holds the file, and one block of it at a time. A contract sees what it has come to, its
 /// `course`; of which bytes it then gave which records is said by `Stands` of `specs/Scans.antt`.
+/// What it has come to has a parameter's type, which is always `Course`: so a drop says what
+/// becomes of the file, which it could not of a struct whose own fields hold memory.
 /// Source: docs/FORMAT.md, "Block file" and "Checks".
-#[derive(Drop)]
-pub struct Scan<'a, R: Reader> {
+pub struct Scan<'a, R: Reader, C: Reaching = Course> {
     file: &'a mut R,
-    course: Course,
-    ghost inside: { course.size * course.blocks ≤ R.extent file.now },
+    course: C,
+    ghost inside: { C.end course ≤ R.extent file.now },
+}
+
+impl<R: Reader, C: Reaching + Drop> Drop for Scan<'_, R, C> {
+    fn drop(self)
+        ensures { self.exit.0.now ≡ self.entry.file.now }
+    {
+        let Scan {
+            file: _file,
+            course: _course,
+        } = self;
+    }
 }
 
 impl<'a, R: Reader> Scan<'a, R> {

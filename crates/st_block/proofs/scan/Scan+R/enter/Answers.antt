@@ -1,5 +1,5 @@
 use Rattle.st_block.proofs.Unhurt.{entered_outside}
-use Rattle.st_block.proofs.scan.Scan.enter.Goals as goal
+use Rattle.st_block.proofs.scan.Scan+R.enter.Goals as goal
 
 pub returns-in-Err-clause-whole : goal.returns-in-Err-clause-whole
 returns-in-Err-clause-whole g c = λ bytes rs told is.

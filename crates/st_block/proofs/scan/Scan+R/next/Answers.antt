@@ -1,5 +1,5 @@
 use Rattle.st_block.proofs.Unhurt.{gives_outside}
-use Rattle.st_block.proofs.scan.Scan.next.Goals as goal
+use Rattle.st_block.proofs.scan.Scan+R.next.Goals as goal
 
 pub returns-clause-whole : goal.returns-clause-whole
 returns-clause-whole g c = λ bytes given rs told is stands.
