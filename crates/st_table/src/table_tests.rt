@@ -3,7 +3,7 @@
 //! That program is a writer of LevelDB's format in Python, with a bitwise CRC-32C.
 
 use super::*;
-use st_base::{MemReader, NoMemory, Octets};
+use st_base::{MemReader, NoMemory, Octets, Reader};
 use std::alloc::{AllocError, Global};
 use std::test::Fail;
 
@@ -58,214 +58,285 @@ fn patched(alloc: Global, file: &[u8], at: usize, part: &[u8]) -> Result<Vec<u8>
     Ok(bytes)
 }
 
-/// What entering a table and then a lookup of the last key answer.
-fn outcome(alloc: Global, bytes: &[u8], fails: &[u32]) -> Result<Option<Octets>, TableErr> {
+/// A key, or its end, in a table's bytes.
+type Bytes = &'static [u8];
+
+/// What entering a table and then a lookup of `key` answer.
+fn looked_up(
+    alloc: Global,
+    bytes: &[u8],
+    fails: &[u32],
+    key: &[u8],
+) -> Result<Option<Octets>, TableErr> {
     let mut file = match MemReader::over(alloc, bytes, fails) {
         Ok(file) => file,
         Err(NoMemory) => return Err(TableErr::NoMemory),
     };
     let mut table = Table::over(alloc, &mut file);
     match table.enter(alloc) {
-        Ok(()) => table.get(alloc, LAST),
+        Ok(()) => table.get(alloc, key),
         Err(error) => Err(error),
     }
 }
 
-#[test]
-fn tables_of_another_writer_are_read(rt: HostRuntime) -> Result<(), Fail> {
-    for bytes in [TABLE, SHORT] {
-        let mut file = MemReader::over(rt.alloc(), bytes, &[])?;
-        let mut table = Table::over(rt.alloc(), &mut file);
-        table.enter(rt.alloc())?;
-        let found = table.get(rt.alloc(), b"\x02\x00\x35")?.ok_or("no row")?;
-        assert_eq!(rt; found.bytes(), b"\x00\x00\x00\x30".as_slice());
-        assert!(rt; matches!(table.get(rt.alloc(), b"\x02\x00\x36")?, None));
-        assert!(rt; matches!(table.get(rt.alloc(), b"\x09")?, None));
-        let mut all = table.range(rt.alloc(), b"", table.last_key())?;
-        for (key, value) in ROWS {
-            let row = table.step(rt.alloc(), &mut all)?.ok_or("no row")?;
-            assert_eq!(rt; row.key.bytes(), key);
-            assert_eq!(rt; row.value.bytes(), value);
+/// The next rows of a table that was entered, until the end.
+fn steps<R: Reader>(
+    alloc: Global,
+    table: &mut Table<'_, R>,
+    cursor: &mut Cursor,
+) -> Result<Vec<Row>, TableErr> {
+    let mut rows = Vec::new(alloc);
+    for _ in 0..100 {
+        match table.step(alloc, cursor) {
+            Ok(Some(row)) => match rows.push(row) {
+                Ok(()) => {}
+                Err(_) => return Err(TableErr::NoMemory),
+            },
+            Ok(None) => break,
+            Err(error) => return Err(error),
         }
-        assert!(rt; matches!(table.step(rt.alloc(), &mut all)?, None));
-        let mut some = table.range(rt.alloc(), b"\x02\x30\x39", b"\x04\x0a\x00\x00\x01")?;
-        let first = table.step(rt.alloc(), &mut some)?.ok_or("no row")?;
-        assert_eq!(rt; first.key.bytes(), b"\x02\x30\x39".as_slice());
-        let last = table.step(rt.alloc(), &mut some)?.ok_or("no row")?;
-        assert_eq!(rt; last.key.bytes(), b"\x04\x0a\x00\x00\x01".as_slice());
-        assert!(rt; matches!(table.step(rt.alloc(), &mut some)?, None));
+    }
+    Ok(rows)
+}
+
+/// The rows of a table from `low` to its end.
+fn rows_from(alloc: Global, bytes: &[u8], low: &[u8]) -> Result<Vec<Row>, TableErr> {
+    let mut file = match MemReader::over(alloc, bytes, &[]) {
+        Ok(file) => file,
+        Err(NoMemory) => return Err(TableErr::NoMemory),
+    };
+    let mut table = Table::over(alloc, &mut file);
+    match table.enter(alloc) {
+        Ok(()) => {}
+        Err(error) => return Err(error),
+    }
+    match table.range(alloc, low, table.last_key()) {
+        Ok(mut cursor) => steps(alloc, &mut table, &mut cursor),
+        Err(NoMemory) => Err(TableErr::NoMemory),
+    }
+}
+
+/// The rows of a table from `low` to `high`.
+fn rows_between(
+    alloc: Global,
+    bytes: &[u8],
+    low: &[u8],
+    high: &[u8],
+) -> Result<Vec<Row>, TableErr> {
+    let mut file = match MemReader::over(alloc, bytes, &[]) {
+        Ok(file) => file,
+        Err(NoMemory) => return Err(TableErr::NoMemory),
+    };
+    let mut table = Table::over(alloc, &mut file);
+    match table.enter(alloc) {
+        Ok(()) => {}
+        Err(error) => return Err(error),
+    }
+    match table.range(alloc, low, high) {
+        Ok(mut cursor) => steps(alloc, &mut table, &mut cursor),
+        Err(NoMemory) => Err(TableErr::NoMemory),
+    }
+}
+
+/// Whether these are rows of the index, from its row of number `first` on.
+fn are_rows(rows: &[Row], first: usize) -> bool {
+    for (i, row) in rows.iter().enumerate() {
+        let Some((key, value)) = ROWS.get(first.saturating_add(i)) else {
+            return false;
+        };
+        if row.key.bytes() != *key || row.value.bytes() != *value {
+            return false;
+        }
+    }
+    true
+}
+
+/// Looks keys up in a table of the index's rows, and reads them in order.
+fn is_read(alloc: Global, bytes: &[u8]) -> Result<(), Fail> {
+    let found = looked_up(alloc, bytes, &[], b"\x02\x00\x35")?.ok_or("no row")?;
+    if found.bytes() != b"\x00\x00\x00\x30".as_slice() {
+        return Err("another value")?;
+    }
+    if looked_up(alloc, bytes, &[], b"\x02\x00\x36")?.is_some() {
+        return Err("a row between two keys")?;
+    }
+    if looked_up(alloc, bytes, &[], b"\x09")?.is_some() {
+        return Err("a row behind the last key")?;
+    }
+    let all = rows_from(alloc, bytes, b"")?;
+    if all.len() != 7 || !are_rows(all.as_slice(), 0) {
+        return Err("other rows")?;
+    }
+    let some = rows_between(alloc, bytes, b"\x02\x30\x39", b"\x04\x0a\x00\x00\x01")?;
+    if some.len() != 2 || !are_rows(some.as_slice(), 3) {
+        return Err("other rows between two keys")?;
     }
     Ok(())
 }
 
-/// Each file breaks one check; where the sums are wanted right, the second change sets them.
 #[test]
-fn a_table_that_breaks_a_check_is_damaged(rt: HostRuntime) -> Result<(), Fail> {
-    let cases: [(&[u8], usize, &[u8], usize, &[u8], (u64, u64, u64), &str); 16] = [
+fn tables_of_another_writer_are_read(rt: HostRuntime) -> Result<(), Fail> {
+    is_read(rt.alloc(), TABLE)?;
+    is_read(rt.alloc(), SHORT)
+}
+
+/// Changes a file at one place, or at two where the sum is wanted right, and expects that its last
+/// key is refused by a check with this place, number found and number wanted.
+fn breaks(
+    alloc: Global,
+    file: &[u8],
+    change: (usize, Bytes),
+    sum: (usize, Bytes),
+    expected: (u64, u64, u64),
+) -> Result<(), Fail> {
+    let bytes = patched(alloc, file, change.0, change.1)?;
+    let bytes = patched(alloc, bytes.as_slice(), sum.0, sum.1)?;
+    match looked_up(alloc, bytes.as_slice(), &[], LAST) {
+        Err(TableErr::Damaged(damage)) => {
+            if (damage.place, damage.found, damage.want) != expected {
+                return Err("another damage")?;
+            }
+            Ok(())
+        }
+        _ => Err("read")?,
+    }
+}
+
+/// No second change.
+const NONE: (usize, Bytes) = (0, b"");
+
+#[test]
+fn a_broken_footer_is_damaged(rt: HostRuntime) -> Result<(), Fail> {
+    // another magic number
+    breaks(
+        rt.alloc(),
+        TABLE,
+        (184, b"\xda"),
+        NONE,
+        (177, 15728669023434505047, 15800726617472432983),
+    )?;
+    // no handles
+    breaks(
+        rt.alloc(),
+        TABLE,
+        (137, b"\xff\xff\xff\xff\xff\xff\xff\xff\xff\xff"),
+        NONE,
+        (137, 0, 1),
+    )?;
+    // an index block past the footer
+    breaks(rt.alloc(), TABLE, (140, b"\x13"), NONE, (114, 138, 137))?;
+    // an index block past all files
+    breaks(
+        rt.alloc(),
+        TABLE,
         (
-            TABLE,
-            184,
-            b"\xda",
-            0,
-            b"",
-            (177, 15728669023434505047, 15800726617472432983),
-            "another magic number",
-        ),
-        (
-            TABLE,
-            137,
-            b"\xff\xff\xff\xff\xff\xff\xff\xff\xff\xff",
-            0,
-            b"",
-            (137, 0, 1),
-            "no handles",
-        ),
-        (
-            TABLE,
-            140,
-            b"\x13",
-            0,
-            b"",
-            (114, 138, 137),
-            "an index block past the footer",
-        ),
-        (
-            TABLE,
             139,
             b"\xff\xff\xff\xff\xff\xff\xff\xff\xff\x01\xff\xff\xff\xff\xff\xff\xff\xff\xff\x01",
-            0,
-            b"",
-            (18446744073709551615, 18446744073709551615, 137),
-            "an index block past all files",
         ),
-        (
-            TABLE,
-            132,
-            b"\x02",
-            0,
-            b"",
-            (132, 2, 0),
-            "an index block of another type",
-        ),
-        (
-            TABLE,
-            133,
-            b"\x77",
-            0,
-            b"",
-            (133, 4020429943, 4020429942),
-            "another sum of the index block",
-        ),
-        (
-            TABLE,
-            128,
-            b"\x00",
-            133,
-            b"\x94\x74\xca\x34",
-            (114, 0, 1),
-            "no restarts in the index block",
-        ),
-        (
-            TABLE,
-            116,
-            b"\x7f",
-            133,
-            b"\xde\x2e\x80\xae",
-            (114, 0, 1),
-            "an index entry that doesn't fit",
-        ),
-        (
-            TABLE,
-            123,
-            b"\x80",
-            133,
-            b"\x88\x35\x64\xe8",
-            (114, 0, 1),
-            "an index value that is no handle",
-        ),
-        (
-            TABLE,
-            96,
-            b"\x03",
-            0,
-            b"",
-            (96, 3, 0),
-            "a data block of another type",
-        ),
-        (
-            TABLE,
-            97,
-            b"\xff",
-            0,
-            b"",
-            (97, 3601393663, 3601393662),
-            "another sum of the data block",
-        ),
-        (
-            TABLE,
-            88,
-            b"\x01",
-            97,
-            b"\x33\x00\x37\x3b",
-            (0, 0, 1),
-            "a first restart that isn't 0",
-        ),
-        (
-            TABLE,
-            37,
-            b"\x03",
-            97,
-            b"\x97\xab\x81\x90",
-            (37, 0, 1),
-            "a key that shares too much",
-        ),
-        (
-            TABLE,
-            40,
-            b"\x00",
-            97,
-            b"\x5b\x04\x3b\x64",
-            (37, 0, 1),
-            "a falling key",
-        ),
-        (
-            TABLE,
-            79,
-            b"\x09",
-            97,
-            b"\x32\x38\xe4\xb1",
-            (76, 0, 1),
-            "a key behind its index key",
-        ),
-        (
-            SHORT,
-            96,
-            b"\x04",
-            114,
-            b"\xe7\xd8\x14\x18",
-            (93, 0, 1),
-            "a key at most the index key before",
-        ),
-    ];
-    for (file, at, part, then_at, sum, expected, name) in cases {
-        let bytes = patched(rt.alloc(), file, at, part)?;
-        let bytes = patched(rt.alloc(), bytes.as_slice(), then_at, sum)?;
-        let Err(TableErr::Damaged(damage)) = outcome(rt.alloc(), bytes.as_slice(), &[]) else {
-            return Err(name)?;
-        };
-        assert_eq!(rt;
-            (damage.place, damage.found, damage.want),
-            expected,
-            "{name}"
-        );
-    }
+        NONE,
+        (18446744073709551615, 18446744073709551615, 137),
+    )?;
+    Ok(())
+}
+
+#[test]
+fn a_broken_index_block_is_damaged(rt: HostRuntime) -> Result<(), Fail> {
+    // an index block of another type
+    breaks(rt.alloc(), TABLE, (132, b"\x02"), NONE, (132, 2, 0))?;
+    // another sum of the index block
+    breaks(
+        rt.alloc(),
+        TABLE,
+        (133, b"\x77"),
+        NONE,
+        (133, 4020429943, 4020429942),
+    )?;
+    // no restarts in the index block
+    breaks(
+        rt.alloc(),
+        TABLE,
+        (128, b"\x00"),
+        (133, b"\x94\x74\xca\x34"),
+        (114, 0, 1),
+    )?;
+    // an index entry that doesn't fit
+    breaks(
+        rt.alloc(),
+        TABLE,
+        (116, b"\x7f"),
+        (133, b"\xde\x2e\x80\xae"),
+        (114, 0, 1),
+    )?;
+    // an index value that is no handle
+    breaks(
+        rt.alloc(),
+        TABLE,
+        (123, b"\x80"),
+        (133, b"\x88\x35\x64\xe8"),
+        (114, 0, 1),
+    )?;
+    Ok(())
+}
+
+#[test]
+fn a_broken_data_block_is_damaged(rt: HostRuntime) -> Result<(), Fail> {
+    // a data block of another type
+    breaks(rt.alloc(), TABLE, (96, b"\x03"), NONE, (96, 3, 0))?;
+    // another sum of the data block
+    breaks(
+        rt.alloc(),
+        TABLE,
+        (97, b"\xff"),
+        NONE,
+        (97, 3601393663, 3601393662),
+    )?;
+    // a first restart that isn't 0
+    breaks(
+        rt.alloc(),
+        TABLE,
+        (88, b"\x01"),
+        (97, b"\x33\x00\x37\x3b"),
+        (0, 0, 1),
+    )?;
+    // a key that shares too much
+    breaks(
+        rt.alloc(),
+        TABLE,
+        (37, b"\x03"),
+        (97, b"\x97\xab\x81\x90"),
+        (37, 0, 1),
+    )?;
+    // a falling key
+    breaks(
+        rt.alloc(),
+        TABLE,
+        (40, b"\x00"),
+        (97, b"\x5b\x04\x3b\x64"),
+        (37, 0, 1),
+    )?;
+    // a key behind its index key
+    breaks(
+        rt.alloc(),
+        TABLE,
+        (79, b"\x09"),
+        (97, b"\x32\x38\xe4\xb1"),
+        (76, 0, 1),
+    )?;
+    // a key at most the index key before
+    breaks(
+        rt.alloc(),
+        SHORT,
+        (96, b"\x04"),
+        (114, b"\xe7\xd8\x14\x18"),
+        (93, 0, 1),
+    )?;
     Ok(())
 }
 
 #[test]
 fn what_is_no_damage_has_a_name_of_its_own(rt: HostRuntime) -> Result<(), Fail> {
     let data = patched(rt.alloc(), TABLE, 96, b"\x01")?;
-    let error = outcome(rt.alloc(), data.as_slice(), &[])
+    let error = looked_up(rt.alloc(), data.as_slice(), &[], LAST)
         .err()
         .ok_or("read")?;
     assert_eq!(rt; error, TableErr::Compressed { place: 96 });
@@ -274,13 +345,13 @@ fn what_is_no_damage_has_a_name_of_its_own(rt: HostRuntime) -> Result<(), Fail> 
         "compressed block: its type byte at 96 is 1"
     );
     let index = patched(rt.alloc(), TABLE, 132, b"\x01")?;
-    let error = outcome(rt.alloc(), index.as_slice(), &[]).err();
+    let error = looked_up(rt.alloc(), index.as_slice(), &[], LAST).err();
     assert_eq!(rt; error, Some(TableErr::Compressed { place: 132 }));
     for read in [0, 1, 2] {
-        let error = outcome(rt.alloc(), TABLE, &[read]).err();
+        let error = looked_up(rt.alloc(), TABLE, &[read], LAST).err();
         assert_eq!(rt; error, Some(TableErr::ReadFault), "read {read}");
     }
-    let Err(error) = outcome(rt.alloc(), TABLE.split_at(47).0, &[]) else {
+    let Err(error) = looked_up(rt.alloc(), TABLE.split_at(47).0, &[], LAST) else {
         return Err("a file without a footer")?;
     };
     assert_eq!(rt;
