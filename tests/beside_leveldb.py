@@ -111,6 +111,8 @@ def refusals(theirs, folder):
 
 
 def main():
+    if not OURS.exists():
+        sys.exit(f"{OURS} is not built: run `rt ci` first")
     compiler = shutil.which("g++") or shutil.which("c++")
     with tempfile.TemporaryDirectory() as name:
         folder = pathlib.Path(name)
