@@ -1,79 +1,55 @@
--- The entries of the eight tables, each computed from the definition.
-use Rattle.std.proofs.Common.{◌≡◌, ℕ, ◌+◌, ◌<◌, Bool, true, ◌&&◌, List, [], ◌∷◌, length, get_or, refl, ap, ◌∙◌, arith, suc, zero}
-use Rattle.std.specs.Prelude.{nat_eq}
-use Rattle.std.proofs.lemmas.Bool.Decides.{nat_tests}
+-- The entries of the tables, from the definition: what 8 bits make of each byte, and of each entry of the table before.
+use Rattle.std.proofs.Common.{◌≡◌, ℕ, zero, suc, ◌+◌, ◌-◌, ◌*◌, ◌<◌, ◌≤◌, List, [], ◌∷◌, length, get_or, map, take, refl, sym, ap, ◌∙◌, arith, length-take, subst}
+use Rattle.std.proofs.lemmas.List.{get_or-map, get_or-take, length-map}
+use Rattle.std.proofs.lemmas.List.FromFn.{get_or-range_with_len, length-range_with_len}
+use Rattle.std.specs.List.{range_with_len}
 use Rattle.st_crc.specs.Sum.{bits_out, bit_out}
-use Rattle.st_crc.specs.declared.tables.TheConstants.{TABLE0, TABLE1, TABLE2, TABLE3, TABLE4, TABLE5, TABLE6, TABLE7}
+use Rattle.st_crc.proofs.Linear.{bits_more}
+use Rattle.st_crc.proofs.Eights.{no_bits}
+use Rattle.st_crc.specs.declared.tables.TheConstants.{TABLES}
 
--- from this place on each entry is what so many bits make of its place
-holds : ℕ → ℕ → List ℕ → Bool
-holds k i [] = true
-holds k i (x ∷ xs) = nat_eq x (bits_out k i) && holds k (i + 1) xs
+-- the bytes themselves, and the tables but the last
+before : List (List ℕ) → List (List ℕ)
+before tables = range_with_len 0 256 ∷ take 7 tables
 
--- the first passes, and so does the rest
-holds_both : (k i x : ℕ) (xs : List ℕ) → holds k i (x ∷ xs) ≡ true → (x ≡ bits_out k i) × (holds k (i + 1) xs ≡ true)
-unfolding holds
-holds_both k i x xs h = grind (arith, nat_tests)
+-- the tables are these again, 8 bits on: each entry is computed
+made : TABLES ≡ map (map (bits_out 8)) (before TABLES)
+unfolding before bits_out bit_out
+made = refl
 
--- each entry of a list that passes
-from_place : (k i : ℕ) (xs : List ℕ) → holds k i xs ≡ true → (j : ℕ) → j < length xs → get_or xs j 0 ≡ bits_out k (i + j)
-from_place k i [] h j l = absurd (omega arith)
-from_place k i (x ∷ xs) h zero l = (holds_both k i x xs h).0 ∙ ap (bits_out k) (omega arith)
-from_place k i (x ∷ xs) h (suc j) l =
-    from_place k (i + 1) xs (holds_both k i x xs h).1 j (omega arith) ∙ ap (bits_out k) (omega arith)
+-- what so many bits make of each byte
+abbrev pub IsTable : ℕ → List ℕ → Type 0
+IsTable k table = (length table ≡ 256) × ((j : ℕ) → j < 256 → get_or table j 0 ≡ bits_out k j)
 
-test0 : holds 8 0 TABLE0 ≡ true
-unfolding holds bits_out bit_out
-test0 = refl
+-- no bits leave each byte as it is
+bytes_are : IsTable 0 (range_with_len 0 256)
+bytes_are =
+    (length-range_with_len 0 256, λ j l. get_or-range_with_len 0 256 j 0 l ∙ omega arith ∙ sym (no_bits j))
 
-pub table0 : (j : ℕ) → j < 256 → get_or TABLE0 j 0 ≡ bits_out 8 j
-table0 j l = from_place 8 0 TABLE0 test0 j l ∙ ap (bits_out 8) (omega arith)
+-- eight bits more
+longer : (k : ℕ) (table : List ℕ) → IsTable k table → IsTable (k + 8) (map (bits_out 8) table)
+longer k table is =
+    (length-map table (bits_out 8) ∙ is.0, λ j l. get_or-map (bits_out 8) table j 0 0 (rw is.0 l) ∙ ap (bits_out 8) (is.1 j l) ∙ sym (bits_more k 8 j))
 
-test1 : holds 16 0 TABLE1 ≡ true
-unfolding holds bits_out bit_out
-test1 = refl
+-- each table is what 8 bits make of the one before it
+follows : (tables : List (List ℕ)) → length tables ≡ 8 → tables ≡ map (map (bits_out 8)) (before tables) → (i : ℕ) → i < 8 → get_or tables i [] ≡ map (bits_out 8) (get_or (before tables) i [])
+unfolding before
+follows tables size is i l =
+    let sized : length (before tables) ≡ 8 = rw (length-take 7 tables, size) refl in
+    ap (λ (t : List (List ℕ)). get_or t i []) is ∙ get_or-map (map (bits_out 8)) (before tables) i [] [] (rw sized l)
 
-pub table1 : (j : ℕ) → j < 256 → get_or TABLE1 j 0 ≡ bits_out 16 j
-table1 j l = from_place 16 0 TABLE1 test1 j l ∙ ap (bits_out 16) (omega arith)
+-- so each is what its number of bits makes of each byte
+table_is : (tables : List (List ℕ)) → length tables ≡ 8 → tables ≡ map (map (bits_out 8)) (before tables) → (i : ℕ) → i < 8 → IsTable (8 * i + 8) (get_or tables i [])
+unfolding before
+table_is tables size is zero l =
+    subst (IsTable 8) (sym (follows tables size is 0 l)) (longer 0 (range_with_len 0 256) bytes_are)
+table_is tables size is (suc i) l =
+    let former : get_or (before tables) (suc i) [] ≡ get_or tables i [] = get_or-take 7 tables i [] (omega arith) in
+    let here : get_or tables (suc i) [] ≡ map (bits_out 8) (get_or tables i []) = follows tables size is (suc i) l ∙ ap (map (bits_out 8)) former in
+    let bits : 8 * i + 8 + 8 ≡ 8 * suc i + 8 = omega arith in
+    rw (here, sym bits) (longer (8 * i + 8) (get_or tables i []) (table_is tables size is i (omega arith)))
 
-test2 : holds 24 0 TABLE2 ≡ true
-unfolding holds bits_out bit_out
-test2 = refl
-
-pub table2 : (j : ℕ) → j < 256 → get_or TABLE2 j 0 ≡ bits_out 24 j
-table2 j l = from_place 24 0 TABLE2 test2 j l ∙ ap (bits_out 24) (omega arith)
-
-test3 : holds 32 0 TABLE3 ≡ true
-unfolding holds bits_out bit_out
-test3 = refl
-
-pub table3 : (j : ℕ) → j < 256 → get_or TABLE3 j 0 ≡ bits_out 32 j
-table3 j l = from_place 32 0 TABLE3 test3 j l ∙ ap (bits_out 32) (omega arith)
-
-test4 : holds 40 0 TABLE4 ≡ true
-unfolding holds bits_out bit_out
-test4 = refl
-
-pub table4 : (j : ℕ) → j < 256 → get_or TABLE4 j 0 ≡ bits_out 40 j
-table4 j l = from_place 40 0 TABLE4 test4 j l ∙ ap (bits_out 40) (omega arith)
-
-test5 : holds 48 0 TABLE5 ≡ true
-unfolding holds bits_out bit_out
-test5 = refl
-
-pub table5 : (j : ℕ) → j < 256 → get_or TABLE5 j 0 ≡ bits_out 48 j
-table5 j l = from_place 48 0 TABLE5 test5 j l ∙ ap (bits_out 48) (omega arith)
-
-test6 : holds 56 0 TABLE6 ≡ true
-unfolding holds bits_out bit_out
-test6 = refl
-
-pub table6 : (j : ℕ) → j < 256 → get_or TABLE6 j 0 ≡ bits_out 56 j
-table6 j l = from_place 56 0 TABLE6 test6 j l ∙ ap (bits_out 56) (omega arith)
-
-test7 : holds 64 0 TABLE7 ≡ true
-unfolding holds bits_out bit_out
-test7 = refl
-
-pub table7 : (j : ℕ) → j < 256 → get_or TABLE7 j 0 ≡ bits_out 64 j
-table7 j l = from_place 64 0 TABLE7 test7 j l ∙ ap (bits_out 64) (omega arith)
+-- an entry is what the bits of so many bytes make of its place
+pub entry_is : (bytes j : ℕ) → 1 ≤ bytes → bytes ≤ 8 → j < 256 → get_or (get_or TABLES (bytes - 1) []) j 0 ≡ bits_out (8 * bytes) j
+entry_is bytes j low high l =
+    (table_is TABLES refl made (bytes - 1) (omega arith)).1 j l ∙ ap (λ (k : ℕ). bits_out k j) (omega arith)

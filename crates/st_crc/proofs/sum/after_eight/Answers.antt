@@ -9,4 +9,4 @@ returns c =
     let word = bit_xor c.from.result c.read_u64.result in
     let fits : word < 2 ^ 64 = xor_lt 64 c.from.result c.read_u64.result c.from.type_inv c.read_u64.type_inv in
     let whole = over_word c.from.result c.args.state c.read_u64.result c.args.eight.now (λ i. (c.type_inv.eight i).fits) c.requires c.from.ensures c.read_u64.ensures in
-    rw (c.out_64.ensures, c.out_56.ensures, c.out_48.ensures, c.out_40.ensures, c.out_32.ensures, c.out_24.ensures, c.out_16.ensures, c.out_8.ensures) (eight_reads word fits ∙ whole)
+    rw (c.lowest_out.ensures, c.lowest_out-2.ensures, c.lowest_out-3.ensures, c.lowest_out-4.ensures, c.lowest_out-5.ensures, c.lowest_out-6.ensures, c.lowest_out-7.ensures, c.lowest_out-8.ensures) (eight_reads word fits ∙ whole)
