@@ -1,8 +1,9 @@
--- The sum over bytes, taken eight at a time.
-use Rattle.std.proofs.Common.{◌≡◌, ℕ, suc, ◌+◌, ◌*◌, ◌/◌, ◌%◌, ◌^◌, ◌<◌, ◌≤◌, List, [], ◌∷◌, ◌++◌, length, get_or, take, drop, refl, sym, ap, ◌∙◌, arith, add-one, length-drop, drop-cons, take-append-drop}
+-- The sum over bytes, taken eight or sixteen at a time.
+use Rattle.std.proofs.Common.{◌≡◌, ℕ, zero, suc, ◌+◌, ◌-◌, ◌*◌, ◌/◌, ◌%◌, ◌^◌, ◌<◌, ◌≤◌, List, [], ◌∷◌, ◌++◌, length, get_or, take, drop, refl, sym, ap, ◌∙◌, arith, add-one, length-drop, length-take, drop-cons, take-append-drop}
 use Rattle.std.specs.Prelude.{bit_xor, slice_index}
 use Rattle.std.specs.Int.Bits.{xor_assoc, xor_zero_r}
 use Rattle.std.proofs.lemmas.Nat.{xor_comm, xor_shr}
+use Rattle.std.proofs.lemmas.List.{get_or-drop}
 use Rattle.byteorder.specs.Endian.{little_from}
 use Rattle.byteorder.specs.Numbers.{little_from-cons}
 use Rattle.st_crc.specs.Sum.{bits_out, bit_out, behind_byte, crc_over, crc_of}
@@ -33,41 +34,23 @@ over_number c (b ∷ bytes) fits =
     ∙ ap (λ (k : ℕ). bits_out k (bit_xor c (b + 256 * w))) (sym more)
     ∙ ap (λ (x : ℕ). bits_out (8 * length (b ∷ bytes)) (bit_xor c x)) (sym number)
 
--- the next byte of a word, behind what was read of it
-next_read : (k acc w : ℕ) → bit_xor acc (bits_out (8 + k) w) ≡ bit_xor (bit_xor acc (bits_out (8 + k) (w % 256))) (bits_out k (w / 256))
-next_read k acc w = ap (bit_xor acc) (byte_out k w) ∙ sym (xor_assoc acc (bits_out (8 + k) (w % 256)) (bits_out k (w / 256)))
+-- one more byte of a word, below what was read of it
+lower_read : (n k w above read : ℕ) → n ≡ 8 + k → w / 256 ≡ above → read ≡ bits_out k above → bit_xor read (bits_out n (w % 256)) ≡ bits_out n w
+lower_read n k w above read bits shifted e =
+    rw (bits, e, sym shifted) (xor_comm (bits_out k (w / 256)) (bits_out (8 + k) (w % 256)) ∙ sym (byte_out k w))
 
--- a word of eight bytes is eight reads
-pub eight_reads : (w : ℕ) → w < 2 ^ 64 → bit_xor (bit_xor (bit_xor (bit_xor (bit_xor (bit_xor (bit_xor (bits_out 64 (w % 256)) (bits_out 56 (w / 2 ^ 8 % 256))) (bits_out 48 (w / 2 ^ 16 % 256))) (bits_out 40 (w / 2 ^ 24 % 256))) (bits_out 32 (w / 2 ^ 32 % 256))) (bits_out 24 (w / 2 ^ 40 % 256))) (bits_out 16 (w / 2 ^ 48 % 256))) (bits_out 8 (w / 2 ^ 56 % 256)) ≡ bits_out 64 w
-eight_reads w l =
-    let e2 : w / 2 ^ 8 / 256 ≡ w / 2 ^ 16 = omega arith in
-    let e3 : w / 2 ^ 16 / 256 ≡ w / 2 ^ 24 = omega arith in
-    let e4 : w / 2 ^ 24 / 256 ≡ w / 2 ^ 32 = omega arith in
-    let e5 : w / 2 ^ 32 / 256 ≡ w / 2 ^ 40 = omega arith in
-    let e6 : w / 2 ^ 40 / 256 ≡ w / 2 ^ 48 = omega arith in
-    let e7 : w / 2 ^ 48 / 256 ≡ w / 2 ^ 56 = omega arith in
-    let e8 : w / 2 ^ 56 ≡ w / 2 ^ 56 % 256 = omega arith in
-    let a1 = bits_out 64 (w % 256) in
-    let a2 = bit_xor a1 (bits_out 56 (w / 2 ^ 8 % 256)) in
-    let a3 = bit_xor a2 (bits_out 48 (w / 2 ^ 16 % 256)) in
-    let a4 = bit_xor a3 (bits_out 40 (w / 2 ^ 24 % 256)) in
-    let a5 = bit_xor a4 (bits_out 32 (w / 2 ^ 32 % 256)) in
-    let a6 = bit_xor a5 (bits_out 24 (w / 2 ^ 40 % 256)) in
-    let a7 = bit_xor a6 (bits_out 16 (w / 2 ^ 48 % 256)) in
-    sym
-    (byte_out 56 w
-    ∙ next_read 48 a1 (w / 2 ^ 8)
-    ∙ ap (λ (x : ℕ). bit_xor a2 (bits_out 48 x)) e2
-    ∙ next_read 40 a2 (w / 2 ^ 16)
-    ∙ ap (λ (x : ℕ). bit_xor a3 (bits_out 40 x)) e3
-    ∙ next_read 32 a3 (w / 2 ^ 24)
-    ∙ ap (λ (x : ℕ). bit_xor a4 (bits_out 32 x)) e4
-    ∙ next_read 24 a4 (w / 2 ^ 32)
-    ∙ ap (λ (x : ℕ). bit_xor a5 (bits_out 24 x)) e5
-    ∙ next_read 16 a5 (w / 2 ^ 40)
-    ∙ ap (λ (x : ℕ). bit_xor a6 (bits_out 16 x)) e6
-    ∙ next_read 8 a6 (w / 2 ^ 48)
-    ∙ ap (λ (x : ℕ). bit_xor a7 (bits_out 8 x)) (e7 ∙ e8))
+-- a word is eight reads, the highest byte first, whether its own bits go or more
+pub eight_reads : (n w : ℕ) → 8 ≤ n → w < 2 ^ 64 → bit_xor (bit_xor (bit_xor (bit_xor (bit_xor (bit_xor (bit_xor (bits_out (8 * (n - 7)) (w / 2 ^ 56 % 256)) (bits_out (8 * (n - 6)) (w / 2 ^ 48 % 256))) (bits_out (8 * (n - 5)) (w / 2 ^ 40 % 256))) (bits_out (8 * (n - 4)) (w / 2 ^ 32 % 256))) (bits_out (8 * (n - 3)) (w / 2 ^ 24 % 256))) (bits_out (8 * (n - 2)) (w / 2 ^ 16 % 256))) (bits_out (8 * (n - 1)) (w / 2 ^ 8 % 256))) (bits_out (8 * n) (w % 256)) ≡ bits_out (8 * n) w
+eight_reads n w more l =
+    let highest : w / 2 ^ 56 % 256 ≡ w / 2 ^ 56 = omega arith in
+    let r1 = ap (bits_out (8 * (n - 7))) highest in
+    let r2 = lower_read (8 * (n - 6)) (8 * (n - 7)) (w / 2 ^ 48) (w / 2 ^ 56) _ (omega arith) (omega arith) r1 in
+    let r3 = lower_read (8 * (n - 5)) (8 * (n - 6)) (w / 2 ^ 40) (w / 2 ^ 48) _ (omega arith) (omega arith) r2 in
+    let r4 = lower_read (8 * (n - 4)) (8 * (n - 5)) (w / 2 ^ 32) (w / 2 ^ 40) _ (omega arith) (omega arith) r3 in
+    let r5 = lower_read (8 * (n - 3)) (8 * (n - 4)) (w / 2 ^ 24) (w / 2 ^ 32) _ (omega arith) (omega arith) r4 in
+    let r6 = lower_read (8 * (n - 2)) (8 * (n - 3)) (w / 2 ^ 16) (w / 2 ^ 24) _ (omega arith) (omega arith) r5 in
+    let r7 = lower_read (8 * (n - 1)) (8 * (n - 2)) (w / 2 ^ 8) (w / 2 ^ 16) _ (omega arith) (omega arith) r6 in
+    lower_read (8 * n) (8 * (n - 1)) w (w / 2 ^ 8) _ (omega arith) (omega arith) r7
 
 -- no bits leave it
 pub no_bits : (x : ℕ) → bits_out 0 x ≡ x
@@ -151,4 +134,24 @@ over_word c state word bytes fits size same read =
     ∙ ap (λ (x : ℕ). bits_out 64 (bit_xor state x)) read
     ∙ sym (over_number state bytes fits ∙ all)
 
-pub ruleset over = (over_one, over_split, over_end)
+-- the bytes of a front fit as all do
+front_fits : (n : ℕ) (bytes : List ℕ) → ((i : ℕ) → slice_index bytes i < 256) → (i : ℕ) → slice_index (take n bytes) i < 256
+front_fits zero bytes fits i = omega arith
+front_fits (suc n) [] fits i = fits i
+front_fits (suc n) (b ∷ bytes) fits zero = fits zero
+front_fits (suc n) (b ∷ bytes) fits (suc i) = front_fits n bytes (λ j. fits (suc j)) i
+
+-- sixteen bytes: the first eight go by twice as many bits, and the others beside them
+pub over_words : (c state first second : ℕ) (bytes front back : List ℕ) → ((i : ℕ) → slice_index bytes i < 256) → length bytes ≡ 16 → front ≡ take 8 bytes → back ≡ drop 8 bytes → c ≡ state → first ≡ little_from 0 8 front → second ≡ little_from 0 8 back → bit_xor (bits_out 64 second) (bits_out 128 (bit_xor c first)) ≡ crc_over state bytes
+over_words c state first second bytes front back fits size is_front is_back same read_front read_back =
+    let fits_front : (i : ℕ) → slice_index front i < 256 = λ i. rw is_front (front_fits 8 bytes fits i) in
+    let fits_back : (i : ℕ) → slice_index back i < 256 = λ i. rw (is_back, get_or-drop 8 bytes i 0) (fits (8 + i)) in
+    let size_front : length front ≡ 8 = rw (is_front, length-take 8 bytes) (omega arith) in
+    let size_back : length back ≡ 8 = rw (is_back, length-drop 8 bytes) (omega arith) in
+    let near = over_word c state first front fits_front size_front same read_front in
+    let far = over_word (bits_out 64 (bit_xor c first)) (crc_over state front) second back fits_back size_back near read_back in
+    xor_comm (bits_out 64 second) (bits_out 128 (bit_xor c first))
+    ∙ ap (λ (x : ℕ). bit_xor x (bits_out 64 second)) (bits_more 64 64 (bit_xor c first))
+    ∙ sym (bits_linear 64 (bits_out 64 (bit_xor c first)) second)
+    ∙ far
+    ∙ rw (is_front, is_back) (over_split 8 state bytes)

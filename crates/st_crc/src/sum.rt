@@ -1,18 +1,37 @@
-//! The sum by slicing by 8: eight bytes a step, with a table for each.
+//! The sum by slicing by 16: sixteen bytes a step, with a table for each.
 
-ghost use Rattle.std.specs.Prelude.{◌≡◌, ◌≤◌, ◌<◌, ◌^◌, ◌/◌, ◌%◌, ◌*◌, ◌+◌, ◌++◌, ◌∷◌, [], length, bit_xor};
+ghost use Rattle.std.specs.Prelude.{◌≡◌, ◌≤◌, ◌<◌, ◌^◌, ◌/◌, ◌%◌, ◌*◌, ◌++◌, ◌∷◌, [], length, bit_xor};
 ghost use Rattle.st_crc.specs.Sum.{bits_out, behind_byte, crc_over, crc_of, masked};
 
 use crate::tables::TABLES;
 use byteorder::{ByteOrder, LittleEndian};
 
-/// What the bits of so many bytes, 1 to 8, make of the lowest byte of a word.
+/// What the bits of so many bytes, 1 to 16, make of the lowest byte of a word.
 fn lowest_out(bytes: usize, word: u64) -> u32
     requires at_least { 1 ≤ bytes }
-    requires at_most { bytes ≤ 8 }
+    requires at_most { bytes ≤ 16 }
     ensures { result ≡ bits_out (8 * bytes) (word % 256) }
 {
     TABLES[bytes - 1][(word % 256) as usize]
+}
+
+/// What the bits of so many bytes, 8 to 16, make of a word.
+///
+/// Its lowest bytes wait for the remainder of the step before, so they are read last.
+#[inline(always)]
+fn word_out(bytes: usize, word: u64) -> u32
+    requires at_least { 8 ≤ bytes }
+    requires at_most { bytes ≤ 16 }
+    ensures { result ≡ bits_out (8 * bytes) word }
+{
+    lowest_out(bytes - 7, word >> 56)
+        ^ lowest_out(bytes - 6, word >> 48)
+        ^ lowest_out(bytes - 5, word >> 40)
+        ^ lowest_out(bytes - 4, word >> 32)
+        ^ lowest_out(bytes - 3, word >> 24)
+        ^ lowest_out(bytes - 2, word >> 16)
+        ^ lowest_out(bytes - 1, word >> 8)
+        ^ lowest_out(bytes, word)
 }
 
 /// The remainder behind one more byte.
@@ -28,33 +47,55 @@ fn after_eight(state: u32, eight: &[u8]) -> u32
     ensures { result ≡ crc_over state eight.now }
 {
     let word = u64::from(state) ^ LittleEndian::read_u64(eight);
-    lowest_out(8, word)
-        ^ lowest_out(7, word >> 8)
-        ^ lowest_out(6, word >> 16)
-        ^ lowest_out(5, word >> 24)
-        ^ lowest_out(4, word >> 32)
-        ^ lowest_out(3, word >> 40)
-        ^ lowest_out(2, word >> 48)
-        ^ lowest_out(1, word >> 56)
+    word_out(8, word)
+}
+
+/// The remainder behind sixteen bytes.
+fn after_sixteen(state: u32, sixteen: &[u8]) -> u32
+    requires { length sixteen.now ≡ 16 }
+    ensures { result ≡ crc_over state sixteen.now }
+{
+    let (front, back) = sixteen.split_at(8);
+    let first = u64::from(state) ^ LittleEndian::read_u64(front);
+    let second = LittleEndian::read_u64(back);
+    // The second word waits for no step before, so it goes first.
+    word_out(8, second) ^ word_out(16, first)
+}
+
+/// The remainder behind all these bytes, one at a time.
+fn after_each(start: u32, bytes: &[u8]) -> u32
+    ensures { result ≡ crc_over start bytes.now }
+{
+    let mut state = start;
+    'bytes: for byte in bytes {
+        state = after_byte(state, *byte);
+    }
+    state
+}
+
+/// The remainder behind all these bytes, of which the first eight are taken in one step.
+fn after_few(start: u32, bytes: &[u8]) -> u32
+    ensures { result ≡ crc_over start bytes.now }
+{
+    if bytes.len() < 8 {
+        return after_each(start, bytes);
+    }
+    let (eight, behind) = bytes.split_at(8);
+    after_each(after_eight(start, eight), behind)
 }
 
 /// The remainder behind all these bytes.
-#[tactic(auto, using(crate::proofs::Eights::over))]
 fn after_bytes(start: u32, bytes: &[u8]) -> u32
     ensures { result ≡ crc_over start bytes.now }
 {
     let mut state = start;
     let mut rest = bytes;
-    'eights: while rest.len() >= 8 {
-        let (eight, behind) = rest.split_at(8);
-        state = after_eight(state, eight);
+    'sixteens: while rest.len() >= 16 {
+        let (sixteen, behind) = rest.split_at(16);
+        state = after_sixteen(state, sixteen);
         rest = behind;
     }
-    'bytes: while let Some((byte, behind)) = rest.split_first() {
-        state = after_byte(state, *byte);
-        rest = behind;
-    }
-    state
+    after_few(state, rest)
 }
 
 /// The CRC-32C of `bytes` followed by the byte `kind`.
