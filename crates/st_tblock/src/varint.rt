@@ -37,6 +37,10 @@ pub fn get_varint(bytes: &[u8]) -> Option<(u64, usize)>
     ensures some { IfSome result (λ x. 1 ≤ x.1) }
     ensures within { IfSome result (λ x. x.1 ≤ length bytes.now) }
 {
+    let (first, _) = bytes.split_first()?;
+    if *first < 128 {
+        return Some((u64::from(*first), 1));
+    }
     let (number, size) = groups(bytes, 10)?;
     let number = u64::try_from(number).ok()?;
     Some((number, size))
@@ -52,6 +56,10 @@ pub fn get_varint32(bytes: &[u8]) -> Option<(u32, usize)>
     ensures some { IfSome result (λ x. 1 ≤ x.1) }
     ensures within { IfSome result (λ x. x.1 ≤ length bytes.now) }
 {
+    let (first, _) = bytes.split_first()?;
+    if *first < 128 {
+        return Some((u32::from(*first), 1));
+    }
     let (number, size) = groups(bytes, 5)?;
     let number = u32::try_from(number).ok()?;
     Some((number, size))
