@@ -6,7 +6,7 @@ use Rattle.st_tblock.specs.Standing.{Standing}
 use Rattle.st_tblock.specs.Block.{Row, Entry, Walk, next_in, key_of, past, is_had, restarts_in, start}
 use Rattle.st_base.specs.declared.damages.Damage.{Damage}
 use Rattle.std.specs.Borrow.{Bor}
-use Rattle.st_tblock.specs.declared.cursor.Parts.{Parts}
+use Rattle.st_tblock.specs.declared.entry.Parts.{Parts}
 use Rattle.st_tblock.specs.declared.cursor.CursorErr.{CursorErr}
 use Rattle.st_tblock.specs.declared.cursor.CursorErr.TheVariants.{Damaged, NoMemory}
 

@@ -1,32 +1,15 @@
-ghost use Rattle.std.specs.Prelude.{◌≡◌, ◌≤◌, ◌<◌, ◌-◌, ◌*◌, ◌+◌, ◌^◌, ◌++◌, ◌∷◌, [], List, ℕ, length, take, drop, option_map, nat_eq, vec_len, is_none, IfOk, OnOk, OnErr, IsTrue};
+ghost use Rattle.std.specs.Prelude.{◌≡◌, ◌≤◌, ◌<◌, ◌-◌, ◌*◌, ◌+◌, ◌^◌, ◌++◌, ◌∷◌, [], List, ℕ, length, take, drop, option_map, vec_len, is_none, IfOk, OnOk, OnErr, IsTrue};
 ghost use Rattle.std.specs.Vec.{vec_capacity};
-ghost use Rattle.std.specs.List.{common_prefix_len};
 ghost use Rattle.byteorder.specs.Endian.{little_bytes};
 ghost use Rattle.st_tblock.specs.Block.{Row, front_of, is_above, Good};
 ghost use Rattle.st_tblock.specs.Build.{Draft, empty, entry_text, shared_of, added, block_size, places_text, block_text, Holds, IsSound};
 
 use crate::cursor::{front, set_key};
+use crate::prefix::common;
 use crate::varint::put_varint;
 use st_base::NoMemory;
 use std::alloc::Global;
 use std::marker::Model;
-
-/// How many bytes two keys have in common from their front on.
-#[tactic(auto, using(crate::proofs::Shared::commons))]
-fn common(last: &[u8], key: &[u8]) -> usize
-    ensures same { result ≡ common_prefix_len nat_eq last.now key.now }
-    ensures last { result ≤ length last.now }
-    ensures key { result ≤ length key.now }
-{
-    let mut shared = 0;
-    'bytes: while shared < last.len() && shared < key.len() {
-        if last[shared] != key[shared] {
-            return shared;
-        }
-        shared += 1;
-    }
-    shared
-}
 
 /// Puts an entry behind `text`. A refusal may leave a part of it there.
 #[tactic(auto, unfolding(crate::specs::Build::entry_text))]

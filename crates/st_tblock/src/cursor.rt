@@ -1,10 +1,9 @@
 ghost use Rattle.std.specs.Prelude.{◌≡◌, ◌≤◌, ◌<◌, ◌+◌, ◌^◌, ◌++◌, List, ℕ, length, take, Some, Option, IfSome, IfOk, OnOk, OnErr, OnSome, option_map};
 ghost use Rattle.st_tblock.specs.Fault.{fault_of, no};
-ghost use Rattle.st_tblock.specs.Reading.{length_in};
-ghost use Rattle.st_tblock.specs.Block.{Entry, entry_in, numbers_in, next_in, front_of, key_of, is_above};
+ghost use Rattle.st_tblock.specs.Block.{numbers_in, next_in, front_of, key_of, is_above};
 
+use crate::entry::{Parts, entry_at};
 use crate::places::{all_had, behind_entry, restarts_at};
-use crate::varint::get_varint32;
 use st_base::{Damage, NoMemory, Octets};
 use std::alloc::Global;
 use std::marker::Model;
@@ -51,14 +50,6 @@ impl<'a> Model for EntryCursor<'a> {
     ghost invariant = { λ a. a.place + a.at + length a.rest.now < 2 ^ 64 };
 }
 
-/// An entry's parts, where they lie.
-#[derive(Clone, Copy)]
-struct Parts<'a> {
-    shared: usize,
-    fresh: &'a [u8],
-    value: &'a [u8],
-}
-
 /// A yes-or-no check that fails at `place`.
 fn broken(place: u64) -> Damage
     ensures { fault_of result ≡ no place }
@@ -68,41 +59,6 @@ fn broken(place: u64) -> Damage
         found: 0,
         want: 1,
     }
-}
-
-/// The varint32 at the front, and the bytes behind it.
-fn length_at(bytes: &[u8]) -> Option<(u32, &[u8])>
-    ensures shorter { IfSome result (λ x. length x.1.now < length bytes.now) }
-    ensures value { option_map (λ x. (x.0, x.1.now)) result ≡ length_in bytes.now }
-{
-    let (number, size) = get_varint32(bytes)?;
-    Some((number, bytes.split_at(size).1))
-}
-
-/// The entry at the front, behind a key of `last` bytes, and the bytes behind it.
-#[tactic(auto, unfolding(crate::specs::Block::entry_in))]
-fn entry_at(last: usize, bytes: &[u8]) -> Option<(Parts<'_>, &[u8])>
-    ensures shared { IfSome result (λ x. x.0.shared ≤ last) }
-    ensures shorter { IfSome result (λ x. length x.1.now < length bytes.now) }
-    ensures value { option_map (λ x. (record { shared = x.0.shared; fresh = x.0.fresh.now; value = x.0.value.now }, x.1.now)) result ≡ entry_in last bytes.now }
-{
-    let (shared, more) = length_at(bytes)?;
-    let (fresh, more) = length_at(more)?;
-    let (value, more) = length_at(more)?;
-    let (shared, fresh, value) = (shared as usize, fresh as usize, value as usize);
-    if last < shared || more.len() < fresh + value {
-        return None;
-    }
-    let (fresh, more) = more.split_at(fresh);
-    let (value, rest) = more.split_at(value);
-    Some((
-        Parts {
-            shared,
-            fresh,
-            value,
-        },
-        rest,
-    ))
 }
 
 /// The last key, or no bytes.

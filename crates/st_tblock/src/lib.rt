@@ -23,14 +23,16 @@
 //! # Where to read
 //!
 //! `specs/Block.antt` says what a block is, `specs/Cursor.antt` what a cursor gives,
-//! `specs/Build.antt` what a draft is and holds. Then `varint`, `handle`, `places`, `cursor` and
-//! `builder`.
+//! `specs/Build.antt` what a draft is and holds. Then `varint`, `handle`, `places`, `entry`,
+//! `cursor`, `prefix` and `builder`.
 #![tactic(auto)]
 
 mod builder;
 mod cursor;
+mod entry;
 mod handle;
 mod places;
+mod prefix;
 #[cfg(test)]
 mod tests;
 mod varint;

@@ -1,7 +1,7 @@
 use Rattle.std.proofs.Common.{◌≡◌, ◌≤◌, ◌+◌, ◌-◌, length, drop}
 use Rattle.std.specs.Prelude.{nat_eq}
 use Rattle.std.specs.List.{common_prefix_len}
-use Rattle.st_tblock.proofs.builder.common.Given as goal
+use Rattle.st_tblock.proofs.prefix.common.Given as goal
 
 abbrev pub decreases-bytes : goal.decreases-bytes
 decreases-bytes l = length l.last - l.shared
