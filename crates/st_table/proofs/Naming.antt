@@ -6,7 +6,8 @@ use Rattle.std.proofs.lemmas.List.Elements.{All-nil, All-cons, All-head, All-tai
 use Rattle.st_tblock.specs.Block.{Row, is_above, is_before}
 use Rattle.st_tblock.specs.declared.handle.Handle.{Handle}
 use Rattle.st_table.specs.Table.{Stored, Blocks, is_at_most}
-use Rattle.st_table.specs.Lookup.{lookup, find, in_range}
+use Rattle.st_tblock.specs.Lookup.{lookup}
+use Rattle.st_table.specs.Lookup.{find, in_range}
 use Rattle.st_table.specs.ReadingTable.{Rises, last_key, Named}
 use Rattle.st_table.specs.ReadingRange.{Pending, Goes, Steps, IsSound, GivesNamed}
 use Rattle.st_table.specs.declared.errors.TableErr.{TableErr}

@@ -10,7 +10,8 @@ use Rattle.st_tblock.specs.Handles.{IsHandle}
 use Rattle.st_tblock.specs.declared.handle.Handle.{Handle}
 use Rattle.st_tblock.proofs.Following.{no_next, front_of_good, one_reading}
 use Rattle.st_table.specs.Table.{Stored, Blocks, IsTable, is_at_most}
-use Rattle.st_table.specs.Lookup.{lookup, find}
+use Rattle.st_tblock.specs.Lookup.{lookup}
+use Rattle.st_table.specs.Lookup.{find}
 use Rattle.st_table.specs.Errors.{Refusal, refusal_of, IsOutside}
 use Rattle.st_table.specs.ReadingRows.{Fails, entry_wrong, row_wrong, row_of, lies_in}
 use Rattle.st_table.specs.ReadingIndex.{Entered, RefusesStored, RefusesTable, holds_handle, footer_wrong, moved}

@@ -3,11 +3,6 @@ use Rattle.std.specs.Prelude.{ℕ, List, [], ◌∷◌, Option, Some, None, ◌&
 use Rattle.st_tblock.specs.Block.{Row, is_before}
 use Rattle.st_table.specs.Table.{is_at_most}
 
--- the value of this key among these rows, or none
-abbrev pub lookup : List ℕ → List Row → Option (List ℕ)
-lookup key [] = None
-lookup key (r ∷ rows) = if is_before r.0 key then lookup key rows else if is_before key r.0 then None else Some r.1
-
 -- the rows whose keys lie from one key to another, both included
 abbrev pub in_range : List ℕ → List ℕ → List Row → List Row
 in_range low high [] = []

@@ -8,7 +8,7 @@ use Rattle.st_tblock.specs.Standing.{Standing}
 use Rattle.st_tblock.specs.Block.{Row, Entry, Walk, Rows, Good, next_in, key_of, past, start, restarts_in, is_before, is_above, is_had}
 use Rattle.st_tblock.specs.Cursor.{fault_at}
 use Rattle.st_table.specs.Table.{is_at_most}
-use Rattle.st_table.specs.Lookup.{lookup}
+use Rattle.st_tblock.specs.Lookup.{lookup}
 use Rattle.st_table.specs.Errors.{Broken, refusal_of, IsOutside}
 use Rattle.st_table.specs.declared.errors.TableErr.{TableErr}
 

@@ -4,7 +4,8 @@ use Rattle.st_tblock.specs.Block.{Row, is_above}
 use Rattle.st_tblock.specs.Handles.{IsHandle}
 use Rattle.st_tblock.specs.declared.handle.Handle.{Handle}
 use Rattle.st_table.specs.Table.{Stored, Between}
-use Rattle.st_table.specs.Lookup.{lookup, find}
+use Rattle.st_tblock.specs.Lookup.{lookup}
+use Rattle.st_table.specs.Lookup.{find}
 use Rattle.st_table.specs.Errors.{IsOutside}
 use Rattle.st_table.specs.ReadingRows.{Around, lies_in}
 use Rattle.st_table.specs.ReadingIndex.{RefusesStored}

@@ -3,6 +3,7 @@ pub mod Fault
 pub mod Reading
 pub mod Handles
 pub mod Block
+pub mod Lookup
 pub mod Standing
 pub mod Cursor
 pub mod Build
