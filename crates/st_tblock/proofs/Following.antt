@@ -4,7 +4,7 @@ use Rattle.st_tblock.specs.Reading.{Read}
 use Rattle.st_tblock.specs.Block.{Row, Entry, Walk, Rows, entry_in, next_in, rising, front_of, key_of, past, start, restarts_in, Good}
 
 -- no bytes are no entry
-none_in : (last : ℕ) → entry_in last [] ≡ None
+pub none_in : (last : ℕ) → entry_in last [] ≡ None
 unfolding entry_in
 none_in last = refl
 

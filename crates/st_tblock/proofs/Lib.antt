@@ -9,3 +9,7 @@ pub mod Longer
 pub mod Adding
 pub mod Finishing
 pub mod Following
+mod Matching
+mod Behind
+mod Passing
+mod Restarting

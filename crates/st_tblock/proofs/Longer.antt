@@ -50,7 +50,7 @@ below_some limit (Some y) x e = elim (chosen (nat_lt y.0 limit) (Some y) None (S
 ]
 
 -- a varint32 is read whatever follows
-varint32_front : (bytes ys : List ℕ) (x : Found) → varint32_in bytes ≡ Some x → (varint32_in (bytes ++ ys) ≡ Some x) × (1 ≤ x.1) × (x.1 ≤ length bytes)
+pub varint32_front : (bytes ys : List ℕ) (x : Found) → varint32_in bytes ≡ Some x → (varint32_in (bytes ++ ys) ≡ Some x) × (1 ≤ x.1) × (x.1 ≤ length bytes)
 varint32_front bytes ys x e =
     let found = below_some (2 ^ 32) (groups_in 5 bytes) x e in
     let front = groups_front 5 bytes ys x found in
@@ -58,7 +58,7 @@ varint32_front bytes ys x e =
     (ap (below (2 ^ 32)) same ∙ e, front.1, front.2)
 
 -- a number that was found, and the bytes behind it
-past_some : (bytes : List ℕ) (o : Option Found) (x : ℕ × List ℕ) → past_number bytes o ≡ Some x → (y : Found) × (o ≡ Some y) × (y.0 ≡ x.0) × (drop y.1 bytes ≡ x.1)
+pub past_some : (bytes : List ℕ) (o : Option Found) (x : ℕ × List ℕ) → past_number bytes o ≡ Some x → (y : Found) × (o ≡ Some y) × (y.0 ≡ x.0) × (drop y.1 bytes ≡ x.1)
 past_some bytes None x e = cc
 past_some bytes (Some y) x e = let same : ◌≡◌ {A = Read ℕ} (Some (y.0, drop y.1 bytes)) (Some x) = e in (y, refl, cc, cc)
 

@@ -4,6 +4,7 @@ pub mod Reading
 pub mod Handles
 pub mod Block
 pub mod Lookup
+pub mod Search
 pub mod Standing
 pub mod Cursor
 pub mod Build

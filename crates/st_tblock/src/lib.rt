@@ -14,6 +14,8 @@
 //!   `EntryBlock::finish`), its bytes are LevelDB's, and a refused call leaves it unchanged.
 //! - A cursor gives the entries of a block in order, and `Damaged` exactly where a check fails
 //!   there, with its place (`EntryCursor::new`, `EntryCursor::step`, `EntryCursor::next`).
+//! - In a block that was read to its end the value of a key is found by the restarts, without memory
+//!   (`find`).
 //! - The sum of a block and its type byte is CRC-32C, and is stored masked (`crc32c`, `mask`).
 //!
 //! # What it leaves to others
@@ -23,8 +25,8 @@
 //! # Where to read
 //!
 //! `specs/Block.antt` says what a block is, `specs/Cursor.antt` what a cursor gives,
-//! `specs/Build.antt` what a draft is and holds. Then `varint`, `handle`, `places`, `entry`,
-//! `cursor`, `prefix` and `builder`.
+//! `specs/Lookup.antt` what a lookup is, `specs/Build.antt` what a draft is and holds. Then `varint`,
+//! `handle`, `places`, `entry`, `cursor`, `prefix`, `search` and `builder`.
 #![tactic(auto)]
 
 mod builder;
@@ -33,6 +35,7 @@ mod entry;
 mod handle;
 mod places;
 mod prefix;
+mod search;
 #[cfg(test)]
 mod tests;
 mod varint;
@@ -40,5 +43,6 @@ mod varint;
 pub use builder::EntryBlock;
 pub use cursor::{CursorErr, EntryCursor};
 pub use handle::{Handle, footer, get_handle, put_handle, read_footer};
+pub use search::find;
 pub use st_crc::{crc32c, mask};
 pub use varint::{get_varint, get_varint32, put_varint};

@@ -2,6 +2,7 @@
 
 ghost use Rattle.std.specs.Prelude.{◌≡◌, ◌≤◌, ◌<◌, ◌-◌, ◌*◌, ◌+◌, List, ℕ, length, IfSome, Some, option_map, IsTrue};
 ghost use Rattle.st_tblock.specs.Block.{numbers_in, rises_from, begins, restarts_in, split_in, left_behind, is_had};
+ghost use Rattle.st_tblock.specs.Search.{IsAmong};
 
 use byteorder::{ByteOrder, LittleEndian};
 
@@ -57,6 +58,14 @@ pub fn restarts_at(bytes: &[u8]) -> Option<(&[u8], &[u8])>
     } else {
         None
     }
+}
+
+/// The restart of this number, from 0 on.
+pub fn place_at(places: &[u8], number: usize) -> usize
+    requires { 4 * number + 4 ≤ length places.now }
+    ensures { IsAmong result (numbers_in places.now) }
+{
+    LittleEndian::read_u32(places.split_at(4 * number).1) as usize
 }
 
 /// The restarts that no entry had yet, behind an entry at the offset `at` that shares `shared`

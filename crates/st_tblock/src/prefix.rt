@@ -1,7 +1,10 @@
-//! What two keys have in common at their fronts.
+//! What two keys have in common at their fronts, and how they stand to each other behind it.
 
 ghost use Rattle.std.specs.Prelude.{◌≡◌, ◌≤◌, length, nat_eq};
 ghost use Rattle.std.specs.List.{common_prefix_len};
+ghost use Rattle.st_tblock.specs.Search.{Compares};
+
+use std::cmp::Ordering;
 
 /// How many bytes two keys have in common from their front on.
 #[tactic(auto, using(crate::proofs::Shared::commons))]
@@ -18,4 +21,22 @@ pub fn common(last: &[u8], key: &[u8]) -> usize
         shared += 1;
     }
     shared
+}
+
+/// How the key of an entry, `fresh` behind the first `shared` bytes of the key before it, stands to
+/// `key`, and how many bytes the two have in common from their front on.
+///
+/// The key before it must be before `key`, and have `matched` bytes in common with it.
+pub fn against(matched: usize, shared: usize, fresh: &[u8], key: &[u8]) -> (Ordering, usize)
+    requires { matched ≤ length key.now }
+    ensures compares { Compares key.now matched shared fresh.now result }
+    ensures within { result.1 ≤ length key.now }
+{
+    if matched < shared {
+        return (Ordering::Less, matched);
+    }
+    let wanted = key.split_at(shared).1;
+    let same = common(fresh, wanted);
+    let order = fresh.split_at(same).1.cmp(wanted.split_at(same).1);
+    (order, shared + same)
 }

@@ -79,6 +79,60 @@ fn a_block_is_read_as_the_format_has_it(rt: HostRuntime) -> Result<(), Fail> {
     Ok(())
 }
 
+#[test]
+fn a_key_is_found_in_a_block(rt: HostRuntime) -> Result<(), Fail> {
+    for (key, value) in ROWS {
+        assert_eq!(rt; find(BLOCK, key), Some(value));
+    }
+    // Before the first row, between two, behind the last; fronts of keys, and keys that go on.
+    let others: [&[u8]; 10] = [
+        b"",
+        b"\x00\x00",
+        b"\x01",
+        b"\x01\x12",
+        b"\x02\x00\x36",
+        b"\x03",
+        b"\x04\x0a\x00\x00",
+        b"\x04\x0a\x00\x00\x01\x00",
+        b"\x07\x3b\x9a\xca\x00\x00",
+        b"\xff",
+    ];
+    for key in others {
+        assert_eq!(rt; find(BLOCK, key), None);
+    }
+    Ok(())
+}
+
+#[test]
+fn a_key_is_found_behind_any_restart(rt: HostRuntime) -> Result<(), Fail> {
+    let mut block = EntryBlock::new(rt.alloc(), 4)?;
+    for number in 0..40u8 {
+        let key = [number / 16, 7, number % 16 * 2];
+        assert!(rt; block.takes(&key) && block.size() < 4096);
+        block.add(&key, &[number])?;
+    }
+    let bytes = block.finish()?;
+    for number in 0..40u8 {
+        let (high, low) = (number / 16, number % 16 * 2);
+        assert_eq!(rt; find(bytes, &[high, 7, low]), Some([number].as_slice()));
+        assert_eq!(rt; find(bytes, &[high, 7, low + 1]), None);
+        assert_eq!(rt; find(bytes, &[high, 7]), None);
+        assert_eq!(rt; find(bytes, &[high, 8]), None);
+    }
+    Ok(())
+}
+
+/// The second key shares one byte by its entry, though it has two in common with the first.
+#[test]
+fn a_key_is_found_where_less_is_shared_than_could_be(rt: HostRuntime) -> Result<(), Fail> {
+    let bytes = b"\x00\x03\x01abcX\x01\x02\x01bdY\x00\x00\x00\x00\x01\x00\x00\x00";
+    assert_eq!(rt; find(bytes, b"abc"), Some(b"X".as_slice()));
+    assert_eq!(rt; find(bytes, b"abd"), Some(b"Y".as_slice()));
+    assert_eq!(rt; find(bytes, b"abcd"), None);
+    assert_eq!(rt; find(b"", b"abc"), None);
+    Ok(())
+}
+
 /// Each block breaks one check; the place is in a file where it stands at 100.
 #[test]
 fn a_block_that_breaks_a_check_is_damaged(rt: HostRuntime) -> Result<(), Fail> {

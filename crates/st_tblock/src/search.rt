@@ -1,0 +1,88 @@
+//! Looking a key up in a block that is good.
+
+ghost use Rattle.std.specs.Prelude.{◌≡◌, ◌≤◌, List, length, option_map, IsTrue};
+ghost use Rattle.st_tblock.specs.Block.{Row, Good, numbers_in};
+ghost use Rattle.st_tblock.specs.Lookup.{lookup};
+ghost use Rattle.st_tblock.specs.Search.{IsReached, MayBegin, AnswersFrom};
+
+use crate::entry::entry_at;
+use crate::places::{place_at, restarts_at};
+use crate::prefix::against;
+use std::cmp::Ordering;
+
+/// As many bytes as any entry may share, since its lengths are varint32.
+const ANY: usize = 0xffff_ffff;
+
+/// Whether an entry that shares nothing stands at the offset `place`, with a key that isn't behind
+/// `key`.
+fn is_reached(text: &[u8], key: &[u8], place: usize) -> bool
+    ensures { IsTrue result → IsReached text.now key.now place }
+{
+    if text.len() < place {
+        return false;
+    }
+    match entry_at(0, text.split_at(place).1) {
+        Some((parts, _)) => !key.cmp(parts.fresh).is_lt(),
+        None => false,
+    }
+}
+
+/// The offset of the last restart whose key isn't behind `key`, or of the text's front.
+fn restart_before(text: &[u8], places: &[u8], key: &[u8]) -> usize
+    ensures begins { MayBegin text.now (numbers_in places.now) key.now result }
+    ensures within { result ≤ length text.now }
+{
+    let mut best = 0;
+    let mut low = 0;
+    let mut high = places.len() / 4;
+    'halves: while low < high {
+        let middle = low + (high - low) / 2;
+        let place = place_at(places, middle);
+        if is_reached(text, key, place) {
+            best = place;
+            low = middle + 1;
+        } else {
+            high = middle;
+        }
+    }
+    best
+}
+
+/// The value of `key` among the entries of `text`, the first of which shares nothing, or `None`.
+///
+/// Keys before `key` are passed over by how many bytes the last of them has in common with it: an
+/// entry that shares more is before `key` too, since it parts from it at the same byte.
+fn scan<'a>(text: &'a [u8], key: &[u8]) -> Option<&'a [u8]>
+    ensures { AnswersFrom text.now key.now (option_map (λ v. v.now) result) }
+{
+    let mut rest = text;
+    let mut matched = 0;
+    'entries: loop {
+        let Some((parts, more)) = entry_at(ANY, rest) else {
+            return None;
+        };
+        let (order, same) = against(matched, parts.shared, parts.fresh, key);
+        match order {
+            Ordering::Less => {}
+            Ordering::Equal => return Some(parts.value),
+            Ordering::Greater => return None,
+        }
+        rest = more;
+        matched = same;
+    }
+}
+
+/// The value of `key` among the rows of the block `bytes`, where it lies in the block, or `None`
+/// where there is no such row. It takes no memory.
+///
+/// The block must have been walked to its end before: over a block that fails a check the answer
+/// says nothing. It looks behind the last restart whose key isn't behind `key`, and no further than
+/// `key`.
+/// Source: LevelDB, table/block.cc; docs/FORMAT.md, "Table file".
+pub fn find<'a>(bytes: &'a [u8], key: &[u8]) -> Option<&'a [u8]>
+    ensures { (rows : List Row) → Good bytes.now rows → option_map (λ v. v.now) result ≡ lookup key.now rows }
+{
+    let (text, places) = restarts_at(bytes)?;
+    let from = restart_before(text, places, key);
+    scan(text.split_at(from).1, key)
+}
