@@ -5,7 +5,7 @@ use Rattle.std.proofs.lemmas.List.Elements.{All-head, All-tail}
 use Rattle.std.proofs.lemmas.Bool.Decides.{nat_tests}
 use Rattle.byteorder.specs.Endian.{little_bytes, little_number}
 use Rattle.byteorder.specs.Numbers.{little_number-reads_back}
-use Rattle.st_tblock.specs.Block.{Row, Good, numbers_in, begins, split_in, begun, restarts_in, is_had}
+use Rattle.st_tblock.specs.Block.{Row, Good, numbers_in, begins, split_in, begun, halves_in, restarts_in, is_had}
 use Rattle.st_tblock.specs.Build.{Draft, IsSound, Holds, places_text, block_text, block_size}
 use Rattle.st_tblock.proofs.Fronts.{drop_front, take_front}
 
@@ -37,7 +37,7 @@ block_text_size d =
 
 -- the restarts behind a text are read from the block
 restarts_again : (text : List ℕ) (places : List ℕ) → IsTrue (begins places) → All (λ n. n < 2 ^ 32) places → 4 * length places ≤ 2 ^ 32 → restarts_in (text ++ places_text places ++ little_bytes 4 (length places)) ≡ Some (text, places)
-unfolding restarts_in
+unfolding restarts_in halves_in
 restarts_again text places b a l =
     let pt = places_text places in
     let count = little_bytes 4 (length places) in
@@ -57,7 +57,7 @@ restarts_again text places b a l =
     let split : split_in (length places) body ≡ Some (text, pt) =
     rw (fits) (let r : ◌≡◌ {A = Option (List ℕ × List ℕ)} (Some (take (length body - 4 * length places) body, drop (length body - 4 * length places) body)) (Some (text, pt)) = cc in r) in
     let again = numbers_again places a in
-    ap (λ (c : Bool). if c then None else begun (split_in (little_number 4 (drop (length bytes - 4) bytes)) (take (length bytes - 4) bytes))) room
+    ap (λ (c : Bool). begun (if c then None else split_in (little_number 4 (drop (length bytes - 4) bytes)) (take (length bytes - 4) bytes))) room
     ∙ ap (λ (xs : List ℕ). begun (split_in (little_number 4 xs) (take (length bytes - 4) bytes))) back
     ∙ ap (λ (xs : List ℕ). begun (split_in (little_number 4 count) xs)) front
     ∙ ap (λ (n : ℕ). begun (split_in n body)) number

@@ -5,13 +5,12 @@ use Rattle.std.proofs.lemmas.List.{drop-drop}
 use Rattle.std.proofs.lemmas.Bool.Decides.{nat_tests}
 use Rattle.byteorder.specs.Endian.{little_number}
 use Rattle.st_tblock.specs.Reading.{Read}
-use Rattle.st_tblock.specs.Block.{Row, Entry, Walk, Rows, entry_in, next_in, rising, front_of, key_of, is_before, is_above, past, left_behind, is_had, numbers_in, restarts_in, start, Good}
+use Rattle.st_tblock.specs.Block.{Row, Entry, Walk, Rows, entry_in, next_in, rising, front_of, key_of, is_before, is_above, past, left_behind, is_had, numbers_in, begins, begun, halves_in, restarts_in, start, Good}
 use Rattle.st_tblock.specs.Lookup.{lookup}
 use Rattle.st_tblock.specs.Search.{IsAmong, IsReached, MayBegin, AnswersFrom, walk_of}
 use Rattle.st_tblock.proofs.Restarts.{numbers_more}
 use Rattle.st_tblock.proofs.Keys.{above_trans, above_reached}
-use Rattle.st_tblock.proofs.Longer.{rising_some}
-use Rattle.st_tblock.proofs.Following.{parts_same}
+use Rattle.st_tblock.proofs.Longer.{chosen, rising_some}
 use Rattle.st_tblock.proofs.Behind.{spelled_next, rest_at}
 
 -- the number at a place is one of the numbers
@@ -127,11 +126,31 @@ found_first : (text places key : List ℕ) (offset : ℕ) (rows : List Row) (end
 found_first text places key offset rows end answer z h a e =
     subst (λ (m : ℕ). AnswersFrom (drop m text) key answer) z a 0 places rows end h e
 
+-- the halves of a good block are its text and its restarts
+halves_good : (bytes text half t p : List ℕ) → halves_in bytes ≡ Some (text, half) → restarts_in bytes ≡ Some (t, p) → (t ≡ text) × (p ≡ numbers_in half)
+unfolding restarts_in
+halves_good bytes text half t p h r =
+    let all : begun (Some (text, half)) ≡ Some (t, p) = sym (ap begun h) ∙ r in
+    elim (chosen (begins (numbers_in half)) (Some (text, numbers_in half)) None (Some (t, p)) all) [
+      | inl y ↦
+          let both : ◌≡◌ {A = Option (List ℕ × List ℕ)} (Some (text, numbers_in half)) (Some (t, p)) = y.1 in
+          let inner : ◌≡◌ {A = List ℕ × List ℕ} (text, numbers_in half) (t, p) = cc in
+          (sym (ap (λ (x : List ℕ × List ℕ). x.0) inner), sym (ap (λ (x : List ℕ × List ℕ). x.1) inner))
+      | inr n ↦ absurd (let impossible : ◌≡◌ {A = Option (List ℕ × List ℕ)} None (Some (t, p)) = n.1 in cc)
+    ]
+
+-- bytes without these are no good block
+pub no_halves : (bytes key : List ℕ) → halves_in bytes ≡ None → (rows : List Row) → Good bytes rows → None ≡ lookup key rows
+unfolding restarts_in
+no_halves bytes key e rows g =
+    absurd (let none : restarts_in bytes ≡ None = ap begun e in let impossible : ◌≡◌ {A = Option (List ℕ × List ℕ)} None (Some (g.text, g.places)) = sym none ∙ g.restarts in cc)
+
 -- where a lookup may begin, it finds what the block has
-pub found_in_good : (bytes text places key : List ℕ) (offset : ℕ) (answer : Option (List ℕ)) → restarts_in bytes ≡ Some (text, places) → MayBegin text places key offset → AnswersFrom (drop offset text) key answer → (rows : List Row) → Good bytes rows → answer ≡ lookup key rows
-found_in_good bytes text places key offset answer e m a rows g =
-    let same = parts_same bytes text g.text places g.places e g.restarts in
-    let from : start g.text g.places ≡ start text places = λ i. start (sym same.0 i) (sym same.1 i) in
+pub found_in_good : (bytes text half key : List ℕ) (offset : ℕ) (answer : Option (List ℕ)) → halves_in bytes ≡ Some (text, half) → MayBegin text (numbers_in half) key offset → AnswersFrom (drop offset text) key answer → (rows : List Row) → Good bytes rows → answer ≡ lookup key rows
+found_in_good bytes text half key offset answer e m a rows g =
+    let places = numbers_in half in
+    let same = halves_good bytes text half g.text g.places e g.restarts in
+    let from : start g.text g.places ≡ start text places = λ i. start (same.0 i) (same.1 i) in
     let entries = subst (λ (u : Walk). Rows u rows g.end) from g.entries in
     elim m [
       | inl z ↦ found_first text places key offset rows g.end answer z entries a g.whole

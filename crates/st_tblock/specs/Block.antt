@@ -112,10 +112,14 @@ abbrev pub begun : Option (List ℕ × List ℕ) → Option (List ℕ × List �
 begun None = None
 begun (Some x) = if begins (numbers_in x.1) then Some (x.0, numbers_in x.1) else None
 
+-- a block's text and the bytes of its restarts, where these fit
+unfoldable pub halves_in : List ℕ → Option (List ℕ × List ℕ)
+halves_in bytes =
+    if nat_lt (length bytes) 4 then None else split_in (little_number 4 (drop (length bytes - 4) bytes)) (take (length bytes - 4) bytes)
+
 -- a block's text and its restarts, where these fit, begin with 0 and rise
 unfoldable pub restarts_in : List ℕ → Option (List ℕ × List ℕ)
-restarts_in bytes =
-    if nat_lt (length bytes) 4 then None else begun (split_in (little_number 4 (drop (length bytes - 4) bytes)) (take (length bytes - 4) bytes))
+restarts_in bytes = begun (halves_in bytes)
 
 -- the walk before the first entry
 abbrev pub start : List ℕ → List ℕ → Walk

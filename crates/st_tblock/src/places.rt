@@ -1,7 +1,7 @@
 //! The restarts of a block.
 
 ghost use Rattle.std.specs.Prelude.{◌≡◌, ◌≤◌, ◌<◌, ◌-◌, ◌*◌, ◌+◌, List, ℕ, length, IfSome, Some, option_map, IsTrue};
-ghost use Rattle.st_tblock.specs.Block.{numbers_in, rises_from, begins, restarts_in, split_in, left_behind, is_had};
+ghost use Rattle.st_tblock.specs.Block.{numbers_in, rises_from, begins, halves_in, restarts_in, split_in, left_behind, is_had};
 ghost use Rattle.st_tblock.specs.Search.{IsAmong};
 
 use byteorder::{ByteOrder, LittleEndian};
@@ -37,11 +37,10 @@ fn do_begin(places: &[u8]) -> bool
     LittleEndian::read_u32(first) == 0 && do_rise(0, more)
 }
 
-/// The entries of a block and its restarts, of four bytes each, where these fit, begin with 0 and
-/// rise.
-#[tactic(auto, unfolding(crate::specs::Block::restarts_in))]
-pub fn restarts_at(bytes: &[u8]) -> Option<(&[u8], &[u8])>
-    ensures value { option_map (λ x. (x.0.now, numbers_in x.1.now)) result ≡ restarts_in bytes.now }
+/// The entries of a block and its restarts, of four bytes each, where these fit.
+#[tactic(auto, unfolding(crate::specs::Block::halves_in))]
+pub fn halves_at(bytes: &[u8]) -> Option<(&[u8], &[u8])>
+    ensures value { option_map (λ x. (x.0.now, x.1.now)) result ≡ halves_in bytes.now }
     ensures within { IfSome result (λ x. length x.0.now ≤ length bytes.now) }
 {
     if bytes.len() < 4 {
@@ -52,7 +51,16 @@ pub fn restarts_at(bytes: &[u8]) -> Option<(&[u8], &[u8])>
     if body.len() < 4 * count {
         return None;
     }
-    let (text, places) = body.split_at(body.len() - 4 * count);
+    Some(body.split_at(body.len() - 4 * count))
+}
+
+/// The same, where the restarts begin with 0 and rise.
+#[tactic(auto, unfolding(crate::specs::Block::restarts_in))]
+pub fn restarts_at(bytes: &[u8]) -> Option<(&[u8], &[u8])>
+    ensures value { option_map (λ x. (x.0.now, numbers_in x.1.now)) result ≡ restarts_in bytes.now }
+    ensures within { IfSome result (λ x. length x.0.now ≤ length bytes.now) }
+{
+    let (text, places) = halves_at(bytes)?;
     if do_begin(places) {
         Some((text, places))
     } else {

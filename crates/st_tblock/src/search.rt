@@ -6,7 +6,7 @@ ghost use Rattle.st_tblock.specs.Lookup.{lookup};
 ghost use Rattle.st_tblock.specs.Search.{IsReached, MayBegin, AnswersFrom};
 
 use crate::entry::entry_at;
-use crate::places::{place_at, restarts_at};
+use crate::places::{halves_at, place_at};
 use crate::prefix::against;
 use std::cmp::Ordering;
 
@@ -82,7 +82,9 @@ fn scan<'a>(text: &'a [u8], key: &[u8]) -> Option<&'a [u8]>
 pub fn find<'a>(bytes: &'a [u8], key: &[u8]) -> Option<&'a [u8]>
     ensures { (rows : List Row) → Good bytes.now rows → option_map (λ v. v.now) result ≡ lookup key.now rows }
 {
-    let (text, places) = restarts_at(bytes)?;
+    let Some((text, places)) = halves_at(bytes) else {
+        return None;
+    };
     let from = restart_before(text, places, key);
     scan(text.split_at(from).1, key)
 }
