@@ -187,6 +187,7 @@ fn a_block_that_breaks_a_check_is_damaged(rt: HostRuntime) -> Result<(), Fail> {
 fn handles_and_footers_go_both_ways(rt: HostRuntime) -> Result<(), Fail> {
     assert_eq!(rt; put_varint(300).as_slice(), [0xac, 2].as_slice());
     assert_eq!(rt; get_varint(b"\xac\x02\x07"), Some((300, 2)));
+    assert_eq!(rt; get_varint32(b"\xff\x7f\x80"), Some((16_383, 2)));
     assert_eq!(rt; get_varint32(b"\x80\x80\x80\x80\x80\x00"), None);
     assert_eq!(rt;
         get_varint(b"\xff\xff\xff\xff\xff\xff\xff\xff\xff\x02"),

@@ -26,6 +26,20 @@ fn groups(bytes: &[u8], room: u32) -> Option<(u128, usize)>
     Some((u128::from(*first - 128) + 128 * high, size + 1))
 }
 
+/// The number in two groups at the front, where no more come.
+fn pair(bytes: &[u8]) -> Option<u16>
+    ensures value { IfSome result (λ n. (room : ℕ) → 2 ≤ room → groups_in room bytes.now ≡ Some (n, 2)) }
+    ensures within { IfSome result (λ n. 2 ≤ length bytes.now) }
+{
+    let [first, second, ..] = bytes else {
+        return None;
+    };
+    if *first < 128 || *second >= 128 {
+        return None;
+    }
+    Some(u16::from(*first - 128) + 128 * u16::from(*second))
+}
+
 /// The varint64 at the front of `bytes`: the number, below 2^64, and how many bytes it takes, 1
 /// to 10.
 ///
@@ -40,6 +54,9 @@ pub fn get_varint(bytes: &[u8]) -> Option<(u64, usize)>
     let (first, _) = bytes.split_first()?;
     if *first < 128 {
         return Some((u64::from(*first), 1));
+    }
+    if let Some(number) = pair(bytes) {
+        return Some((u64::from(number), 2));
     }
     let (number, size) = groups(bytes, 10)?;
     let number = u64::try_from(number).ok()?;
@@ -59,6 +76,9 @@ pub fn get_varint32(bytes: &[u8]) -> Option<(u32, usize)>
     let (first, _) = bytes.split_first()?;
     if *first < 128 {
         return Some((u32::from(*first), 1));
+    }
+    if let Some(number) = pair(bytes) {
+        return Some((u32::from(number), 2));
     }
     let (number, size) = groups(bytes, 5)?;
     let number = u32::try_from(number).ok()?;
