@@ -14,7 +14,7 @@
 //!   `EntryBlock::finish`), its bytes are LevelDB's, and a refused call leaves it unchanged.
 //! - A cursor gives the entries of a block in order, and `Damaged` exactly where a check fails
 //!   there, with its place (`EntryCursor::new`, `EntryCursor::step`, `EntryCursor::next`).
-//! - In a block that was read to its end the value of a key is found by the restarts, without memory
+//! - Over a good block the value of a key, or none, is found by the restarts, without memory
 //!   (`find`).
 //! - The sum of a block and its type byte is CRC-32C, and is stored masked (`crc32c`, `mask`).
 //!
@@ -25,8 +25,8 @@
 //! # Where to read
 //!
 //! `specs/Block.antt` says what a block is, `specs/Cursor.antt` what a cursor gives,
-//! `specs/Lookup.antt` what a lookup is, `specs/Build.antt` what a draft is and holds. Then `varint`,
-//! `handle`, `places`, `entry`, `cursor`, `prefix`, `search` and `builder`.
+//! `specs/Lookup.antt` what a lookup is, `specs/Build.antt` what a draft is and holds. Then
+//! `varint`, `handle`, `places`, `entry`, `cursor`, `prefix`, `search` and `builder`.
 #![tactic(auto)]
 
 mod builder;

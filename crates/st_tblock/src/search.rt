@@ -27,7 +27,8 @@ fn is_reached(text: &[u8], key: &[u8], place: usize) -> bool
     }
 }
 
-/// The offset of the last restart whose key isn't behind `key`, or of the text's front.
+/// The offset of a restart whose key isn't behind `key`, the last one where the restarts' keys
+/// rise, or of the text's front.
 fn restart_before(text: &[u8], places: &[u8], key: &[u8]) -> usize
     ensures begins { MayBegin text.now (numbers_in places.now) key.now result }
     ensures within { result ≤ length text.now }
