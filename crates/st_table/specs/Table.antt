@@ -1,6 +1,7 @@
 -- A table file: LevelDB's doc/table_format.md.
--- Data blocks, a metaindex block, an index block and the footer; behind each block stand its type
--- byte and its masked sum.
+-- The footer stands at the file's end and names two blocks by their handles: the index block, whose
+-- entries name the data blocks in their order, and a metaindex block. The five bytes behind a block
+-- are its type and its masked sum.
 use Rattle.std.specs.Prelude.{◌≡◌, ℕ, ◌+◌, ◌-◌, ◌≤◌, List, [], ◌∷◌, ◌++◌, length, take, drop, All, Option, Some, None, Bool, not, Ok, IsTrue}
 use Rattle.byteorder.specs.Endian.{little_number}
 use Rattle.st_crc.specs.Sum.{crc_of, masked}

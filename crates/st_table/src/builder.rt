@@ -208,9 +208,9 @@ impl TableBuilder {
         }
     }
 
-    /// Whether the row may be added: its key is above the last one and has at most 64 bytes, its
-    /// value is shorter than 2^32 bytes, and the bytes of all rows, this one included, with 32 for
-    /// each come to less than 2^37.
+    /// Whether the row may come next. Its key rises above the one before it and has 64 bytes or
+    /// fewer; its value has fewer than 2^32; and the rows with this one, at their bytes and 32 more
+    /// each, come to less than 2^37.
     pub fn takes(&self, key: &[u8], value: &[u8]) -> bool
         ensures { IsTrue result ↔ MayAdd self.now (key.now, value.now) }
     {
@@ -251,10 +251,10 @@ impl TableBuilder {
         close(&mut self.block, &mut self.index, &mut self.at, sink)
     }
 
-    /// Puts the data block at hand, if it has rows, and what stands behind the last one, and
-    /// answers the file's length.
+    /// Puts the data block at hand, if it has rows, and what stands behind the last one. The answer
+    /// is how long the file is then, in bytes.
     ///
-    /// `WriteFault` comes only where the sink's `faults` rose in this call. After an error a front
+    /// Where it answers `WriteFault`, the sink's `faults` rose in this call. After an error a front
     /// of the table's end stands behind what the sink had.
     /// Source: LevelDB, table/table_builder.cc; docs/FORMAT.md, "Table file".
     pub fn finish<S: Sink>(self, sink: &mut S) -> Result<u64, BuildErr>

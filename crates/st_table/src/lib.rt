@@ -1,9 +1,9 @@
 //! Tables: files of rows in the order of their keys, in LevelDB's format, both ways.
 //!
-//! A row is a key and a value; keys are ordered by bytes, and lengths are in bytes. A file is data
-//! blocks, a metaindex block, an index block and a footer; behind each block stand its type byte
-//! and its masked sum. The format is LevelDB's doc/table_format.md and table/table_builder.cc;
-//! docs/FORMAT.md, "Table file", here.
+//! A row is a key and a value; keys are ordered by bytes, and lengths are in bytes. The rows stand
+//! in data blocks, which the index block names by keys. The footer ends the file and names the index
+//! block and a metaindex block. Five bytes behind a block are its type and its masked sum. The format
+//! is LevelDB's doc/table_format.md and table/table_builder.cc; docs/FORMAT.md, "Table file", here.
 //!
 //! # What it promises
 //!
