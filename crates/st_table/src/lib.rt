@@ -41,6 +41,8 @@ mod laws;
 mod limits;
 mod puts;
 mod rows;
+#[cfg(test)]
+mod sample_tables;
 mod stored;
 mod table;
 #[cfg(test)]

@@ -3,60 +3,10 @@
 //! That program is a writer of LevelDB's format in Python, with a bitwise CRC-32C.
 
 use super::*;
+use crate::sample_tables::{LAST, ROWS, SHORT, TABLE, patched};
 use st_base::{MemReader, NoMemory, Octets, Reader};
-use std::alloc::{AllocError, Global};
+use std::alloc::Global;
 use std::test::Fail;
-
-/// The rows of the index of one UDP packet, as docs/FORMAT.md, "Table file", has them.
-const ROWS: [(&[u8], &[u8]); 7] = [
-    (
-        b"\x00",
-        b"\x00\x00\x00\x01\x00\x00\x00\x01\x3b\x9a\xca\x00\x07\x5b\xca\x00\x3b\x9a\xca\x00\x07\x5b\xca\x00",
-    ),
-    (b"\x01\x11", b"\x00\x00\x00\x30"),
-    (b"\x02\x00\x35", b"\x00\x00\x00\x30"),
-    (b"\x02\x30\x39", b"\x00\x00\x00\x30"),
-    (b"\x04\x0a\x00\x00\x01", b"\x00\x00\x00\x30"),
-    (b"\x04\x0a\x00\x00\x02", b"\x00\x00\x00\x30"),
-    (b"\x07\x3b\x9a\xca\x00", b"\x00\x00\x00\x30"),
-];
-
-/// The last of their keys.
-const LAST: &[u8] = b"\x07\x3b\x9a\xca\x00";
-
-/// Their table, from the same page: one data block, 185 bytes.
-const TABLE: &[u8] =
-    b"\x00\x01\x18\x00\x00\x00\x00\x01\x00\x00\x00\x01\x3b\x9a\xca\x00\x07\x5b\xca\x00\x3b\x9a\xca\x00\
-\x07\x5b\xca\x00\x00\x02\x04\x01\x11\x00\x00\x00\x30\x00\x03\x04\x02\x00\x35\x00\x00\x00\x30\x01\
-\x02\x04\x30\x39\x00\x00\x00\x30\x00\x05\x04\x04\x0a\x00\x00\x01\x00\x00\x00\x30\x04\x01\x04\x02\
-\x00\x00\x00\x30\x00\x05\x04\x07\x3b\x9a\xca\x00\x00\x00\x00\x30\x00\x00\x00\x00\x01\x00\x00\x00\
-\x00\xfe\xe7\xa8\xd6\x00\x00\x00\x00\x01\x00\x00\x00\x00\xc0\xf2\xa1\xb0\x00\x05\x02\x07\x3b\x9a\
-\xca\x00\x00\x60\x00\x00\x00\x00\x01\x00\x00\x00\x00\x76\xe4\xa2\xef\x65\x08\x72\x12\x00\x00\x00\
-\x00\x00\x00\x00\x00\x00\x00\x00\x00\x00\x00\x00\x00\x00\x00\x00\x00\x00\x00\x00\x00\x00\x00\x00\
-\x00\x00\x00\x00\x00\x00\x00\x00\x00\x57\xfb\x80\x8b\x24\x75\x47\xdb";
-
-/// The same rows in two data blocks, with a restart every four entries in data blocks and every
-/// three in the index, and the index keys 05 and 08, which no row has.
-const SHORT: &[u8] =
-    b"\x00\x01\x18\x00\x00\x00\x00\x01\x00\x00\x00\x01\x3b\x9a\xca\x00\x07\x5b\xca\x00\x3b\x9a\xca\x00\
-\x07\x5b\xca\x00\x00\x02\x04\x01\x11\x00\x00\x00\x30\x00\x03\x04\x02\x00\x35\x00\x00\x00\x30\x01\
-\x02\x04\x30\x39\x00\x00\x00\x30\x00\x05\x04\x04\x0a\x00\x00\x01\x00\x00\x00\x30\x04\x01\x04\x02\
-\x00\x00\x00\x30\x00\x00\x00\x00\x38\x00\x00\x00\x02\x00\x00\x00\x00\x85\x08\x91\xdc\x00\x05\x04\
-\x07\x3b\x9a\xca\x00\x00\x00\x00\x30\x00\x00\x00\x00\x01\x00\x00\x00\x00\x51\xb8\xee\x1b\x00\x00\
-\x00\x00\x01\x00\x00\x00\x00\xc0\xf2\xa1\xb0\x00\x01\x02\x05\x00\x58\x00\x01\x02\x08\x5d\x14\x00\
-\x00\x00\x00\x01\x00\x00\x00\x00\xbe\x15\x5d\x92\x76\x08\x83\x01\x14\x00\x00\x00\x00\x00\x00\x00\
-\x00\x00\x00\x00\x00\x00\x00\x00\x00\x00\x00\x00\x00\x00\x00\x00\x00\x00\x00\x00\x00\x00\x00\x00\
-\x00\x00\x00\x00\x57\xfb\x80\x8b\x24\x75\x47\xdb";
-
-/// `file` with the bytes from `at` on replaced by `part`.
-fn patched(alloc: Global, file: &[u8], at: usize, part: &[u8]) -> Result<Vec<u8>, AllocError> {
-    let (front, rest) = file.split_at(at.min(file.len()));
-    let back = rest.split_at(part.len().min(rest.len())).1;
-    let mut bytes = front.to_vec(alloc)?;
-    bytes.extend_from_slice(part)?;
-    bytes.extend_from_slice(back)?;
-    Ok(bytes)
-}
 
 /// A key, or its end, in a table's bytes.
 type Bytes = &'static [u8];
@@ -99,29 +49,12 @@ fn steps<R: Reader>(
     Ok(rows)
 }
 
-/// The rows of a table from `low` to its end.
-fn rows_from(alloc: Global, bytes: &[u8], low: &[u8]) -> Result<Vec<Row>, TableErr> {
-    let mut file = match MemReader::over(alloc, bytes, &[]) {
-        Ok(file) => file,
-        Err(NoMemory) => return Err(TableErr::NoMemory),
-    };
-    let mut table = Table::over(alloc, &mut file);
-    match table.enter(alloc) {
-        Ok(()) => {}
-        Err(error) => return Err(error),
-    }
-    match table.range(alloc, low, table.last_key()) {
-        Ok(mut cursor) => steps(alloc, &mut table, &mut cursor),
-        Err(NoMemory) => Err(TableErr::NoMemory),
-    }
-}
-
-/// The rows of a table from `low` to `high`.
+/// The rows of a table from `low` to `high`, or to its last key.
 fn rows_between(
     alloc: Global,
     bytes: &[u8],
     low: &[u8],
-    high: &[u8],
+    high: Option<&[u8]>,
 ) -> Result<Vec<Row>, TableErr> {
     let mut file = match MemReader::over(alloc, bytes, &[]) {
         Ok(file) => file,
@@ -132,7 +65,7 @@ fn rows_between(
         Ok(()) => {}
         Err(error) => return Err(error),
     }
-    match table.range(alloc, low, high) {
+    match table.range(alloc, low, high.unwrap_or(table.last_key())) {
         Ok(mut cursor) => steps(alloc, &mut table, &mut cursor),
         Err(NoMemory) => Err(TableErr::NoMemory),
     }
@@ -163,11 +96,12 @@ fn is_read(alloc: Global, bytes: &[u8]) -> Result<(), Fail> {
     if looked_up(alloc, bytes, &[], b"\x09")?.is_some() {
         return Err("a row behind the last key")?;
     }
-    let all = rows_from(alloc, bytes, b"")?;
+    let all = rows_between(alloc, bytes, b"", None)?;
     if all.len() != 7 || !are_rows(all.as_slice(), 0) {
         return Err("other rows")?;
     }
-    let some = rows_between(alloc, bytes, b"\x02\x30\x39", b"\x04\x0a\x00\x00\x01")?;
+    let high = b"\x04\x0a\x00\x00\x01".as_slice();
+    let some = rows_between(alloc, bytes, b"\x02\x30\x39", Some(high))?;
     if some.len() != 2 || !are_rows(some.as_slice(), 3) {
         return Err("other rows between two keys")?;
     }
