@@ -1,11 +1,10 @@
 -- The rows that are read of blocks stand where the index names them.
-use Rattle.std.proofs.Common.{◌≡◌, ℕ, zero, suc, ◌<◌, ◌+◌, Bool, true, false, ◌&&◌, List, [], ◌∷◌, ◌++◌, append_assoc, length, take, drop, get_or, All, Option, Some, None, Result, Ok, Err, refl, sym, ap, ◌∙◌, subst, arith}
+use Rattle.std.proofs.Common.{◌≡◌, ℕ, zero, suc, ◌<◌, Bool, true, false, ◌&&◌, List, [], ◌∷◌, ◌++◌, append_assoc, length, take, get_or, All, Option, Some, None, Result, Ok, Err, refl, sym, ap, ◌∙◌, subst, arith}
 use Rattle.std.specs.Prelude.{IsTrue, if◌then◌else◌}
 use Rattle.std.proofs.lemmas.List.{take-append-drop}
 use Rattle.std.proofs.lemmas.List.Elements.{All-nil, All-cons, All-head, All-tail, All-append, All-same, All-get_or, All-from_get_or}
 use Rattle.st_tblock.specs.Block.{Row, is_above, is_before}
-use Rattle.st_tblock.specs.declared.handle.Handle.{Handle}
-use Rattle.st_table.specs.Table.{Stored, Blocks, is_at_most}
+use Rattle.st_table.specs.Table.{Blocks, is_at_most}
 use Rattle.st_tblock.specs.Lookup.{lookup}
 use Rattle.st_table.specs.Lookup.{find, in_range}
 use Rattle.st_table.specs.ReadingTable.{Rises, last_key, Named}
@@ -15,7 +14,7 @@ use Rattle.st_table.proofs.Order.{before_trans, not_itself}
 use Rattle.st_table.proofs.Finding.{rises_above}
 use Rattle.st_table.proofs.Blocks.{stored_is}
 use Rattle.st_table.proofs.Values.{good_rises}
-use Rattle.st_table.proofs.Tables.{not_true, rest_pass}
+use Rattle.st_table.proofs.Tables.{not_true}
 use Rattle.st_table.proofs.Stepping.{last_key-append}
 
 -- a key above the last of keys that rise is above the first
