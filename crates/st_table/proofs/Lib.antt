@@ -17,6 +17,7 @@ pub mod Finding
 pub mod Entering
 pub mod Values
 pub mod Tables
+pub mod Marking
 pub mod Ranges
 pub mod Stepping
 pub mod Coming

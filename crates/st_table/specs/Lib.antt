@@ -9,4 +9,5 @@ pub mod ReadingBlock
 pub mod ReadingRows
 pub mod ReadingIndex
 pub mod ReadingTable
+pub mod Walked
 pub mod ReadingRange

@@ -1,9 +1,9 @@
 //! Tables: files of rows in the order of their keys, in LevelDB's format, both ways.
 //!
 //! A row is a key and a value; keys are ordered by bytes, and lengths are in bytes. The rows stand
-//! in data blocks, which the index block names by keys. The footer ends the file and names the index
-//! block and a metaindex block. Five bytes behind a block are its type and its masked sum. The format
-//! is LevelDB's doc/table_format.md and table/table_builder.cc; docs/FORMAT.md, "Table file", here.
+//! in data blocks, which the index block names by keys. The footer ends the file and names the
+//! index block and a metaindex block. Five bytes behind a block are its type and its masked sum.
+//! Source: LevelDB, doc/table_format.md, table/table_builder.cc; docs/FORMAT.md, "Table file".
 //!
 //! # What it promises
 //!
@@ -16,6 +16,16 @@
 //! - A fault of the sink or of the file is told only where its count rose.
 //! - The keys of a table rise over all its blocks, and bytes are a table of one list of rows at
 //!   most (`keys_rise`, `one_list_of_rows`).
+//! - A data block counts as walked only where all its checks held; in such a block `Table::get`
+//!   looks a key up without walking it again, and gives the same answer.
+//!
+//! # From call to call
+//!
+//! What `get`, `range` and `step` say of rows rests on two facts of what the table keeps, over a
+//! content that stays: `Entered`, its entries are those of the index block, and `Walked`, the
+//! blocks that count as walked are good. `enter` gives both (`enters`, `walked`), and a caller goes
+//! on by `same`, `entries` and `walked` behind a `get`, by `same`, `entries` and `marks` behind a
+//! `step`, whatever they answer.
 //!
 //! # What it leaves to others
 //!
@@ -26,8 +36,8 @@
 //! # Where to read
 //!
 //! `specs/Table.antt` says what a table is, `specs/Builder.antt` what a builder writes,
-//! `specs/Lookup.antt` what is looked for. Then `builder` and `puts`; `table`, and below it
-//! `stored`, `index`, `rows` and `cursor`.
+//! `specs/Lookup.antt` what is looked for, `specs/Walked.antt` what a table remembers. Then
+//! `builder` and `puts`; `table`, and below it `stored`, `index`, `rows`, `marks` and `cursor`.
 #![tactic(auto)]
 
 mod build_errors;
@@ -39,6 +49,9 @@ mod errors;
 mod index;
 mod laws;
 mod limits;
+#[cfg(test)]
+mod lookup_tests;
+mod marks;
 mod puts;
 mod rows;
 #[cfg(test)]

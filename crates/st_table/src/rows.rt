@@ -2,7 +2,8 @@
 
 ghost use Rattle.std.specs.Prelude.{◌≡◌, ◌+◌, ◌^◌, ◌<◌, ◌≤◌, List, ℕ, length, IfOk, IfErr, OnSome, ◌≢◌, option_map, OnOk, MatchResult, ◌++◌, ◌∷◌, []};
 ghost use Rattle.st_tblock.specs.Fault.{no};
-ghost use Rattle.st_tblock.specs.Block.{front_of};
+ghost use Rattle.st_tblock.specs.Block.{Row as Pair, Good, front_of};
+ghost use Rattle.st_tblock.specs.Lookup.{lookup};
 ghost use Rattle.st_table.specs.Errors.{refusal_of, Broken, Repeats};
 ghost use Rattle.st_table.specs.ReadingRows.{lies_in, StepsOn, ReadsValue, RefusesBlock, answer_behind};
 ghost use Rattle.st_table.specs.ReadingRange.{KeepsRange};
@@ -10,7 +11,7 @@ ghost use Rattle.st_table.specs.Lookup.{in_range};
 
 use crate::errors::TableErr;
 use st_base::{Damage, NoMemory, Octets};
-use st_tblock::{CursorErr, EntryCursor};
+use st_tblock::{CursorErr, EntryCursor, find};
 use std::alloc::Global;
 use std::collections::VecDeque;
 use std::marker::Model;
@@ -146,6 +147,15 @@ pub fn value_in(
             Err(error) => return Err(error),
         }
     }
+}
+
+/// The value of `wanted` in the data block `block`, which was walked to its end before: over bytes
+/// that fail a check the answer says nothing.
+pub fn value_found(alloc: Global, block: &[u8], wanted: &[u8]) -> Result<Option<Octets>, TableErr>
+    ensures value { (rows : List Pair) → Good block.now rows → IfOk result (λ o. o ≡ lookup wanted.now rows) }
+    ensures error { IfErr result (λ e. e ≡ TableErr.NoMemory) }
+{
+    copied(alloc, find(block, wanted))
 }
 
 /// A row of a table.

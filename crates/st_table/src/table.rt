@@ -1,4 +1,4 @@
-ghost use Rattle.std.specs.Prelude.{◌≡◌, ◌≤◌, ◌+◌, ◌-◌, List, ℕ, [], length, Some, None, All, IfOk, IfErr, OnErr, IsTrue};
+ghost use Rattle.std.specs.Prelude.{◌≡◌, ◌≤◌, ◌+◌, ◌-◌, List, ℕ, [], length, Some, None, All, IfOk, IfErr, OnOk, OnErr, IsTrue};
 ghost use Rattle.st_tblock.specs.Block.{Row as Pair, front_of};
 ghost use Rattle.st_table.specs.Table.{IsTable, is_at_most};
 ghost use Rattle.st_table.specs.Lookup.{find, in_range};
@@ -6,20 +6,23 @@ ghost use Rattle.st_table.specs.ReadingRange.{unread, Steps, Coming, StepsRow, I
 ghost use Rattle.st_table.specs.Errors.{IsOutside, HasFileCause, IsSameFile};
 ghost use Rattle.st_table.specs.ReadingIndex.{Decodes, Entered, Enters};
 ghost use Rattle.st_table.specs.ReadingTable.{Rises, Gets, GetsRow, found_at, last_key};
+ghost use Rattle.st_table.specs.Walked.{Walked};
 
 use crate::cursor::{Cursor, step_in};
 use crate::errors::TableErr;
 use crate::index::{IndexEntry, block_at, last_of, position, read_index};
-use crate::rows::{Row, value_in};
+use crate::marks::{is_walked, mark, unmarked};
+use crate::rows::{Row, value_found, value_in};
 use crate::stored::read_block;
 use st_base::{NoMemory, Octets, Reader};
 use std::alloc::Global;
 
-/// What a table keeps of its file: the entries of its index, and the memory of the block that was
-/// read last.
+/// What a table keeps of its file: the entries of its index, a mark for each whose data block was
+/// walked to its end, and the memory of the block that was read last.
 #[derive(Drop)]
 pub struct Kept {
     entries: Vec<IndexEntry>,
+    walked: Vec<bool>,
     block: Vec<u8>,
 }
 
@@ -45,16 +48,25 @@ impl<R, K: Drop> Drop for Table<'_, R, K> {
 }
 
 /// The value of `key`, by one read at most, of the block that the index names for it.
+///
+/// In a block that is marked `key` is only looked up; another one is walked to its end, and marked
+/// where no check fails.
 fn get_in<R: Reader>(
     alloc: Global,
     file: &mut R,
     entries: &[IndexEntry],
+    marks: &mut [bool],
     block: &mut Vec<u8>,
     key: &[u8],
 ) -> Result<Option<Octets>, TableErr>
     ensures gets { (bytes : List ℕ) (index : List Pair) → R.content file.old ≡ Some bytes
         → Decodes index entries.now → Rises None index
+        → Walked (length bytes - 48) bytes None entries.now marks.old
         → Gets (length bytes - 48) bytes key.now index result }
+    ensures walked { (bytes : List ℕ) (index : List Pair) → R.content file.old ≡ Some bytes
+        → Decodes index entries.now
+        → Walked (length bytes - 48) bytes None entries.now marks.old
+        → Walked (length bytes - 48) bytes None entries.now marks.new }
     ensures cause { HasFileCause (R.faults file.old) (R.faults file.new) result }
     ensures reads { R.reads file.new ≤ R.reads file.old + 1 }
     ensures same { IsSameFile (R.content file.old) (R.content file.new) (R.extent file.old) (R.extent file.new) (R.beside file.old) (R.beside file.new) }
@@ -68,7 +80,16 @@ fn get_in<R: Reader>(
         Ok(()) => {}
         Err(error) => return Err(error),
     }
-    value_in(alloc, block.as_slice(), handle.offset, &bounds, key)
+    if is_walked(marks, i) {
+        return value_found(alloc, block.as_slice(), key);
+    }
+    match value_in(alloc, block.as_slice(), handle.offset, &bounds, key) {
+        Ok(value) => {
+            mark(marks, i);
+            Ok(value)
+        }
+        Err(refusal) => Err(refusal),
+    }
 }
 
 impl<'a, R: Reader> Table<'a, R> {
@@ -77,11 +98,13 @@ impl<'a, R: Reader> Table<'a, R> {
         ensures same_reference { result.file.ghost_name ≡ file.entry.ghost_name }
         ensures same { result.file.now ≡ file.old }
         ensures none { result.kept.entries.items ≡ [] }
+        ensures unmarked { result.kept.walked.items ≡ [] }
     {
         Table {
             file,
             kept: Kept {
                 entries: Vec::new(alloc),
+                walked: Vec::new(alloc),
                 block: Vec::new(alloc),
             },
         }
@@ -93,13 +116,16 @@ impl<'a, R: Reader> Table<'a, R> {
     /// file holds a footer, its magic number, its handles; the index block's end, its type byte,
     /// its sum, its restarts; each entry, its key above the last one, its value one handle.
     /// `Compressed` comes exactly where the type byte is 1. `ReadFault` comes only where the file
-    /// failed in this call. After an error the table has the entries that it had.
+    /// failed in this call. Where it succeeds, no data block counts as walked yet. After an error
+    /// the table has the entries that it had, and the same data blocks count as walked.
     pub fn enter(&mut self, alloc: Global) -> Result<(), TableErr>
         ensures enters { (bytes : List ℕ) → R.content self.old.file.now ≡ Some bytes
             → Enters bytes self.new.kept.entries.items result }
         ensures table { (bytes : List ℕ) (rows : List Pair) → R.content self.old.file.now ≡ Some bytes
             → IsTable bytes rows → IfErr result IsOutside }
-        ensures err { OnErr result (self.new.kept.entries ≡ self.old.kept.entries) }
+        ensures walked { OnOk result ((bytes : List ℕ)
+            → Walked (length bytes - 48) bytes None self.new.kept.entries.items self.new.kept.walked.items) }
+        ensures err { OnErr result ((self.new.kept.entries ≡ self.old.kept.entries) × (self.new.kept.walked ≡ self.old.kept.walked)) }
 
         // What becomes of the file.
         ensures same_reference { self.new.file.ghost_name ≡ self.old.file.ghost_name }
@@ -108,10 +134,14 @@ impl<'a, R: Reader> Table<'a, R> {
         ensures same { IsSameFile (R.content self.old.file.now) (R.content self.new.file.now) (R.extent self.old.file.now) (R.extent self.new.file.now) (R.beside self.old.file.now) (R.beside self.new.file.now) }
     {
         match read_index(alloc, self.file, &mut self.kept.block) {
-            Ok(entries) => {
-                self.kept.entries = entries;
-                Ok(())
-            }
+            Ok(entries) => match unmarked(alloc, entries.len()) {
+                Ok(walked) => {
+                    self.kept.entries = entries;
+                    self.kept.walked = walked;
+                    Ok(())
+                }
+                Err(NoMemory) => Err(TableErr::NoMemory),
+            },
             Err(error) => Err(error),
         }
     }
@@ -123,13 +153,22 @@ impl<'a, R: Reader> Table<'a, R> {
     /// its restarts; each entry, its key above the last one and between the index keys around the
     /// block. `Compressed` comes exactly where the type byte is 1. `ReadFault` comes only where the
     /// file failed in this call. The table's entries stay.
+    ///
+    /// Restarts and entries are checked until no check fails: from then on the block counts as
+    /// walked, and only its end, its type byte and its sum are checked at each call.
     pub fn get(&mut self, alloc: Global, key: &[u8]) -> Result<Option<Octets>, TableErr>
         ensures gets { (bytes : List ℕ) → R.content self.old.file.now ≡ Some bytes
             → (entered : Entered bytes self.old.kept.entries.items)
+            → Walked (length bytes - 48) bytes None self.old.kept.entries.items self.old.kept.walked.items
             → Gets (length bytes - 48) bytes key.now entered.index result }
         ensures table { (bytes : List ℕ) (rows : List Pair) → R.content self.old.file.now ≡ Some bytes
-            → Entered bytes self.old.kept.entries.items → IsTable bytes rows
-            → GetsRow key.now rows result }
+            → Entered bytes self.old.kept.entries.items
+            → Walked (length bytes - 48) bytes None self.old.kept.entries.items self.old.kept.walked.items
+            → IsTable bytes rows → GetsRow key.now rows result }
+        ensures walked { (bytes : List ℕ) → R.content self.old.file.now ≡ Some bytes
+            → Entered bytes self.old.kept.entries.items
+            → Walked (length bytes - 48) bytes None self.old.kept.entries.items self.old.kept.walked.items
+            → Walked (length bytes - 48) bytes None self.new.kept.entries.items self.new.kept.walked.items }
         ensures entries { self.new.kept.entries ≡ self.old.kept.entries }
 
         // What becomes of the file.
@@ -142,6 +181,7 @@ impl<'a, R: Reader> Table<'a, R> {
             alloc,
             self.file,
             self.kept.entries.as_slice(),
+            self.kept.walked.as_mut_slice(),
             &mut self.kept.block,
             key,
         )
@@ -184,6 +224,7 @@ impl<'a, R: Reader> Table<'a, R> {
             → IsSound (length bytes - 48) bytes entered.index cursor.old
             → IsSound (length bytes - 48) bytes entered.index cursor.new × GivesNamed (length bytes - 48) bytes entered.index result }
         ensures entries { self.new.kept.entries ≡ self.old.kept.entries }
+        ensures marks { self.new.kept.walked ≡ self.old.kept.walked }
 
         // What becomes of the file.
         ensures same_reference { self.new.file.ghost_name ≡ self.old.file.ghost_name }
