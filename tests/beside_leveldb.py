@@ -11,6 +11,8 @@ import subprocess
 import sys
 import tempfile
 
+from report import report
+
 ROOT = pathlib.Path(__file__).resolve().parent.parent
 OURS = ROOT / "crates" / "table_rows" / "out" / "table_rows"
 SOURCE = ROOT / "tests" / "leveldb" / "rows.cc"
@@ -18,16 +20,11 @@ SECONDS = 120
 BLOCK_SIZES = [256, 1024, 4096, 65536]
 RESTARTS = [1, 2, 16, 64]
 
-failures = passed = 0
+CASES = []
 
 
 def check(name, holds, said=""):
-    global failures, passed
-    if holds:
-        passed += 1
-    else:
-        failures += 1
-        print(f"failed: {name}: {said}")
+    CASES.append((name, holds, said))
 
 
 def run(words, given=b""):
@@ -127,8 +124,7 @@ def main():
             read_by_us(theirs, folder, name, rows)
         lookups(theirs, folder, index_rows(random.Random(2)))
         refusals(theirs, folder)
-    print(f"{passed} passed, {failures} failed")
-    return 1 if failures else 0
+    return report(CASES)
 
 
 if __name__ == "__main__":

@@ -13,6 +13,7 @@ import tempfile
 ROOT = pathlib.Path(__file__).resolve().parent.parent
 sys.path.insert(0, str(ROOT / "samples"))
 from make import file_head, frames, record, samples  # noqa: E402
+from report import report  # noqa: E402
 
 STENO = str(ROOT / "steno")
 SECONDS = 60
@@ -170,14 +171,7 @@ def reader_that_leaves():
 
 def main():
     subprocess.run([STENO], capture_output=True)  # builds the program where need be
-    passed, failed = 0, 0
-    for group in (cases, full_disk, closed_streams, reader_that_leaves):
-        for name, good, detail in group():
-            passed, failed = passed + good, failed + (not good)
-            if not good:
-                print(f"{name}: {detail}")
-    print(f"{passed} passed, {failed} failed")
-    return 1 if failed else 0
+    return report(case for group in (cases, full_disk, closed_streams, reader_that_leaves) for case in group())
 
 
 if __name__ == "__main__":

@@ -14,6 +14,8 @@ import subprocess
 import sys
 import tempfile
 
+from report import report
+
 CRATE = pathlib.Path(__file__).resolve().parent.parent / "crates" / "shelf_probe"
 SECONDS = 60
 NOBODY = 65534
@@ -191,20 +193,18 @@ def other_file_systems(program, folder):
     yield "a spool that may be read alone", got == want, got
 
 
+def cases(folder):
+    os.chmod(folder, 0o755)
+    program = build(folder)
+    for group in (keeps_files, keeps_its_lock, meets_a_file, lacks_rights, meets_a_full_disk, other_file_systems):
+        place = os.path.join(folder, group.__name__)
+        os.mkdir(place)
+        yield from group(program, place)
+
+
 def main():
-    passed, failed = 0, 0
     with tempfile.TemporaryDirectory() as folder:
-        os.chmod(folder, 0o755)
-        program = build(folder)
-        for group in (keeps_files, keeps_its_lock, meets_a_file, lacks_rights, meets_a_full_disk, other_file_systems):
-            place = os.path.join(folder, group.__name__)
-            os.mkdir(place)
-            for name, good, detail in group(program, place):
-                passed, failed = passed + good, failed + (not good)
-                if not good:
-                    print(f"{name}: {detail}")
-    print(f"{passed} passed, {failed} failed")
-    return 1 if failed else 0
+        return report(cases(folder))
 
 
 if __name__ == "__main__":
