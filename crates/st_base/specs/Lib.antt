@@ -4,3 +4,4 @@ pub mod Pieces
 pub mod Ticks
 pub mod Places
 pub mod Scripts
+pub mod Damages

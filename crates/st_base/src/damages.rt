@@ -13,3 +13,19 @@ pub struct Damage {
     pub want: u64,
     pub ghost differs: { found ≢ want },
 }
+
+impl Damage {
+    ghost use Rattle.std.specs.Prelude.{◌≡◌};
+    ghost use Rattle.st_base.specs.Damages.{fault_of, no};
+
+    /// What a check says that can only hold or fail, where it fails at `place`.
+    pub fn broken(place: u64) -> Damage
+        ensures { fault_of result ≡ no place }
+    {
+        Damage {
+            place,
+            found: 0,
+            want: 1,
+        }
+    }
+}

@@ -1,11 +1,12 @@
 -- The checks of a block's fields, head by head and record by record.
 use Rattle.std.proofs.Common.{◌≡◌, ℕ, zero, suc, ◌+◌, ◌-◌, ◌<◌, ◌≤◌, Bool, true, false, List, [], ◌∷◌, ◌++◌, length, take, drop, Option, None, Some, refl, sym, ap, ◌∙◌, subst, arith, add_assoc}
 use Rattle.std.specs.Prelude.{nat_lt, if◌then◌else◌}
+use Rattle.std.specs.Option.{option_or}
 use Rattle.std.proofs.lemmas.List.{drop-drop, length-drop, take_all}
 use Rattle.std.proofs.lemmas.Bool.Decides.{nat_tests}
 use Rattle.byteorder.specs.Endian.{little_number}
 use Rattle.st_base.specs.Records.{Rec}
-use Rattle.st_block.specs.Fault.{Fault, or_else}
+use Rattle.st_base.specs.Damages.{Fault}
 use Rattle.st_block.specs.Fields.{Field, Zeros, Body, sizes, not_same, above, not_zero, first_wrong}
 use Rattle.st_block.specs.BlockText.{padded, room, used, record_head, record_fields, records_fields, block_head, block_fields}
 use Rattle.st_block.specs.Scanning.{captured, taken, record_at, records_at, count_of, records_of}
@@ -16,23 +17,23 @@ use Rattle.st_block.proofs.Laying.{body_is, room_is, records_more, fit_first}
 use Rattle.st_block.proofs.Texts.{first_wrong-append, sizes-append}
 
 -- nothing behind a check
-pub or_else-none : (o : Option Fault) → or_else o None ≡ o
-or_else-none None = refl
-or_else-none (Some f) = refl
+pub option_or-none : (o : Option Fault) → option_or o None ≡ o
+option_or-none None = refl
+option_or-none (Some f) = refl
 
 -- the checks of a record's head, each at its offset
-pub record_head_checks : (place next : ℕ) (r : Rec) (bytes : List ℕ) → first_wrong place (record_head next r) bytes ≡ or_else (not_same place (little_number 4 (drop 0 bytes)) next) (or_else (above (place + 8) (little_number 4 (drop 8 bytes)) 999999999) (or_else (not_same (place + 20) (little_number 4 (drop 20 bytes)) 0) (or_else (not_same (place + 24) (little_number 2 (drop 24 bytes)) 48) (or_else (not_same (place + 26) (little_number 2 (drop 26 bytes)) 48) (not_zero (place + 28) (take 20 (drop 28 bytes)))))))
+pub record_head_checks : (place next : ℕ) (r : Rec) (bytes : List ℕ) → first_wrong place (record_head next r) bytes ≡ option_or (not_same place (little_number 4 (drop 0 bytes)) next) (option_or (above (place + 8) (little_number 4 (drop 8 bytes)) 999999999) (option_or (not_same (place + 20) (little_number 4 (drop 20 bytes)) 0) (option_or (not_same (place + 24) (little_number 2 (drop 24 bytes)) 48) (option_or (not_same (place + 26) (little_number 2 (drop 26 bytes)) 48) (not_zero (place + 28) (take 20 (drop 28 bytes)))))))
 unfolding record_head
-record_head_checks place next r bytes = simp (add_assoc, drop-drop, or_else-none)
+record_head_checks place next r bytes = simp (add_assoc, drop-drop, option_or-none)
 
 -- those of the first part of a block's head
-pub head_counts_checks : (place size number count end : ℕ) (block : List ℕ) → first_wrong place (head_counts size number count end) block ≡ or_else (not_same place (little_number 4 (drop 0 block)) 1) (or_else (not_same (place + 4) (little_number 4 (drop 4 block)) size) (or_else (not_same (place + 8) (little_number 4 (drop 8 block)) 1) (or_else (not_same (place + 12) (little_number 4 (drop 12 block)) count) (or_else (not_same (place + 16) (little_number 4 (drop 16 block)) 48) (or_else (not_same (place + 20) (little_number 4 (drop 20 block)) end) (not_same (place + 24) (little_number 8 (drop 24 block)) number))))))
-head_counts_checks place size number count end block = simp (add_assoc, drop-drop, or_else-none)
+pub head_counts_checks : (place size number count end : ℕ) (block : List ℕ) → first_wrong place (head_counts size number count end) block ≡ option_or (not_same place (little_number 4 (drop 0 block)) 1) (option_or (not_same (place + 4) (little_number 4 (drop 4 block)) size) (option_or (not_same (place + 8) (little_number 4 (drop 8 block)) 1) (option_or (not_same (place + 12) (little_number 4 (drop 12 block)) count) (option_or (not_same (place + 16) (little_number 4 (drop 16 block)) 48) (option_or (not_same (place + 20) (little_number 4 (drop 20 block)) end) (not_same (place + 24) (little_number 8 (drop 24 block)) number))))))
+head_counts_checks place size number count end block = simp (add_assoc, drop-drop, option_or-none)
 
 -- those of the other part
-pub head_times_checks : (place : ℕ) (first last block : List ℕ) → first_wrong (place + 32) (head_times (record_at first) (record_at last)) (drop 32 block) ≡ or_else (not_same (place + 32) (little_number 4 (drop 32 block)) (little_number 4 (drop 4 first))) (or_else (not_same (place + 36) (little_number 4 (drop 36 block)) (little_number 4 (drop 8 first))) (or_else (not_same (place + 40) (little_number 4 (drop 40 block)) (little_number 4 (drop 4 last))) (not_same (place + 44) (little_number 4 (drop 44 block)) (little_number 4 (drop 8 last)))))
+pub head_times_checks : (place : ℕ) (first last block : List ℕ) → first_wrong (place + 32) (head_times (record_at first) (record_at last)) (drop 32 block) ≡ option_or (not_same (place + 32) (little_number 4 (drop 32 block)) (little_number 4 (drop 4 first))) (option_or (not_same (place + 36) (little_number 4 (drop 36 block)) (little_number 4 (drop 8 first))) (option_or (not_same (place + 40) (little_number 4 (drop 40 block)) (little_number 4 (drop 4 last))) (not_same (place + 44) (little_number 4 (drop 44 block)) (little_number 4 (drop 8 last)))))
 unfolding record_at
-head_times_checks place first last block = simp (add_assoc, drop-drop, or_else-none)
+head_times_checks place first last block = simp (add_assoc, drop-drop, option_or-none)
 
 -- so far all records of a block are well
 pub record Checked (block : List ℕ) (place count had at : ℕ) : Type 0 where
@@ -70,7 +71,7 @@ sizes_records (r ∷ rs) =
     let more = sizes_records rs in omega arith
 
 -- the checks of a record: those of its head and of its padding
-pub record_checks : (place next : ℕ) (bytes : List ℕ) → taken bytes ≤ length bytes → first_wrong place (record_fields next (record_at bytes)) bytes ≡ or_else (first_wrong place (record_head next (record_at bytes)) bytes) (not_zero (place + 48 + captured bytes) (take (padded (captured bytes) - captured bytes) (drop (48 + captured bytes) bytes)))
+pub record_checks : (place next : ℕ) (bytes : List ℕ) → taken bytes ≤ length bytes → first_wrong place (record_fields next (record_at bytes)) bytes ≡ option_or (first_wrong place (record_head next (record_at bytes)) bytes) (not_zero (place + 48 + captured bytes) (take (padded (captured bytes) - captured bytes) (drop (48 + captured bytes) bytes)))
 record_checks place next bytes fits =
     let r = record_at bytes in
     let len = captured bytes in
@@ -79,11 +80,11 @@ record_checks place next bytes fits =
     let head = sizes_head next r in
     let on : drop len (drop 48 bytes) ≡ drop (48 + len) bytes = drop-drop len 48 bytes in
     let body : first_wrong (place + 48) (Body r.body ∷ Zeros (padded (length r.body) - length r.body) ∷ []) (drop 48 bytes) ≡ not_zero (place + 48 + len) (take (padded len - len) (drop (48 + len) bytes)) =
-    or_else-none (not_zero (place + 48 + length r.body) (take (padded (length r.body) - length r.body) (drop (length r.body) (drop 48 bytes))))
+    option_or-none (not_zero (place + 48 + length r.body) (take (padded (length r.body) - length r.body) (drop (length r.body) (drop 48 bytes))))
     ∙ (ap (λ (n : ℕ). not_zero (place + 48 + n) (take (padded n - n) (drop n (drop 48 bytes)))) size ∙ ap (λ (l : List ℕ). not_zero (place + 48 + len) (take (padded len - len) l)) on) in
     split
-    ∙ (ap (λ (n : ℕ). or_else (first_wrong place (record_head next r) bytes) (first_wrong (place + n) (Body r.body ∷ Zeros (padded (length r.body) - length r.body) ∷ []) (drop n bytes))) head
-    ∙ ap (λ (o : Option Fault). or_else (first_wrong place (record_head next r) bytes) o) body)
+    ∙ (ap (λ (n : ℕ). option_or (first_wrong place (record_head next r) bytes) (first_wrong (place + n) (Body r.body ∷ Zeros (padded (length r.body) - length r.body) ∷ []) (drop n bytes))) head
+    ∙ ap (λ (o : Option Fault). option_or (first_wrong place (record_head next r) bytes) o) body)
 
 -- where the next head is
 next_is : (left : ℕ) (r : Rec) (bytes : List ℕ) → 0 < left → distance r (records_at (left - 1) bytes) ≡ (if nat_lt 1 left then room r else 0)
@@ -95,7 +96,7 @@ next_is (suc (suc n)) r bytes l =
     rw (e, t) refl
 
 -- the checks of the records from one on: its own, and those of the others
-records_checks : (place left : ℕ) (bytes : List ℕ) → 0 < left → taken bytes ≤ length bytes → first_wrong place (records_fields (records_at left bytes)) bytes ≡ or_else (first_wrong place (record_fields (if nat_lt 1 left then taken bytes else 0) (record_at bytes)) bytes) (first_wrong (place + taken bytes) (records_fields (records_at (left - 1) (drop (taken bytes) bytes))) (drop (taken bytes) bytes))
+records_checks : (place left : ℕ) (bytes : List ℕ) → 0 < left → taken bytes ≤ length bytes → first_wrong place (records_fields (records_at left bytes)) bytes ≡ option_or (first_wrong place (record_fields (if nat_lt 1 left then taken bytes else 0) (record_at bytes)) bytes) (first_wrong (place + taken bytes) (records_fields (records_at (left - 1) (drop (taken bytes) bytes))) (drop (taken bytes) bytes))
 records_checks place left bytes l fits =
     let r = record_at bytes in
     let rs = records_at (left - 1) (drop (taken bytes) bytes) in
@@ -104,8 +105,8 @@ records_checks place left bytes l fits =
     let size = sizes_record (distance r rs) r ∙ takes in
     ap (λ (qs : List Rec). first_wrong place (records_fields qs) bytes) (records_more left bytes l)
     ∙ (first_wrong-append place (record_fields (distance r rs) r) (records_fields rs) bytes
-    ∙ (ap (λ (n : ℕ). or_else (first_wrong place (record_fields (distance r rs) r) bytes) (first_wrong (place + n) (records_fields rs) (drop n bytes))) size
-    ∙ ap (λ (n : ℕ). or_else (first_wrong place (record_fields n r) bytes) (first_wrong (place + taken bytes) (records_fields rs) (drop (taken bytes) bytes))) next))
+    ∙ (ap (λ (n : ℕ). option_or (first_wrong place (record_fields (distance r rs) r) bytes) (first_wrong (place + n) (records_fields rs) (drop n bytes))) size
+    ∙ ap (λ (n : ℕ). option_or (first_wrong place (record_fields n r) bytes) (first_wrong (place + taken bytes) (records_fields rs) (drop (taken bytes) bytes))) next))
 
 -- the distance as it is counted from the records before
 pub distance_is : (had count : ℕ) (n : ℕ) → had < count → (if nat_lt (had + 1) count then n else 0) ≡ (if nat_lt 1 (count - had) then n else 0)
@@ -135,7 +136,7 @@ checked_more block place count had at checked l none =
           ap (λ (n : ℕ). first_wrong n (records_fields (records_at (count - (had + 1)) (drop (at + taken rest) block))) (drop (at + taken rest) block)) (sym there)
           ∙ (ap (λ (b : List ℕ). first_wrong (place + at + taken rest) (records_fields (records_at (count - (had + 1)) b)) b) (sym on)
           ∙ (ap (λ (k : ℕ). first_wrong (place + at + taken rest) (records_fields (records_at k (drop (taken rest) rest))) (drop (taken rest) rest)) (sym less)
-          ∙ (sym (split ∙ ap (λ (o : Option Fault). or_else o (first_wrong (place + at + taken rest) (records_fields (records_at (count - had - 1) (drop (taken rest) rest))) (drop (taken rest) rest))) well) ∙ checked.wrong)));
+          ∙ (sym (split ∙ ap (λ (o : Option Fault). option_or o (first_wrong (place + at + taken rest) (records_fields (records_at (count - had - 1) (drop (taken rest) rest))) (drop (taken rest) rest))) well) ∙ checked.wrong)));
     }
 
 -- a record at which something is
@@ -145,7 +146,7 @@ checked_wrong block place count had at f checked l some =
     let fits = fit_first (count - had) rest (omega arith) checked.fit in
     let split = records_checks (place + at) (count - had) rest (omega arith) fits.0 in
     let ill : first_wrong (place + at) (record_fields (if nat_lt 1 (count - had) then taken rest else 0) (record_at rest)) rest ≡ Some f = subst (λ (n : ℕ). first_wrong (place + at) (record_fields n (record_at rest)) rest ≡ Some f) (distance_is had count (taken rest) l) some in
-    sym checked.wrong ∙ (split ∙ ap (λ (o : Option Fault). or_else o (first_wrong (place + at + taken rest) (records_fields (records_at (count - had - 1) (drop (taken rest) rest))) (drop (taken rest) rest))) ill)
+    sym checked.wrong ∙ (split ∙ ap (λ (o : Option Fault). option_or o (first_wrong (place + at + taken rest) (records_fields (records_at (count - had - 1) (drop (taken rest) rest))) (drop (taken rest) rest))) ill)
 
 -- all were
 pub checked_all : (block : List ℕ) (place count at : ℕ) → Checked block place count count at → first_wrong (place + 48) (records_fields (records_at count (drop 48 block))) (drop 48 block) ≡ None
@@ -168,11 +169,11 @@ rest_checks : (place end count : ℕ) (block : List ℕ) (n : ℕ) → n + 48 �
 rest_checks place end count block n e =
     let there : place + 48 + n ≡ place + end = omega arith in
     let on : drop n (drop 48 block) ≡ drop end block = drop-drop n 48 block ∙ ap (λ (k : ℕ). drop k block) (let s : 48 + n ≡ end = omega arith in s) in
-    or_else-none (not_zero (place + 48 + n) (take count (drop n (drop 48 block))))
+    option_or-none (not_zero (place + 48 + n) (take count (drop n (drop 48 block))))
     ∙ (ap (λ (p : ℕ). not_zero p (take count (drop n (drop 48 block)))) there ∙ ap (λ (l : List ℕ). not_zero (place + end) (take count l)) on)
 
 -- the checks of a block: its head's in two parts, its records', and those of the zeros behind them
-block_split : (size number place : ℕ) (r : Rec) (rs : List Rec) (block : List ℕ) → first_wrong place (block_fields size number (r ∷ rs)) block ≡ or_else (or_else (first_wrong place (head_counts size number (length (r ∷ rs)) (used (r ∷ rs))) block) (first_wrong (place + 32) (head_times r (last_of r rs)) (drop 32 block))) (or_else (first_wrong (place + 48) (records_fields (r ∷ rs)) (drop 48 block)) (not_zero (place + used (r ∷ rs)) (take (size - used (r ∷ rs)) (drop (used (r ∷ rs)) block))))
+block_split : (size number place : ℕ) (r : Rec) (rs : List Rec) (block : List ℕ) → first_wrong place (block_fields size number (r ∷ rs)) block ≡ option_or (option_or (first_wrong place (head_counts size number (length (r ∷ rs)) (used (r ∷ rs))) block) (first_wrong (place + 32) (head_times r (last_of r rs)) (drop 32 block))) (option_or (first_wrong (place + 48) (records_fields (r ∷ rs)) (drop 48 block)) (not_zero (place + used (r ∷ rs)) (take (size - used (r ∷ rs)) (drop (used (r ∷ rs)) block))))
 block_split size number place r rs block =
     let head = block_head size number r rs in
     let records = records_fields (r ∷ rs) in
@@ -184,9 +185,9 @@ block_split size number place r rs block =
     let three = rest_checks place (used (r ∷ rs)) (size - used (r ∷ rs)) block (sizes records) many in
     let four = ap (λ (fs : List Field). first_wrong place fs block) (head_split size number r rs) ∙ first_wrong-append place (head_counts size number (length (r ∷ rs)) (used (r ∷ rs))) (head_times r (last_of r rs)) block in
     one
-    ∙ (ap (λ (n : ℕ). or_else (first_wrong place head block) (first_wrong (place + n) (records ++ zeros) (drop n block))) size_is
-    ∙ (ap (λ (o : Option Fault). or_else o (first_wrong (place + 48) (records ++ zeros) (drop 48 block))) four
-    ∙ ap (λ (o : Option Fault). or_else (or_else (first_wrong place (head_counts size number (length (r ∷ rs)) (used (r ∷ rs))) block) (first_wrong (place + 32) (head_times r (last_of r rs)) (drop 32 block))) o) (two ∙ ap (λ (o : Option Fault). or_else (first_wrong (place + 48) records (drop 48 block)) o) three)))
+    ∙ (ap (λ (n : ℕ). option_or (first_wrong place head block) (first_wrong (place + n) (records ++ zeros) (drop n block))) size_is
+    ∙ (ap (λ (o : Option Fault). option_or o (first_wrong (place + 48) (records ++ zeros) (drop 48 block))) four
+    ∙ ap (λ (o : Option Fault). option_or (option_or (first_wrong place (head_counts size number (length (r ∷ rs)) (used (r ∷ rs))) block) (first_wrong (place + 32) (head_times r (last_of r rs)) (drop 32 block))) o) (two ∙ ap (λ (o : Option Fault). option_or (first_wrong (place + 48) records (drop 48 block)) o) three)))
 
 -- so many records are as many
 pub length-records_at : (n : ℕ) (bytes : List ℕ) → length (records_at n bytes) ≡ n
@@ -194,7 +195,7 @@ length-records_at zero bytes = refl
 length-records_at (suc n) bytes = ap suc (length-records_at n (drop (taken bytes) bytes))
 
 -- the same of a block that is laid out, with what its layout says
-pub block_checks : (number place : ℕ) (block : List ℕ) (layout : Layout) → IsLayout block layout → first_wrong place (block_fields (length block) number (records_of block)) block ≡ or_else (or_else (first_wrong place (head_counts (length block) number layout.count layout.end) block) (first_wrong (place + 32) (head_times (record_at (drop 48 block)) (record_at (drop layout.last block))) (drop 32 block))) (or_else (first_wrong (place + 48) (records_fields (records_at layout.count (drop 48 block))) (drop 48 block)) (not_zero (place + layout.end) (drop layout.end block)))
+pub block_checks : (number place : ℕ) (block : List ℕ) (layout : Layout) → IsLayout block layout → first_wrong place (block_fields (length block) number (records_of block)) block ≡ option_or (option_or (first_wrong place (head_counts (length block) number layout.count layout.end) block) (first_wrong (place + 32) (head_times (record_at (drop 48 block)) (record_at (drop layout.last block))) (drop 32 block))) (option_or (first_wrong (place + 48) (records_fields (records_at layout.count (drop 48 block))) (drop 48 block)) (not_zero (place + layout.end) (drop layout.end block)))
 block_checks number place block layout laid =
     let size = length block in
     let r = record_at (drop 48 block) in
@@ -210,15 +211,15 @@ block_checks number place block layout laid =
     let whole : take (size - layout.end) (drop layout.end block) ≡ drop layout.end block = take_all (size - layout.end) (drop layout.end block) (omega arith) in
     ap (λ (qs : List Rec). first_wrong place (block_fields size number qs) block) first
     ∙ (block_split size number place r rs block
-    ∙ (ap (λ (n : ℕ). or_else (or_else (first_wrong place (head_counts size number n (used (r ∷ rs))) block) (first_wrong (place + 32) (head_times r (last_of r rs)) (drop 32 block))) (or_else (first_wrong (place + 48) (records_fields (r ∷ rs)) (drop 48 block)) (not_zero (place + used (r ∷ rs)) (take (size - used (r ∷ rs)) (drop (used (r ∷ rs)) block))))) many
-    ∙ (ap (λ (n : ℕ). or_else (or_else (first_wrong place (head_counts size number layout.count n) block) (first_wrong (place + 32) (head_times r (last_of r rs)) (drop 32 block))) (or_else (first_wrong (place + 48) (records_fields (r ∷ rs)) (drop 48 block)) (not_zero (place + n) (take (size - n) (drop n block))))) end
-    ∙ (ap (λ (q : Rec). or_else (or_else (first_wrong place (head_counts size number layout.count layout.end) block) (first_wrong (place + 32) (head_times r q) (drop 32 block))) (or_else (first_wrong (place + 48) (records_fields (r ∷ rs)) (drop 48 block)) (not_zero (place + layout.end) (take (size - layout.end) (drop layout.end block))))) last
-    ∙ (ap (λ (fs : List Field). or_else (or_else (first_wrong place (head_counts size number layout.count layout.end) block) (first_wrong (place + 32) (head_times r (record_at (drop layout.last block))) (drop 32 block))) (or_else (first_wrong (place + 48) fs (drop 48 block)) (not_zero (place + layout.end) (take (size - layout.end) (drop layout.end block))))) records
-    ∙ ap (λ (l : List ℕ). or_else (or_else (first_wrong place (head_counts size number layout.count layout.end) block) (first_wrong (place + 32) (head_times r (record_at (drop layout.last block))) (drop 32 block))) (or_else (first_wrong (place + 48) (records_fields (records_at layout.count (drop 48 block))) (drop 48 block)) (not_zero (place + layout.end) l))) whole)))))
+    ∙ (ap (λ (n : ℕ). option_or (option_or (first_wrong place (head_counts size number n (used (r ∷ rs))) block) (first_wrong (place + 32) (head_times r (last_of r rs)) (drop 32 block))) (option_or (first_wrong (place + 48) (records_fields (r ∷ rs)) (drop 48 block)) (not_zero (place + used (r ∷ rs)) (take (size - used (r ∷ rs)) (drop (used (r ∷ rs)) block))))) many
+    ∙ (ap (λ (n : ℕ). option_or (option_or (first_wrong place (head_counts size number layout.count n) block) (first_wrong (place + 32) (head_times r (last_of r rs)) (drop 32 block))) (option_or (first_wrong (place + 48) (records_fields (r ∷ rs)) (drop 48 block)) (not_zero (place + n) (take (size - n) (drop n block))))) end
+    ∙ (ap (λ (q : Rec). option_or (option_or (first_wrong place (head_counts size number layout.count layout.end) block) (first_wrong (place + 32) (head_times r q) (drop 32 block))) (option_or (first_wrong (place + 48) (records_fields (r ∷ rs)) (drop 48 block)) (not_zero (place + layout.end) (take (size - layout.end) (drop layout.end block))))) last
+    ∙ (ap (λ (fs : List Field). option_or (option_or (first_wrong place (head_counts size number layout.count layout.end) block) (first_wrong (place + 32) (head_times r (record_at (drop layout.last block))) (drop 32 block))) (option_or (first_wrong (place + 48) fs (drop 48 block)) (not_zero (place + layout.end) (take (size - layout.end) (drop layout.end block))))) records
+    ∙ ap (λ (l : List ℕ). option_or (option_or (first_wrong place (head_counts size number layout.count layout.end) block) (first_wrong (place + 32) (head_times r (record_at (drop layout.last block))) (drop 32 block))) (option_or (first_wrong (place + 48) (records_fields (records_at layout.count (drop 48 block))) (drop 48 block)) (not_zero (place + layout.end) l))) whole)))))
 
 -- the first of two checks that are the same
-pub or_both : {a b c d : Option Fault} → a ≡ b → c ≡ d → or_else a c ≡ or_else b d
-or_both {a} {b} {c} {d} e f = ap (λ (o : Option Fault). or_else o c) e ∙ ap (λ (o : Option Fault). or_else b o) f
+pub or_both : {a b c d : Option Fault} → a ≡ b → c ≡ d → option_or a c ≡ option_or b d
+or_both {a} {b} {c} {d} e f = ap (λ (o : Option Fault). option_or o c) e ∙ ap (λ (o : Option Fault). option_or b o) f
 
 -- a record's check at the bytes and with the distance that were found
 pub found_there : (place count had next taken_is : ℕ) (rest bytes : List ℕ) → bytes ≡ rest → taken_is ≡ taken rest → next ≡ (if nat_lt (had + 1) count then taken_is else 0) → first_wrong place (record_fields next (record_at bytes)) bytes ≡ first_wrong place (record_fields (if nat_lt (had + 1) count then taken rest else 0) (record_at rest)) rest

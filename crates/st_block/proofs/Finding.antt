@@ -7,7 +7,7 @@ use Rattle.std.proofs.lemmas.List.{drop_at, take_at, drop-drop}
 use Rattle.byteorder.specs.Endian.{little_number}
 use Rattle.byteorder.specs.Numbers.{little_number-reads_back}
 use Rattle.st_base.specs.Records.{Rec, InRange}
-use Rattle.st_block.specs.Fault.{fault_of}
+use Rattle.st_base.specs.Damages.{fault_of}
 use Rattle.st_block.specs.Fields.{Number, text, above, first_wrong}
 use Rattle.st_block.specs.BlockText.{padded, record_head, BlockText}
 use Rattle.st_block.specs.Reading.{head_outside, body_outside, record_outside, head_wrong, HeadStands, GivesHead, GivesBody, StandsAt, HeadOf, BodyOf}

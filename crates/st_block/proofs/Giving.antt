@@ -2,7 +2,7 @@
 use Rattle.std.proofs.Common.{◌≡◌, ℕ, ◌*◌, ◌<◌, ◌≤◌, List, [], ◌∷◌, ◌++◌, take, drop, Option, None, Some, refl, sym, ap, ◌∙◌, subst, arith, Ok, Err, Result}
 use Rattle.std.specs.Prelude.{IfOk, IfSome}
 use Rattle.st_base.specs.Records.{Rec}
-use Rattle.st_block.specs.Fault.{fault_of}
+use Rattle.st_base.specs.Damages.{fault_of}
 use Rattle.st_base.specs.declared.damages.Damage.{Damage}
 use Rattle.st_block.specs.Position.{places}
 use Rattle.st_block.specs.Scanning.{record_at, records_at}

@@ -1,10 +1,10 @@
 -- A scan goes on by a record or a block, and what it stands for goes with it.
 use Rattle.std.proofs.Common.{◌≡◌, ℕ, zero, suc, ◌+◌, ◌-◌, ◌*◌, ◌<◌, ◌≤◌, List, [], ◌∷◌, ◌++◌, append_assoc, append-nil, length, take, drop, map, Option, None, Some, refl, sym, ap, ◌∙◌, subst, arith}
 use Rattle.std.specs.Prelude.{nat_lt, if◌then◌else◌}
+use Rattle.std.specs.Option.{option_or}
 use Rattle.std.specs.List.{flat_map}
 use Rattle.std.proofs.lemmas.Bool.Decides.{nat_tests}
 use Rattle.st_base.specs.Records.{Rec}
-use Rattle.st_block.specs.Fault.{or_else}
 use Rattle.st_block.specs.BlockText.{room, used, block_text, blocks_text, Fills}
 use Rattle.st_block.specs.Position.{places, places_of}
 use Rattle.st_block.specs.Scanning.{captured, record_at, count_of, records_of, join_wrong, block_wrong, blocks_wrong, fails}
@@ -74,6 +74,6 @@ no_room size place (Some u) block none whole =
     far_enough found want at e = grind (arith, nat_tests)
 
 -- the blocks from one on
-pub blocks_more : (size left number : ℕ) (before : Option ℕ) (bytes : List ℕ) → 0 < left → blocks_wrong size left number before bytes ≡ or_else (block_wrong size number before (take size bytes)) (blocks_wrong size (left - 1) (number + 1) (Some (used (records_of (take size bytes)))) (drop size bytes))
+pub blocks_more : (size left number : ℕ) (before : Option ℕ) (bytes : List ℕ) → 0 < left → blocks_wrong size left number before bytes ≡ option_or (block_wrong size number before (take size bytes)) (blocks_wrong size (left - 1) (number + 1) (Some (used (records_of (take size bytes)))) (drop size bytes))
 blocks_more size zero number before bytes l = absurd (omega arith)
 blocks_more size (suc n) number before bytes l = let e : suc n - 1 ≡ n = omega arith in rw e refl

@@ -2,7 +2,7 @@
 use Rattle.std.proofs.Common.{◌≡◌, ℕ, zero, suc, ◌+◌, ◌-◌, ◌*◌, ◌<◌, ◌≤◌, List, length, drop, Option, None, Some, refl, sym, ap, ◌∙◌, subst, arith, Ok}
 use Rattle.std.proofs.Math.Nat.{mul-le-mul}
 use Rattle.std.proofs.lemmas.List.{drop-drop, length-drop}
-use Rattle.st_block.specs.Fault.{Fault}
+use Rattle.st_base.specs.Damages.{Fault}
 use Rattle.st_block.specs.BlockText.{used}
 use Rattle.st_block.specs.Scanning.{taken, record_at, count_of, records_of, block_wrong}
 use Rattle.st_block.specs.Layout.{Stand, IsWholeBlock}

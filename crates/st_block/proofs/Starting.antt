@@ -1,13 +1,14 @@
 -- A scan before the first block.
 use Rattle.std.proofs.Common.{◌≡◌, ℕ, zero, suc, ◌-◌, ◌*◌, ◌/◌, ◌^◌, ◌<◌, ◌≤◌, Bool, true, false, cond, List, [], ◌∷◌, length, take, drop, min, Option, None, Some, refl, sym, ap, ◌∙◌, subst, arith, Ok, Err, Result}
 use Rattle.std.specs.Prelude.{nat_eq, nat_lt, if◌then◌else◌, ◌||◌}
+use Rattle.std.specs.Option.{option_or}
 use Rattle.std.specs.List.{list_any}
 use Rattle.std.proofs.Math.Nat.{mul-div_cancel_left}
 use Rattle.std.proofs.lemmas.List.Elements.{All-nil}
 use Rattle.std.proofs.lemmas.Bool.Decides.{nat_tests}
 use Rattle.byteorder.specs.Endian.{little_number}
 use Rattle.st_base.specs.Records.{InRange}
-use Rattle.st_block.specs.Fault.{Fault, fault_of, or_else}
+use Rattle.st_base.specs.Damages.{Fault, fault_of}
 use Rattle.st_block.specs.BlockText.{IsBlockSize, IsShort}
 use Rattle.st_block.specs.Scanning.{is_block_size, nearest, extent_wrong, start_wrong, blocks_wrong, file_wrong, fails}
 use Rattle.st_block.specs.Progress.{Progress, IsSound, fresh}
@@ -121,7 +122,7 @@ starts_stand bytes none =
       done = omega arith;
       whole = whole.0;
       wrong =
-          ap (λ (o : Option Fault). or_else o (blocks_wrong size count 0 None bytes)) none
+          ap (λ (o : Option Fault). option_or o (blocks_wrong size count 0 None bytes)) none
           ∙ (ap (λ (n : ℕ). blocks_wrong size n 0 None bytes) (sym all) ∙ ap (λ (n : ℕ). blocks_wrong size (count - 0) 0 None (drop n bytes)) (sym none_before));
       read = [];
       fills = tt;
@@ -139,7 +140,7 @@ starts_stand bytes none =
 starts_damaged : (bytes : List ℕ) (f : Fault) → start_wrong (take 8 bytes) (length bytes) ≡ Some f → file_wrong bytes ≡ Some f
 unfolding file_wrong
 starts_damaged bytes f e =
-    ap (λ (o : Option Fault). or_else o (blocks_wrong (little_number 4 (drop 4 (take 8 bytes))) (length bytes / little_number 4 (drop 4 (take 8 bytes))) 0 None bytes)) e
+    ap (λ (o : Option Fault). option_or o (blocks_wrong (little_number 4 (drop 4 (take 8 bytes))) (length bytes / little_number 4 (drop 4 (take 8 bytes))) 0 None bytes)) e
 
 -- so what starts at a file's first eight bytes enters the file
 pub enters : (bytes head : List ℕ) (extent : ℕ) (result : Result Progress HeadErr) → head ≡ take 8 bytes → length bytes ≡ extent → Starts head extent result → EntersNew bytes result

@@ -1,12 +1,13 @@
 -- The steps of a scan: behind a record, at the next block, at a check that fails, and at the end.
 use Rattle.std.proofs.Common.{◌≡◌, ℕ, ◌+◌, ◌-◌, ◌*◌, ◌<◌, ◌≤◌, List, [], ◌∷◌, ◌++◌, append_assoc, append-nil, length, length-append, take, drop, Option, None, Some, sym, ap, ◌∙◌, subst, arith}
 use Rattle.std.specs.Prelude.{All}
+use Rattle.std.specs.Option.{option_or}
 use Rattle.std.specs.List.{flat_map}
 use Rattle.std.proofs.lemmas.List.{drop-drop, length-drop, take_all}
 use Rattle.std.proofs.lemmas.List.Elements.{All-append}
 use Rattle.std.proofs.Math.Seq.{take-add}
 use Rattle.st_base.specs.Records.{Rec, InRange}
-use Rattle.st_block.specs.Fault.{Fault, or_else}
+use Rattle.st_base.specs.Damages.{Fault}
 use Rattle.st_block.specs.BlockText.{room, used, block_text, blocks, blocks_text, BlockText, Fills, IsShort, HasFile}
 use Rattle.st_block.specs.Position.{places, places_of, positions}
 use Rattle.st_block.specs.Scanning.{taken, record_at, records_at, count_of, records_of, layout_wrong, join_wrong, block_wrong, blocks_wrong, file_wrong}
@@ -59,7 +60,7 @@ goes_passed p bytes given on l =
     }
 
 -- what is wrong with the file, where a block is to come
-wrong_here : (p : Progress) (bytes : List ℕ) (given : List Placed) (block : List ℕ) → GoesOn p bytes given → p.done < p.blocks → block ≡ take p.size (drop (p.size * p.done) bytes) → file_wrong bytes ≡ or_else (block_wrong p.size p.done p.before block) (blocks_wrong p.size (p.blocks - (p.done + 1)) (p.done + 1) (Some (used (records_of block))) (drop (p.size * (p.done + 1)) bytes))
+wrong_here : (p : Progress) (bytes : List ℕ) (given : List Placed) (block : List ℕ) → GoesOn p bytes given → p.done < p.blocks → block ≡ take p.size (drop (p.size * p.done) bytes) → file_wrong bytes ≡ option_or (block_wrong p.size p.done p.before block) (blocks_wrong p.size (p.blocks - (p.done + 1)) (p.done + 1) (Some (used (records_of block))) (drop (p.size * (p.done + 1)) bytes))
 wrong_here p bytes given block on l same =
     let rest = drop (p.size * p.done) bytes in
     let less : p.blocks - p.done - 1 ≡ p.blocks - (p.done + 1) = omega arith in
@@ -67,14 +68,14 @@ wrong_here p bytes given block on l same =
     let behind : drop p.size rest ≡ drop (p.size * (p.done + 1)) bytes = drop-drop p.size (p.size * p.done) bytes ∙ ap (λ (n : ℕ). drop n bytes) far in
     on.wrong
     ∙ (blocks_more p.size (p.blocks - p.done) p.done p.before rest (omega arith)
-    ∙ (ap (λ (b : List ℕ). or_else (block_wrong p.size p.done p.before b) (blocks_wrong p.size (p.blocks - p.done - 1) (p.done + 1) (Some (used (records_of b))) (drop p.size rest))) (sym same)
-    ∙ (ap (λ (n : ℕ). or_else (block_wrong p.size p.done p.before block) (blocks_wrong p.size n (p.done + 1) (Some (used (records_of block))) (drop p.size rest))) less
-    ∙ ap (λ (b : List ℕ). or_else (block_wrong p.size p.done p.before block) (blocks_wrong p.size (p.blocks - (p.done + 1)) (p.done + 1) (Some (used (records_of block))) b)) behind)))
+    ∙ (ap (λ (b : List ℕ). option_or (block_wrong p.size p.done p.before b) (blocks_wrong p.size (p.blocks - p.done - 1) (p.done + 1) (Some (used (records_of b))) (drop p.size rest))) (sym same)
+    ∙ (ap (λ (n : ℕ). option_or (block_wrong p.size p.done p.before block) (blocks_wrong p.size n (p.done + 1) (Some (used (records_of block))) (drop p.size rest))) less
+    ∙ ap (λ (b : List ℕ). option_or (block_wrong p.size p.done p.before block) (blocks_wrong p.size (p.blocks - (p.done + 1)) (p.done + 1) (Some (used (records_of block))) b)) behind)))
 
 -- a check of the next block fails
 pub stops_there : (p : Progress) (bytes : List ℕ) (given : List Placed) (block : List ℕ) (f : Fault) → GoesOn p bytes given → p.done < p.blocks → block ≡ take p.size (drop (p.size * p.done) bytes) → block_wrong p.size p.done p.before block ≡ Some f → file_wrong bytes ≡ Some f
 stops_there p bytes given block f on l same wrong =
-    wrong_here p bytes given block on l same ∙ ap (λ (o : Option Fault). or_else o (blocks_wrong p.size (p.blocks - (p.done + 1)) (p.done + 1) (Some (used (records_of block))) (drop (p.size * (p.done + 1)) bytes))) wrong
+    wrong_here p bytes given block on l same ∙ ap (λ (o : Option Fault). option_or o (blocks_wrong p.size (p.blocks - (p.done + 1)) (p.done + 1) (Some (used (records_of block))) (drop (p.size * (p.done + 1)) bytes))) wrong
 
 -- at the first record of the next block
 pub goes_entered : (p : Progress) (bytes : List ℕ) (given : List Placed) (block : List ℕ) → GoesOn p bytes given → p.left ≡ 0 → p.done < p.blocks → block ≡ take p.size (drop (p.size * p.done) bytes) → length block ≡ p.size → block_wrong p.size p.done p.before block ≡ None → IsWholeBlock block → GoesOn (entered p block) bytes given
@@ -104,7 +105,7 @@ goes_entered p bytes given block on none_left l same len none whole =
       most = on.most;
       done = omega arith;
       whole = on.whole;
-      wrong = wrong_here p bytes given block on l same ∙ ap (λ (o : Option Fault). or_else o (blocks_wrong p.size (p.blocks - (p.done + 1)) (p.done + 1) (Some (used b)) (drop (p.size * (p.done + 1)) bytes))) none;
+      wrong = wrong_here p bytes given block on l same ∙ ap (λ (o : Option Fault). option_or o (blocks_wrong p.size (p.blocks - (p.done + 1)) (p.done + 1) (Some (used b)) (drop (p.size * (p.done + 1)) bytes))) none;
       read = on.read ++ b ∷ [];
       fills = fills_push p.size on.read b on.fills many (omega arith) apart;
       count = length-append on.read (b ∷ []) ∙ ap (λ (n : ℕ). n + 1) on.count;

@@ -1,6 +1,7 @@
 -- The text of fields: how long it is, and that bytes at which nothing is wrong are the text.
 use Rattle.std.proofs.Common.{◌≡◌, ℕ, zero, suc, ◌+◌, ◌-◌, ◌*◌, ◌/◌, ◌%◌, ◌<◌, ◌≤◌, ◌^◌, false, cond, List, [], ◌∷◌, ◌++◌, length, length-append, get_or, take, drop, Option, Some, None, refl, sym, ap, ◌∙◌, arith, append_assoc}
 use Rattle.std.specs.Prelude.{nat_eq, replicate}
+use Rattle.std.specs.Option.{option_or}
 use Rattle.std.specs.Int.{byte_at, bytes_low_first}
 use Rattle.std.proofs.Math.Nat.{div-div-eq-div-mul, pow-suc}
 use Rattle.std.proofs.lemmas.List.{length-replicate, length-take-le, drop-drop, get_or-drop, length-drop}
@@ -10,7 +11,7 @@ use Rattle.std.proofs.lemmas.Option.{none-some}
 use Rattle.std.proofs.lemmas.Bool.Decides.{nat_tests}
 use Rattle.byteorder.specs.Endian.{little_bytes, little_number, little_from}
 use Rattle.byteorder.specs.Numbers.{length-bytes_low_first, little_from-cons}
-use Rattle.st_block.specs.Fault.{Fault, or_else}
+use Rattle.st_base.specs.Damages.{Fault}
 use Rattle.st_block.specs.Fields.{Field, Number, Any, Nanoseconds, Zeros, Body, size_of, text_of, sizes, text, not_zero, not_same, field_wrong, first_wrong, IsRead, AreRead}
 
 -- one text behind another
@@ -37,12 +38,12 @@ length-text [] = refl
 length-text (f ∷ fields) = length-append (text_of f) (text fields) ∙ ap (λ n. n + length (text fields)) (length-text_of f) ∙ ap (λ n. size_of f + n) (length-text fields)
 
 -- the first of three checks
-or_else-assoc : (a b c : Option Fault) → or_else (or_else a b) c ≡ or_else a (or_else b c)
-or_else-assoc None b c = refl
-or_else-assoc (Some f) b c = refl
+option_or-assoc : (a b c : Option Fault) → option_or (option_or a b) c ≡ option_or a (option_or b c)
+option_or-assoc None b c = refl
+option_or-assoc (Some f) b c = refl
 
 -- what is wrong first at some fields and others behind them
-pub first_wrong-append : (place : ℕ) (xs ys : List Field) (bytes : List ℕ) → first_wrong place (xs ++ ys) bytes ≡ or_else (first_wrong place xs bytes) (first_wrong (place + sizes xs) ys (drop (sizes xs) bytes))
+pub first_wrong-append : (place : ℕ) (xs ys : List Field) (bytes : List ℕ) → first_wrong place (xs ++ ys) bytes ≡ option_or (first_wrong place xs bytes) (first_wrong (place + sizes xs) ys (drop (sizes xs) bytes))
 first_wrong-append place [] ys bytes = ap (λ n. first_wrong n ys bytes) (let e : place ≡ place + 0 = omega arith in e)
 first_wrong-append place (f ∷ xs) ys bytes =
     let more = first_wrong-append (place + size_of f) xs ys (drop (size_of f) bytes) in
@@ -50,8 +51,8 @@ first_wrong-append place (f ∷ xs) ys bytes =
     let there : drop (sizes xs) (drop (size_of f) bytes) ≡ drop (size_of f + sizes xs) bytes = drop-drop (sizes xs) (size_of f) bytes in
     let step : first_wrong (place + size_of f + sizes xs) ys (drop (sizes xs) (drop (size_of f) bytes)) ≡ first_wrong (place + (size_of f + sizes xs)) ys (drop (size_of f + sizes xs) bytes) =
     ap (λ n. first_wrong n ys (drop (sizes xs) (drop (size_of f) bytes))) here ∙ ap (λ l. first_wrong (place + (size_of f + sizes xs)) ys l) there in
-    ap (λ o. or_else (field_wrong place f bytes) o) (more ∙ ap (λ o. or_else (first_wrong (place + size_of f) xs (drop (size_of f) bytes)) o) step)
-    ∙ sym (or_else-assoc (field_wrong place f bytes) (first_wrong (place + size_of f) xs (drop (size_of f) bytes)) (first_wrong (place + (size_of f + sizes xs)) ys (drop (size_of f + sizes xs) bytes)))
+    ap (λ o. option_or (field_wrong place f bytes) o) (more ∙ ap (λ o. option_or (first_wrong (place + size_of f) xs (drop (size_of f) bytes)) o) step)
+    ∙ sym (option_or-assoc (field_wrong place f bytes) (first_wrong (place + size_of f) xs (drop (size_of f) bytes)) (first_wrong (place + (size_of f + sizes xs)) ys (drop (size_of f + sizes xs) bytes)))
 
 -- each is a byte
 abbrev pub AreBytes : List ℕ → Type 0
@@ -84,7 +85,7 @@ number_again (suc k) (x ∷ xs) bytes l =
     ∙ ap (λ l. x ∷ l) (shifts 0 k (x + 256 * little_number k xs) ∙ ap (λ n. little_bytes k n) high ∙ rest)
 
 -- the first of two checks that both hold
-or_none : (a b : Option Fault) → or_else a b ≡ None → (a ≡ None) × (b ≡ None)
+or_none : (a b : Option Fault) → option_or a b ≡ None → (a ≡ None) × (b ≡ None)
 or_none None b e = (refl, e)
 or_none (Some f) b e = cc
 

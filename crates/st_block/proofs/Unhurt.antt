@@ -12,7 +12,7 @@ use Rattle.std.proofs.lemmas.Bool.Decides.{nat_tests}
 use Rattle.byteorder.specs.Endian.{little_number, little_bytes}
 use Rattle.byteorder.specs.Numbers.{little_number-reads_back}
 use Rattle.st_base.specs.Records.{Rec, InRange}
-use Rattle.st_block.specs.Fault.{fault_of}
+use Rattle.st_base.specs.Damages.{fault_of}
 use Rattle.st_block.specs.Fields.{text, first_wrong}
 use Rattle.st_block.specs.BlockText.{IsBlockSize, room, used, records_fields, block_head, block_fields, block_text, blocks, blocks_text, NoRoom, Fills}
 use Rattle.st_block.specs.Scanning.{captured, records_at, count_of, records_of, layout_from, layout_wrong, join_wrong, block_wrong, blocks_wrong, is_block_size, nearest, start_wrong, file_wrong}

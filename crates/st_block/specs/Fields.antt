@@ -1,8 +1,9 @@
 -- Bytes as a list of fields: their text, and the order in which a reader checks them. Numbers have
 -- their lowest byte first.
 use Rattle.std.specs.Prelude.{◌≡◌, ℕ, ◌+◌, List, [], ◌∷◌, ◌++◌, length, take, drop, replicate, Option, None, Some, nat_eq, nat_lt, if◌then◌else◌}
+use Rattle.std.specs.Option.{option_or}
 use Rattle.byteorder.specs.Endian.{little_bytes, little_number}
-use Rattle.st_block.specs.Fault.{Fault, or_else}
+use Rattle.st_base.specs.Damages.{Fault}
 
 -- what stands in some bytes
 pub data Field : Type 0 where
@@ -69,7 +70,7 @@ field_wrong place (Body body) bytes = None
 abbrev pub first_wrong : ℕ → List Field → List ℕ → Option Fault
 first_wrong place [] bytes = None
 first_wrong place (f ∷ fields) bytes =
-    or_else (field_wrong place f bytes) (first_wrong (place + size_of f) fields (drop (size_of f) bytes))
+    option_or (field_wrong place f bytes) (first_wrong (place + size_of f) fields (drop (size_of f) bytes))
 
 -- a field was read off these bytes where it may be any
 abbrev pub IsRead : Field → List ℕ → Type 0

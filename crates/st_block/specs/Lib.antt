@@ -1,4 +1,3 @@
-pub mod Fault
 pub mod Fields
 pub mod BlockText
 pub mod Position

@@ -2,7 +2,7 @@
 use Rattle.std.specs.Prelude.{◌≡◌, ℕ, ◌+◌, ◌-◌, ◌*◌, ◌%◌, ◌≤◌, List, [], length, drop, Option, None, Some, Result, Ok, Err}
 use Rattle.st_base.specs.Faults.{Rose}
 use Rattle.st_base.specs.Places.{HasPart}
-use Rattle.st_block.specs.Fault.{fault_of}
+use Rattle.st_base.specs.Damages.{fault_of}
 use Rattle.st_block.specs.BlockText.{IsBlockSize, used}
 use Rattle.st_block.specs.Scanning.{taken, count_of, records_of, block_wrong}
 use Rattle.st_block.specs.Layout.{Stand, IsWholeBlock}

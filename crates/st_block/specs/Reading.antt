@@ -1,11 +1,12 @@
 -- What reading one record at its position gives.
 use Rattle.std.specs.Prelude.{◌≡◌, ℕ, ◌+◌, ◌-◌, ◌≤◌, ◌⊎◌, min, Option, None, Some, Result, Ok, Err, List, [], ◌∷◌, length, drop, nat_lt, if◌then◌else◌}
+use Rattle.std.specs.Option.{option_or}
 use Rattle.std.specs.List.{slice_get}
 use Rattle.byteorder.specs.Endian.{little_number}
 use Rattle.st_base.specs.Records.{Rec}
 use Rattle.st_base.specs.Faults.{Rose}
 use Rattle.st_base.specs.Places.{HasPart}
-use Rattle.st_block.specs.Fault.{Fault, fault_of, or_else}
+use Rattle.st_base.specs.Damages.{Fault, fault_of}
 use Rattle.st_block.specs.Fields.{Number, above, first_wrong}
 use Rattle.st_block.specs.BlockText.{HasFile, BlockText}
 use Rattle.st_block.specs.Position.{PositionOf}
@@ -26,14 +27,14 @@ body_outside size position len = above (position + 12) len (size - position - 48
 
 -- both are to lie in the file
 abbrev pub record_outside : ℕ → ℕ → ℕ → Option Fault
-record_outside size position len = or_else (head_outside size position) (body_outside size position len)
+record_outside size position len = option_or (head_outside size position) (body_outside size position len)
 
 -- What is wrong first in the bytes of a head: its status, the two offsets of its body, its
 -- nanoseconds, and then its captured length.
 abbrev pub head_wrong : ℕ → ℕ → List ℕ → Option Fault
 head_wrong size position head =
-    or_else (first_wrong (position + 20) (Number 4 0 ∷ Number 2 48 ∷ Number 2 48 ∷ []) (drop 20 head))
-    (or_else (above (position + 8) (little_number 4 (drop 8 head)) 999999999)
+    option_or (first_wrong (position + 20) (Number 4 0 ∷ Number 2 48 ∷ Number 2 48 ∷ []) (drop 20 head))
+    (option_or (above (position + 8) (little_number 4 (drop 8 head)) 999999999)
     (body_outside size position (little_number 4 (drop 12 head))))
 
 -- the head has these numbers

@@ -1,9 +1,10 @@
 -- The checks of a block file, in their order: the first that fails, where one does.
 use Rattle.std.specs.Prelude.{ℕ, zero, suc, ◌+◌, ◌-◌, ◌*◌, ◌/◌, min, Bool, List, [], ◌∷◌, length, take, drop, Option, None, Some, nat_eq, nat_lt, if◌then◌else◌}
+use Rattle.std.specs.Option.{option_or}
 use Rattle.std.specs.List.{list_any}
 use Rattle.byteorder.specs.Endian.{little_number}
 use Rattle.st_base.specs.Records.{Rec}
-use Rattle.st_block.specs.Fault.{Fault, or_else}
+use Rattle.st_base.specs.Damages.{Fault}
 use Rattle.st_block.specs.Fields.{not_same, first_wrong}
 use Rattle.st_block.specs.BlockText.{padded, used, block_fields}
 
@@ -63,13 +64,13 @@ join_wrong size place (Some before) block =
 -- block before, then the fields in order of offset
 unfoldable pub block_wrong : ℕ → ℕ → Option ℕ → List ℕ → Option Fault
 block_wrong size number before block =
-    or_else (layout_wrong (size * number) block) (or_else (join_wrong size (size * number) before block) (first_wrong (size * number) (block_fields size number (records_of block)) block))
+    option_or (layout_wrong (size * number) block) (option_or (join_wrong size (size * number) before block) (first_wrong (size * number) (block_fields size number (records_of block)) block))
 
 -- what is wrong first with so many blocks, of which the first has this number
 abbrev pub blocks_wrong : ℕ → ℕ → ℕ → Option ℕ → List ℕ → Option Fault
 blocks_wrong size zero number before bytes = None
 blocks_wrong size (suc left) number before bytes =
-    or_else (block_wrong size number before (take size bytes)) (blocks_wrong size left (number + 1) (Some (used (records_of (take size bytes)))) (drop size bytes))
+    option_or (block_wrong size number before (take size bytes)) (blocks_wrong size left (number + 1) (Some (used (records_of (take size bytes)))) (drop size bytes))
 
 -- one of the nine powers of two from 4,096 to 1,048,576
 abbrev pub is_block_size : ℕ → Bool
@@ -88,10 +89,10 @@ extent_wrong size length = if nat_eq length (nearest size length) then None else
 abbrev pub start_wrong : List ℕ → ℕ → Option Fault
 start_wrong head length =
     if nat_lt length 8 then fails 0 length 4096
-    else or_else (not_same 0 (little_number 4 head) 1)
+    else option_or (not_same 0 (little_number 4 head) 1)
     (if is_block_size (little_number 4 (drop 4 head)) then extent_wrong (little_number 4 (drop 4 head)) length else fails 4 (little_number 4 (drop 4 head)) 4096)
 
 -- what is wrong first with a file
 unfoldable pub file_wrong : List ℕ → Option Fault
 file_wrong bytes =
-    or_else (start_wrong (take 8 bytes) (length bytes)) (blocks_wrong (little_number 4 (drop 4 (take 8 bytes))) (length bytes / little_number 4 (drop 4 (take 8 bytes))) 0 None bytes)
+    option_or (start_wrong (take 8 bytes) (length bytes)) (blocks_wrong (little_number 4 (drop 4 (take 8 bytes))) (length bytes / little_number 4 (drop 4 (take 8 bytes))) 0 None bytes)

@@ -4,7 +4,7 @@ use Rattle.std.specs.List.{flat_map}
 use Rattle.byteorder.specs.Endian.{little_number}
 use Rattle.st_base.specs.Faults.{Rose}
 use Rattle.st_base.specs.Records.{Rec, InRange}
-use Rattle.st_block.specs.Fault.{fault_of}
+use Rattle.st_base.specs.Damages.{fault_of}
 use Rattle.st_block.specs.BlockText.{IsBlockSize, IsShort, HasFile, Fills, BlockText, blocks_text, used, room}
 use Rattle.st_block.specs.Position.{places, places_of, positions}
 use Rattle.st_block.specs.Scanning.{record_at, records_at, blocks_wrong, start_wrong, file_wrong}

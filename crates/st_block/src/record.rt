@@ -3,7 +3,7 @@ ghost use Rattle.byteorder.specs.Endian.{little_number};
 ghost use Rattle.st_base.specs.Records.{Rec};
 ghost use Rattle.st_base.specs.Faults.{CountsOn, Rose};
 ghost use Rattle.st_base.specs.Places.{HasPart};
-ghost use Rattle.st_block.specs.Fault.{fault_of};
+ghost use Rattle.st_base.specs.Damages.{fault_of};
 ghost use Rattle.st_block.specs.Fields.{not_same, above};
 ghost use Rattle.st_block.specs.Reading.{head_outside, body_outside, record_outside, head_wrong, IsHead, HeadCause, BodyCause, GivesHead, GivesBody, head_reads, body_reads, StandsAt, HeadOf, BodyOf};
 

@@ -1,5 +1,5 @@
 ghost use Rattle.std.specs.Prelude.{◌≡◌, ◌≤◌, ◌+◌, ◌*◌, ◌%◌, ◌^◌, length, None, Some, MatchResult, IfOk, OnOk, option_map};
-ghost use Rattle.st_block.specs.Fault.{fault_of};
+ghost use Rattle.st_base.specs.Damages.{fault_of};
 ghost use Rattle.st_block.specs.Scanning.{join_wrong, block_wrong};
 ghost use Rattle.st_block.specs.Layout.{IsLayout, IsWholeBlock};
 

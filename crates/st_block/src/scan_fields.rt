@@ -1,7 +1,8 @@
 ghost use Rattle.std.specs.Prelude.{◌≡◌, ◌≤◌, ◌<◌, ◌+◌, ◌^◌, ◌-◌, [], ◌∷◌, List, length, take, drop, option_map, nat_lt, if◌then◌else◌};
+ghost use Rattle.std.specs.Option.{option_or};
 ghost use Rattle.byteorder.specs.Endian.{little_number};
 ghost use Rattle.st_base.specs.Records.{Rec};
-ghost use Rattle.st_block.specs.Fault.{fault_of, or_else};
+ghost use Rattle.st_base.specs.Damages.{fault_of};
 ghost use Rattle.st_block.specs.Fields.{not_same, above, not_zero, first_wrong, Zeros};
 ghost use Rattle.st_block.specs.BlockText.{padded, record_head, record_fields, records_fields, block_fields, block_head};
 ghost use Rattle.st_block.specs.Scanning.{captured, taken, count_of, record_at, records_at, records_of};
@@ -13,7 +14,7 @@ use st_base::Damage;
 
 /// The first of two checks that fails.
 pub fn first_of(one: Option<Damage>, other: Option<Damage>) -> Option<Damage>
-    ensures { option_map fault_of result ≡ or_else (option_map fault_of one) (option_map fault_of other) }
+    ensures { option_map fault_of result ≡ option_or (option_map fault_of one) (option_map fault_of other) }
 {
     match one {
         Some(damage) => Some(damage),

@@ -1,6 +1,6 @@
 ghost use Rattle.std.specs.Prelude.{◌≡◌, ◌≤◌, ◌+◌, ◌*◌, ◌%◌, ◌^◌, ◌-◌, length, drop, None, Some, MatchResult, IfOk};
 ghost use Rattle.byteorder.specs.Endian.{little_number};
-ghost use Rattle.st_block.specs.Fault.{fault_of};
+ghost use Rattle.st_base.specs.Damages.{fault_of};
 ghost use Rattle.st_block.specs.BlockText.{used, last_of, padded};
 ghost use Rattle.st_block.specs.Scanning.{captured, taken, count_of, record_at, records_of, layout_wrong};
 ghost use Rattle.st_block.specs.Layout.{Fit, IsLayout};

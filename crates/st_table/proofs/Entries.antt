@@ -3,7 +3,7 @@ use Rattle.std.proofs.Common.{◌≡◌, ℕ, ◌+◌, Bool, true, false, List, 
 use Rattle.std.specs.Option.{option_or}
 use Rattle.std.specs.Borrow.{Bor}
 use Rattle.std.specs.Prelude.{if◌then◌else◌}
-use Rattle.st_tblock.specs.Fault.{Fault, fault_of, no}
+use Rattle.st_base.specs.Damages.{Fault, fault_of, no}
 use Rattle.st_tblock.specs.Reading.{Read}
 use Rattle.st_tblock.specs.Standing.{Standing}
 use Rattle.st_tblock.specs.Block.{Row, Entry, Walk, next_in, front_of, key_of}

@@ -2,7 +2,7 @@
 use Rattle.std.proofs.Common.{◌≡◌, ℕ, ◌≤◌, true, List, [], ◌∷◌, ◌++◌, take, drop, Option, Some, None, Result, Ok, Err, sym, ap, ◌∙◌, subst, inl, inr, arith}
 use Rattle.std.specs.Prelude.{nat_eq}
 use Rattle.byteorder.specs.Endian.{little_number}
-use Rattle.st_tblock.specs.Fault.{Fault, no}
+use Rattle.st_base.specs.Damages.{Fault, no}
 use Rattle.st_tblock.specs.Standing.{Standing}
 use Rattle.st_tblock.specs.Block.{Row}
 use Rattle.st_tblock.specs.Handles.{handle_in, handles_in, footer_in, named, IsHandle}

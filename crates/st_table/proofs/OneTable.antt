@@ -2,7 +2,7 @@
 use Rattle.std.proofs.Common.{◌≡◌, ℕ, ◌+◌, ◌-◌, List, [], ◌∷◌, ◌++◌, length, take, drop, Option, Some, None, Result, Ok, sym, ap, ◌∙◌, subst}
 use Rattle.st_tblock.specs.Reading.{Read}
 use Rattle.st_tblock.specs.Block.{Row, Good}
-use Rattle.st_tblock.specs.Fault.{Fault}
+use Rattle.st_base.specs.Damages.{Fault}
 use Rattle.st_tblock.specs.Handles.{IsHandle, footer_in}
 use Rattle.st_tblock.specs.declared.handle.Handle.{Handle}
 use Rattle.st_tblock.proofs.Following.{one_reading}

@@ -2,7 +2,7 @@
 use Rattle.std.proofs.Common.{◌≡◌, ℕ, ◌-◌, Bool, true, false, List, [], ◌∷◌, ◌++◌, length, take, drop, All, Option, Some, None, Result, Ok, Err, refl, sym, ap, ◌∙◌, subst, inl, inr, arith}
 use Rattle.std.specs.Prelude.{IsTrue, not, if◌then◌else◌, nat_lt}
 use Rattle.std.proofs.lemmas.List.Elements.{All-weaker, All-head, All-tail, All-append, All-same, All-cons, All-nil}
-use Rattle.st_tblock.specs.Fault.{Fault, no}
+use Rattle.st_base.specs.Damages.{Fault, no}
 use Rattle.st_tblock.specs.Reading.{Read}
 use Rattle.st_tblock.specs.Block.{Row, Walk, Rows, Good, next_in, is_above, is_before, is_had}
 use Rattle.st_tblock.specs.Cursor.{fault_at}

@@ -2,7 +2,7 @@
 use Rattle.std.proofs.Common.{◌≡◌, ℕ, Bool, true, List, [], ◌∷◌, ◌++◌, length, All, Option, Some, Ok, Err, refl, sym, ap, ◌∙◌, subst, inl, inr, rules}
 use Rattle.std.specs.Prelude.{IsTrue}
 use Rattle.std.proofs.lemmas.List.Elements.{All-push, All-head, All-cons}
-use Rattle.st_tblock.specs.Fault.{no, fault_of}
+use Rattle.st_base.specs.Damages.{no, fault_of}
 use Rattle.st_tblock.specs.Standing.{Standing}
 use Rattle.st_tblock.specs.Block.{Row, Entry, Walk, Rows, Good, next_in, key_of, past, start, front_of, entry_in, is_before, is_above, is_had}
 use Rattle.st_tblock.specs.Cursor.{Begins}

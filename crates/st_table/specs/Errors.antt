@@ -1,7 +1,7 @@
 -- Why a call on a table refuses.
 use Rattle.std.specs.Prelude.{◌≡◌, ℕ, ◌≤◌, List, Option, Result, IfErr}
 use Rattle.st_base.specs.Faults.{Rose}
-use Rattle.st_tblock.specs.Fault.{Fault, fault_of}
+use Rattle.st_base.specs.Damages.{Fault, fault_of}
 use Rattle.st_tblock.specs.declared.cursor.CursorErr.{CursorErr}
 use Rattle.st_tblock.specs.declared.cursor.CursorErr.TheVariants as cursor
 use Rattle.st_table.specs.declared.errors.TableErr.{TableErr}

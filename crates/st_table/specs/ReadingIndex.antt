@@ -1,6 +1,6 @@
 -- What reading a table's footer and index block finds.
 use Rattle.std.specs.Prelude.{◌≡◌, ℕ, ◌+◌, ◌-◌, ◌≤◌, List, [], ◌∷◌, length, take, drop, Option, Some, None, Bool, true, false, ◌⊎◌, Result, Ok, Err, nat_lt, if◌then◌else◌, IsTrue}
-use Rattle.st_tblock.specs.Fault.{Fault}
+use Rattle.st_base.specs.Damages.{Fault}
 use Rattle.st_tblock.specs.Reading.{Read}
 use Rattle.st_tblock.specs.Standing.{Standing}
 use Rattle.st_tblock.specs.Block.{Row, Entry, Good, next_in, key_of, past, is_had}

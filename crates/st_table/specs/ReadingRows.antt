@@ -2,7 +2,7 @@
 use Rattle.std.specs.Prelude.{◌≡◌, ℕ, ◌+◌, List, [], All, Option, Some, None, Bool, ◌&&◌, ◌⊎◌, Result, Ok, Err, if◌then◌else◌, IsTrue}
 use Rattle.std.specs.Option.{option_or}
 use Rattle.std.specs.Borrow.{Bor}
-use Rattle.st_tblock.specs.Fault.{Fault, no}
+use Rattle.st_base.specs.Damages.{Fault, no}
 use Rattle.st_tblock.specs.Reading.{Read}
 use Rattle.st_tblock.specs.Standing.{Standing}
 use Rattle.st_tblock.specs.Block.{Row, Entry, Walk, Rows, Good, next_in, key_of, past, start, restarts_in, is_before, is_above, is_had}

@@ -10,7 +10,7 @@ ghost use Rattle.st_tblock.specs.Block.{Row, front_of, is_before};
 ghost use Rattle.st_table.specs.ReadingRows.{RefusesBlock};
 
 use crate::errors::TableErr;
-use crate::rows::{Bounds, broken, refused_by};
+use crate::rows::{Bounds, refused_by};
 use crate::stored::read_block;
 use st_base::{Damage, NoMemory, Octets, Reader, read_whole};
 use st_tblock::{EntryCursor, Handle, get_handle, read_footer};
@@ -47,7 +47,7 @@ fn next_entry(alloc: Global, cursor: &mut EntryCursor<'_>) -> Result<Option<Inde
                 Ok(key) => Ok(Some(IndexEntry { key, handle })),
                 Err(NoMemory) => Err(TableErr::NoMemory),
             },
-            None => Err(broken(place)),
+            None => Err(TableErr::Damaged(Damage::broken(place))),
         },
         Ok(None) => Ok(None),
         Err(error) => Err(refused_by(error)),

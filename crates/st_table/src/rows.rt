@@ -1,10 +1,9 @@
 //! The rows of a data block, which lie between the index keys around it.
 
 ghost use Rattle.std.specs.Prelude.{◌≡◌, ◌+◌, ◌^◌, ◌<◌, ◌≤◌, List, ℕ, length, IfOk, IfErr, OnSome, ◌≢◌, option_map, OnOk, MatchResult, ◌++◌, ◌∷◌, []};
-ghost use Rattle.st_tblock.specs.Fault.{no};
 ghost use Rattle.st_tblock.specs.Block.{Row as Pair, Good, front_of};
 ghost use Rattle.st_tblock.specs.Lookup.{lookup};
-ghost use Rattle.st_table.specs.Errors.{refusal_of, Broken, Repeats};
+ghost use Rattle.st_table.specs.Errors.{Repeats};
 ghost use Rattle.st_table.specs.ReadingRows.{lies_in, StepsOn, ReadsValue, RefusesBlock, answer_behind};
 ghost use Rattle.st_table.specs.ReadingRange.{KeepsRange};
 ghost use Rattle.st_table.specs.Lookup.{in_range};
@@ -31,17 +30,6 @@ impl<'a> Model for Bounds<'a> {
     ghost Value = { Around };
 
     ghost view = { λ a. record { low = option_map (λ k. k.now) a.low; high = a.high.now } };
-}
-
-/// A yes-or-no check that fails at `place`.
-pub fn broken(place: u64) -> TableErr
-    ensures { refusal_of result ≡ Broken (no place) }
-{
-    TableErr::Damaged(Damage {
-        place,
-        found: 0,
-        want: 1,
-    })
 }
 
 /// The same refusal as a cursor's.
@@ -83,7 +71,7 @@ fn next_row<'a>(
             if is_within(bounds, cursor.key()) {
                 return Ok(Some(value));
             }
-            Err(broken(place))
+            Err(TableErr::Damaged(Damage::broken(place)))
         }
         Ok(None) => Ok(None),
         Err(error) => Err(refused_by(error)),

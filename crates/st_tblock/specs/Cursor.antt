@@ -1,6 +1,6 @@
 -- What a cursor over a block gives.
 use Rattle.std.specs.Prelude.{◌≡◌, ℕ, ◌+◌, List, [], ◌∷◌, Option, Some, None, Result, Ok, Err, if◌then◌else◌, IsTrue}
-use Rattle.st_tblock.specs.Fault.{Fault, fault_of, no}
+use Rattle.st_base.specs.Damages.{Fault, fault_of, no}
 use Rattle.st_tblock.specs.Reading.{Read}
 use Rattle.st_tblock.specs.Standing.{Standing}
 use Rattle.st_tblock.specs.Block.{Row, Entry, Walk, next_in, key_of, past, is_had, restarts_in, start}

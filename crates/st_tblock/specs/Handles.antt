@@ -2,7 +2,7 @@
 use Rattle.std.specs.Prelude.{◌≡◌, ℕ, ◌-◌, ◌^◌, ◌<◌, List, [], ◌++◌, length, take, drop, replicate, Option, Some, None, Result, Ok, Err, nat_eq, if◌then◌else◌}
 use Rattle.byteorder.specs.Endian.{little_bytes, little_number}
 use Rattle.st_tblock.specs.Varint.{varint_of}
-use Rattle.st_tblock.specs.Fault.{Fault, no}
+use Rattle.st_base.specs.Damages.{Fault, no}
 use Rattle.st_tblock.specs.Reading.{Read, go, number_in}
 use Rattle.st_tblock.specs.declared.handle.Handle.{Handle}
 use Rattle.st_tblock.specs.declared.handle.TheConstants.{MAGIC}

@@ -1,5 +1,4 @@
 pub mod Varint
-pub mod Fault
 pub mod Reading
 pub mod Handles
 pub mod Block

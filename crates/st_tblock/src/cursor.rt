@@ -1,5 +1,4 @@
 ghost use Rattle.std.specs.Prelude.{◌≡◌, ◌≤◌, ◌<◌, ◌+◌, ◌^◌, ◌++◌, List, ℕ, length, take, Some, Option, IfSome, IfOk, OnOk, OnErr, OnSome, option_map};
-ghost use Rattle.st_tblock.specs.Fault.{fault_of, no};
 ghost use Rattle.st_tblock.specs.Block.{numbers_in, next_in, front_of, key_of, is_above};
 
 use crate::entry::{Parts, entry_at};
@@ -48,17 +47,6 @@ impl<'a> Model for EntryCursor<'a> {
     } };
 
     ghost invariant = { λ a. a.place + a.at + length a.rest.now < 2 ^ 64 };
-}
-
-/// A yes-or-no check that fails at `place`.
-fn broken(place: u64) -> Damage
-    ensures { fault_of result ≡ no place }
-{
-    Damage {
-        place,
-        found: 0,
-        want: 1,
-    }
 }
 
 /// The last key, or no bytes.
@@ -150,7 +138,7 @@ impl<'a> EntryCursor<'a> {
                 left,
                 rest,
             }),
-            None => Err(broken(place)),
+            None => Err(Damage::broken(place)),
         }
     }
 
@@ -178,15 +166,15 @@ impl<'a> EntryCursor<'a> {
             if all_had(self.at, self.left) {
                 return Ok(None);
             }
-            return Err(broken(self.place));
+            return Err(Damage::broken(self.place));
         }
         match entry_at(front(&self.last).len(), self.rest) {
-            None => Err(broken(self.place + self.at)),
+            None => Err(Damage::broken(self.place + self.at)),
             Some((parts, rest)) => {
                 if rises(&self.last, parts.shared, parts.fresh) {
                     return Ok(Some((parts, rest)));
                 }
-                Err(broken(self.place + self.at))
+                Err(Damage::broken(self.place + self.at))
             }
         }
     }

@@ -1,7 +1,7 @@
 ghost use Rattle.std.specs.Prelude.{◌≡◌, ◌≤◌, ◌<◌, ◌+◌, ◌^◌, ◌++◌, List, ℕ, length, replicate, IfSome, Some, Ok, Err, MatchResult, option_map};
 ghost use Rattle.arrayvec.specs.ArrayVec.{array_vec_len};
 ghost use Rattle.byteorder.specs.Endian.{little_bytes};
-ghost use Rattle.st_tblock.specs.Fault.{fault_of};
+ghost use Rattle.st_base.specs.Damages.{fault_of};
 ghost use Rattle.st_tblock.specs.Reading.{number_in};
 ghost use Rattle.st_tblock.specs.Handles.{handle_in, handle_text, handles_in, padded, footer_text, footer_in, InRange};
 
@@ -146,10 +146,6 @@ pub fn read_footer(bytes: &[u8; 48]) -> Result<(Handle, Handle), Damage>
     }
     match handles_at(front) {
         Some(handles) => Ok(handles),
-        None => Err(Damage {
-            place: 0,
-            found: 0,
-            want: 1,
-        }),
+        None => Err(Damage::broken(0)),
     }
 }

@@ -1,5 +1,5 @@
 use Rattle.std.proofs.Common.{arith}
-use Rattle.st_tblock.specs.Fault.{fault_of}
+use Rattle.st_base.specs.Damages.{fault_of}
 use Rattle.st_table.proofs.Indexes.{footer_place}
 use Rattle.st_table.proofs.index.read_handle.Goals as goal
 

@@ -1,4 +1,4 @@
-use Rattle.std.proofs.Common.{rules, refl, ◌≡◌, ◌<◌, length, slice_index_or}
+use Rattle.std.proofs.Common.{rules, refl}
 use Rattle.st_base.proofs.memory_reader.MemReaderReader.read_at.Goals as goal
 
 pub returns-then-is_listed-clause-exact : goal.returns-then-is_listed-clause-exact
