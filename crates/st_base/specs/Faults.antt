@@ -1,5 +1,5 @@
 -- Counts of faults, by which a caller tells a failure of the outside from one of its own.
-use Rattle.std.specs.Prelude.{ℕ, ◌+◌, ◌-◌, ◌^◌, ◌<◌, ◌≤◌, ◌≡◌, min, max, List, length, Result, OnErr, IfOk}
+use Rattle.std.specs.Prelude.{ℕ, ◌+◌, ◌-◌, ◌^◌, ◌<◌, ◌≤◌, ◌≡◌, min, max, List, length, Result, OnErr, IfOk, IsErrOf}
 
 -- the count rose, or stands at the last value that a u64 has
 abbrev pub Rose : ℕ → ℕ → Type 0
@@ -9,6 +9,11 @@ Rose before now = min (before + 1) (2 ^ 64 - 1) ≤ now
 pub record HasCause {T E : Type 0} (before now : ℕ) (result : Result T E) : Type 0 where
   pub later : before ≤ now
   pub failed : OnErr result (Rose before now)
+
+-- the count never falls, and this failure comes only where it rose
+pub record HasCauseOf {T E : Type 0} (error : E) (before now : ℕ) (result : Result T E) : Type 0 where
+  pub later : before ≤ now
+  pub failed : IsErrOf result error → Rose before now
 
 -- a piece with bytes is taken in part at least, but where the count rose
 abbrev pub TakesSome : {E : Type 0} → ℕ → ℕ → List ℕ → Result ℕ E → Type 0

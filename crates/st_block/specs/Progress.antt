@@ -1,6 +1,5 @@
 -- What a scan has come to, and how its steps change that.
 use Rattle.std.specs.Prelude.{◌≡◌, ℕ, ◌+◌, ◌-◌, ◌*◌, ◌%◌, ◌≤◌, List, [], length, drop, Option, None, Some, Result, Ok, Err}
-use Rattle.st_base.specs.Faults.{Rose}
 use Rattle.st_base.specs.Places.{HasPart}
 use Rattle.st_base.specs.Damages.{fault_of}
 use Rattle.st_block.specs.BlockText.{IsBlockSize, used}
@@ -77,11 +76,6 @@ Loads old content new (Err (block_err.Damaged d)) =
     (block : List ℕ) × IsNext old content block × (block_wrong old.size old.done old.before block ≡ Some (fault_of d)) × (new.stopped ≡ Some d)
 Loads old content new (Err block_err.ReadFault) = new ≡ waiting old
 Loads old content new (Err block_err.NoMemory) = new ≡ waiting old
-
--- a count of faults never falls, and a read fault comes only where it rose
-pub record HasFault {T : Type 0} (before now : ℕ) (result : Result T BlockErr) : Type 0 where
-  pub later : before ≤ now
-  pub fault : result ≡ Err block_err.ReadFault → Rose before now
 
 -- causes that lie outside the bytes
 abbrev pub IsOutside : BlockErr → Type 0

@@ -4,7 +4,6 @@ use Rattle.std.specs.Option.{option_or}
 use Rattle.std.specs.List.{slice_get}
 use Rattle.byteorder.specs.Endian.{little_number}
 use Rattle.st_base.specs.Records.{Rec}
-use Rattle.st_base.specs.Faults.{Rose}
 use Rattle.st_base.specs.Places.{HasPart}
 use Rattle.st_base.specs.Damages.{Fault, fault_of}
 use Rattle.st_block.specs.Fields.{Number, above, first_wrong}
@@ -100,13 +99,3 @@ BodyOf r (Ok body) = body ≡ r.body
 BodyOf r (Err (block_err.Damaged d)) = ⊥
 BodyOf r (Err block_err.ReadFault) = Unit {0}
 BodyOf r (Err block_err.NoMemory) = Unit {0}
-
--- the count of faults never falls, and a read fault comes only where it rose
-pub record HeadCause (before now : ℕ) (result : Result Head HeadErr) : Type 0 where
-  pub later : before ≤ now
-  pub fault : result ≡ Err head_err.ReadFault → Rose before now
-
--- the same of a body
-pub record BodyCause (before now : ℕ) (result : Result (List ℕ) BlockErr) : Type 0 where
-  pub later : before ≤ now
-  pub fault : result ≡ Err block_err.ReadFault → Rose before now

@@ -2,7 +2,6 @@
 use Rattle.std.specs.Prelude.{◌≡◌, ℕ, ◌+◌, ◌-◌, ◌*◌, ◌/◌, ◌^◌, ◌≤◌, List, [], ◌∷◌, ◌++◌, length, take, drop, map, All, Option, None, Some, Result, Ok, Err}
 use Rattle.std.specs.List.{flat_map}
 use Rattle.byteorder.specs.Endian.{little_number}
-use Rattle.st_base.specs.Faults.{Rose}
 use Rattle.st_base.specs.Records.{Rec, InRange}
 use Rattle.st_base.specs.Damages.{fault_of}
 use Rattle.st_block.specs.BlockText.{IsBlockSize, IsShort, HasFile, Fills, BlockText, blocks_text, used, room}
@@ -116,8 +115,3 @@ Starts head extent (Ok p) =
     (start_wrong head extent ≡ None) × (p ≡ fresh (little_number 4 (drop 4 head)) (extent / little_number 4 (drop 4 head)))
 Starts head extent (Err (head_err.Damaged d)) = start_wrong head extent ≡ Some (fault_of d)
 Starts head extent (Err head_err.ReadFault) = ⊥
-
--- a count of faults never falls, and a read fault comes only where it rose
-pub record HasEnterCause {T : Type 0} (before now : ℕ) (result : Result T HeadErr) : Type 0 where
-  pub later : before ≤ now
-  pub fault : result ≡ Err head_err.ReadFault → Rose before now

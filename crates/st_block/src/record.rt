@@ -1,11 +1,11 @@
 ghost use Rattle.std.specs.Prelude.{◌≡◌, ◌≤◌, ◌<◌, ◌+◌, ◌*◌, ◌-◌, ℕ, List, length, drop, Err, IfOk, IfErr, option_map, vec_len, MatchOption};
 ghost use Rattle.byteorder.specs.Endian.{little_number};
 ghost use Rattle.st_base.specs.Records.{Rec};
-ghost use Rattle.st_base.specs.Faults.{CountsOn, Rose};
+ghost use Rattle.st_base.specs.Faults.{CountsOn, Rose, HasCauseOf};
 ghost use Rattle.st_base.specs.Places.{HasPart};
 ghost use Rattle.st_base.specs.Damages.{fault_of};
 ghost use Rattle.st_block.specs.Fields.{not_same, above};
-ghost use Rattle.st_block.specs.Reading.{head_outside, body_outside, record_outside, head_wrong, IsHead, HeadCause, BodyCause, GivesHead, GivesBody, head_reads, body_reads, StandsAt, HeadOf, BodyOf};
+ghost use Rattle.st_block.specs.Reading.{head_outside, body_outside, record_outside, head_wrong, IsHead, GivesHead, GivesBody, head_reads, body_reads, StandsAt, HeadOf, BodyOf};
 
 use crate::errors::{BlockErr, HeadErr};
 use crate::layout::HEAD;
@@ -119,7 +119,7 @@ fn head_of(head: &[u8]) -> Head
 fn read_head<R: Reader>(file: &mut R, position: u32) -> Result<Head, HeadErr>
     requires { position + 48 ≤ R.extent file.old }
     ensures gives { GivesHead (R.content file.old) (R.extent file.old) position result }
-    ensures cause { HeadCause (R.faults file.old) (R.faults file.new) result }
+    ensures cause { HasCauseOf HeadErr.ReadFault (R.faults file.old) (R.faults file.new) result }
     ensures reads { CountsOn (R.reads file.old) (R.reads file.new) 1 }
     ensures asked { CountsOn (R.asked file.old) (R.asked file.new) 48 }
     ensures content { R.content file.new ≡ R.content file.old }
@@ -149,7 +149,7 @@ pub fn record_head_at<R: Reader>(file: &mut R, position: u32) -> Result<Head, He
     // what comes
     ensures gives { GivesHead (R.content file.old) (R.extent file.old) position result }
     ensures whole { (r : Rec) → StandsAt (R.content file.old) position r → HeadOf r result }
-    ensures cause { HeadCause (R.faults file.old) (R.faults file.new) result }
+    ensures cause { HasCauseOf HeadErr.ReadFault (R.faults file.old) (R.faults file.new) result }
     // what the file was asked
     ensures reads { CountsOn (R.reads file.old) (R.reads file.new) (head_reads (R.extent file.old) position) }
     ensures asked { CountsOn (R.asked file.old) (R.asked file.new) (48 * head_reads (R.extent file.old) position) }
@@ -190,7 +190,7 @@ fn read_body<R: Reader>(
 ) -> Result<Octets, BlockErr>
     requires { position + 48 + len ≤ R.extent file.old }
     ensures gives { GivesBody (R.content file.old) (R.extent file.old) position len result }
-    ensures cause { BodyCause (R.faults file.old) (R.faults file.new) result }
+    ensures cause { HasCauseOf BlockErr.ReadFault (R.faults file.old) (R.faults file.new) result }
     ensures reads { CountsOn (R.reads file.old) (R.reads file.new) (body_reads len result) }
     ensures asked { CountsOn (R.asked file.old) (R.asked file.new) (len * body_reads len result) }
     ensures content { R.content file.new ≡ R.content file.old }
@@ -229,7 +229,7 @@ pub fn record_body_at<R: Reader>(
     // what comes
     ensures gives { GivesBody (R.content file.old) (R.extent file.old) position head.now.len result }
     ensures whole { (r : Rec) → StandsAt (R.content file.old) position r → head.now.len ≡ length r.body → BodyOf r result }
-    ensures cause { BodyCause (R.faults file.old) (R.faults file.new) result }
+    ensures cause { HasCauseOf BlockErr.ReadFault (R.faults file.old) (R.faults file.new) result }
     // what the file was asked
     ensures reads { CountsOn (R.reads file.old) (R.reads file.new) (body_reads head.now.len result) }
     ensures asked { CountsOn (R.asked file.old) (R.asked file.new) (head.now.len * body_reads head.now.len result) }

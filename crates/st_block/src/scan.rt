@@ -1,6 +1,7 @@
 ghost use Rattle.std.specs.Prelude.{◌≡◌, ◌≤◌, ◌*◌, List, ℕ, Some, Err, IfOk, IfErr, IfSome, OnErr};
-ghost use Rattle.st_block.specs.Progress.{HasFault, IsOutside};
-ghost use Rattle.st_block.specs.Scans.{Placed, IsFile, Stands, Gives, Follows, Enters, HasEnterCause, IsSameFile};
+ghost use Rattle.st_base.specs.Faults.{HasCauseOf};
+ghost use Rattle.st_block.specs.Progress.{IsOutside};
+ghost use Rattle.st_block.specs.Scans.{Placed, IsFile, Stands, Gives, Follows, Enters, IsSameFile};
 
 use crate::errors::{BlockErr, HeadErr};
 use crate::scan_course::Course;
@@ -71,7 +72,7 @@ impl<'a, R: Reader> Scan<'a, R> {
 
         // What becomes of the file.
         ensures same_reference { self.new.file.ghost_name ≡ self.old.file.ghost_name }
-        ensures cause { HasEnterCause (R.faults self.old.file.now) (R.faults self.new.file.now) result }
+        ensures cause { HasCauseOf HeadErr.ReadFault (R.faults self.old.file.now) (R.faults self.new.file.now) result }
         ensures same { IsSameFile (R.content self.old.file.now) (R.content self.new.file.now) (R.extent self.old.file.now) (R.extent self.new.file.now) (R.beside self.old.file.now) (R.beside self.new.file.now) }
     {
         match enter(self.file) {
@@ -107,7 +108,7 @@ impl<'a, R: Reader> Scan<'a, R> {
 
         // What becomes of the file.
         ensures same_reference { self.new.file.ghost_name ≡ self.old.file.ghost_name }
-        ensures cause { HasFault (R.faults self.old.file.now) (R.faults self.new.file.now) result }
+        ensures cause { HasCauseOf BlockErr.ReadFault (R.faults self.old.file.now) (R.faults self.new.file.now) result }
         ensures same { IsSameFile (R.content self.old.file.now) (R.content self.new.file.now) (R.extent self.old.file.now) (R.extent self.new.file.now) (R.beside self.old.file.now) (R.beside self.new.file.now) }
     {
         self.course.next_in(alloc, self.file)

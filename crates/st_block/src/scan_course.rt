@@ -1,8 +1,9 @@
 ghost use Rattle.std.specs.Prelude.{◌≡◌, ◌≤◌, ◌<◌, ◌+◌, ◌-◌, ◌*◌, ◌%◌, ◌^◌, length, drop, None, Some, Err, IfOk, OnErr, IfErr, OnOk, IfSome, List, ℕ, Ok, option_map};
+ghost use Rattle.st_base.specs.Faults.{HasCauseOf};
 ghost use Rattle.st_base.specs.Records.{Rec};
 ghost use Rattle.st_base.specs.Places.{HasPart};
 ghost use Rattle.st_block.specs.Scanning.{taken, captured, record_at};
-ghost use Rattle.st_block.specs.Progress.{bytes_of, HasFault, IsOutside};
+ghost use Rattle.st_block.specs.Progress.{bytes_of, IsOutside};
 
 use crate::errors::BlockErr;
 use crate::scan_block::check_block;
@@ -76,7 +77,7 @@ fn read_block<R: Reader>(
     requires inside { place + size ≤ R.extent file.old }
     ensures bytes { IfOk result (λ v. (length v.items ≡ size) × HasPart (R.content file.old) place v.items) }
     ensures outside { IfErr result IsOutside }
-    ensures cause { HasFault (R.faults file.old) (R.faults file.new) result }
+    ensures cause { HasCauseOf BlockErr.ReadFault (R.faults file.old) (R.faults file.new) result }
     ensures content { R.content file.new ≡ R.content file.old }
     ensures extent { R.extent file.new ≡ R.extent file.old }
     ensures rest { R.beside file.new ≡ R.beside file.old }
@@ -147,7 +148,7 @@ impl Course {
         ensures loads { Loads self.old (R.content file.old) self.new result }
         ensures on { OnOk result (reached self.old ≤ reached self.new) }
         ensures same { (self.new.size ≡ self.old.size) × (self.new.blocks ≡ self.old.blocks) }
-        ensures cause { HasFault (R.faults file.old) (R.faults file.new) result }
+        ensures cause { HasCauseOf BlockErr.ReadFault (R.faults file.old) (R.faults file.new) result }
         ensures content { R.content file.new ≡ R.content file.old }
         ensures extent { R.extent file.new ≡ R.extent file.old }
         ensures rest { R.beside file.new ≡ R.beside file.old }
@@ -188,7 +189,7 @@ impl Course {
             → (result ≡ Err (BlockErr.Damaged d)) × (self.new ≡ self.old) × (file.new ≡ file.old) }
         ensures follows { IfOk result (λ o. IfSome o (Follows self.old self.new)) }
         ensures same { (self.new.size ≡ self.old.size) × (self.new.blocks ≡ self.old.blocks) }
-        ensures cause { HasFault (R.faults file.old) (R.faults file.new) result }
+        ensures cause { HasCauseOf BlockErr.ReadFault (R.faults file.old) (R.faults file.new) result }
         ensures file { (R.content file.new ≡ R.content file.old) × (R.extent file.new ≡ R.extent file.old) × (R.beside file.new ≡ R.beside file.old) }
     {
         if let Some(damage) = self.stopped {

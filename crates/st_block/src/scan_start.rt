@@ -1,6 +1,7 @@
 ghost use Rattle.std.specs.Prelude.{◌≡◌, ◌≤◌, ◌<◌, ◌+◌, ◌*◌, ◌^◌, List, ℕ, length, Some, IfOk};
+ghost use Rattle.st_base.specs.Faults.{HasCauseOf};
 ghost use Rattle.st_block.specs.Scanning.{is_block_size, nearest};
-ghost use Rattle.st_block.specs.Scans.{Starts, EntersNew, HasEnterCause};
+ghost use Rattle.st_block.specs.Scans.{Starts, EntersNew};
 
 use crate::errors::HeadErr;
 use crate::scan_course::Course;
@@ -69,7 +70,7 @@ fn start(head: &[u8], extent: u64) -> Result<Course, HeadErr>
 pub fn enter<R: Reader>(file: &mut R) -> Result<Course, HeadErr>
     ensures enters { (bytes : List ℕ) → R.content file.old ≡ Some bytes → EntersNew bytes result }
     ensures inside { IfOk result (λ p. p.size * p.blocks ≤ R.extent file.old) }
-    ensures cause { HasEnterCause (R.faults file.old) (R.faults file.new) result }
+    ensures cause { HasCauseOf HeadErr.ReadFault (R.faults file.old) (R.faults file.new) result }
     ensures content { R.content file.new ≡ R.content file.old }
     ensures extent { R.extent file.new ≡ R.extent file.old }
     ensures rest { R.beside file.new ≡ R.beside file.old }

@@ -1,6 +1,5 @@
 pub mod Marks
 pub mod Ends
-pub mod Causes
 pub use Rattle.st_disk.specs.Folders
 pub use Rattle.st_disk.specs.Disks
 pub use Rattle.st_disk.specs.Calls

@@ -1,5 +1,5 @@
 ghost use Rattle.std.specs.Prelude.{Option, ◌≡◌, ℕ, List, None, Some, [], IsSome, IfOk, IfErr, OnOk, MatchResult};
-ghost use Rattle.st_base.specs.Faults.{Rose, HasCause};
+ghost use Rattle.st_base.specs.Faults.{Rose, HasCause, HasCauseOf};
 ghost use Rattle.st_disk.specs.declared.naming.Name.TheVariants as name;
 ghost use Rattle.st_disk.specs.declared.changes.Change.TheVariants as change;
 ghost use Rattle.st_disk.specs.declared.changes.Call.TheVariants as call;
@@ -8,7 +8,6 @@ ghost use Rattle.st_disk.specs.Disks.{Log};
 ghost use Rattle.st_disk.specs.Calls.{Looks, Does, Reads, given, removal, Abandons, IsFresh, IsPublished, number_of, Shows};
 ghost use Rattle.st_shelf.specs.Marks.{Mark, Loan, Lending, lend, take_back, draft_name, TakesFaults};
 ghost use Rattle.st_disk.specs.Listing.{Rises, AreAll};
-ghost use Rattle.st_shelf.specs.Causes.{HasListCause};
 ghost use Rattle.st_shelf.specs.Ends.{end_mark, end_faults};
 
 use st_base::{Failed, Reader, Sink};
@@ -157,7 +156,7 @@ pub trait Shelf {
         ensures log { Does (log self.old) (log self.new) result (λ _. call.Other) }
         ensures sorted { IfOk result Rises }
         ensures all { IfOk result (AreAll (log self.old)) }
-        ensures cause { HasListCause (faults self.old) (faults self.new) result }
+        ensures cause { HasCauseOf ListErr.DiskFault (faults self.old) (faults self.new) result }
         ensures rest { (id self.new ≡ id self.old) × (lending self.new ≡ lending self.old) };
 
     /// Lends the file under a name that is there. It must be spent, by `close` of this shelf. Its

@@ -1,6 +1,5 @@
 -- Why a call on a table refuses.
 use Rattle.std.specs.Prelude.{◌≡◌, ℕ, ◌≤◌, List, Option, Result, IfErr}
-use Rattle.st_base.specs.Faults.{Rose}
 use Rattle.st_base.specs.Damages.{Fault, fault_of}
 use Rattle.st_tblock.specs.declared.cursor.CursorErr.{CursorErr}
 use Rattle.st_tblock.specs.declared.cursor.CursorErr.TheVariants as cursor
@@ -27,11 +26,6 @@ IsOutside ReadFault = Unit {0}
 IsOutside (Damaged d) = ⊥
 IsOutside (Compressed place) = ⊥
 IsOutside NoMemory = Unit {0}
-
--- the file's count of faults never falls, and `ReadFault` comes only where it rose
-pub record HasFileCause {T : Type 0} (before now : ℕ) (result : Result T TableErr) : Type 0 where
-  pub later : before ≤ now
-  pub failed : IfErr result (λ e. e ≡ ReadFault → Rose before now)
 
 -- a file keeps its content, its length and what else of it there is
 pub record IsSameFile {B : Type 0} (bytes now : Option (List ℕ)) (length size : ℕ) (others rest : B) : Type 0 where

@@ -1,4 +1,5 @@
 ghost use Rattle.std.specs.Prelude.{◌≡◌, ◌≤◌, ◌<◌, ◌+◌, ◌^◌, ◌++◌, ◌∷◌, [], List, ℕ, length, OnOk, IfOk, IsTrue, Some, Ok, ◌↔◌};
+ghost use Rattle.st_base.specs.Faults.{HasCauseOf};
 ghost use Rattle.st_base.specs.Pieces.{Puts};
 ghost use Rattle.st_tblock.specs.Block.{Row, Good, front_of, is_above};
 ghost use Rattle.st_tblock.specs.Build.{empty, block_size, block_text, Holds};
@@ -6,7 +7,7 @@ ghost use Rattle.st_tblock.specs.Handles.{handle_text, footer_text, footer_in};
 ghost use Rattle.st_table.specs.Table.{IsTable};
 ghost use Rattle.st_table.specs.Builder.{fresh, room_of, next_handle, stored_text, after_row, written_by, ending_at, finishing};
 ghost use Rattle.st_table.specs.Builds.{Builds, Indexes, MayAdd, Follows, kept_at, last_added};
-ghost use Rattle.st_table.specs.Writing.{HasWriteCause, Names};
+ghost use Rattle.st_table.specs.Writing.{Names};
 
 use crate::build_errors::BuildErr;
 use crate::limits::{BLOCK_SIZE, DATA_INTERVAL, INDEX_INTERVAL, MAX_KEY, ROOM_LIMIT, VALUE_LIMIT};
@@ -34,7 +35,7 @@ fn put_named<S: Sink>(
     ensures index { Names index.old index.new (front_of block.old.last) handle result }
     ensures named { OnOk result ((rows : List Row) → Holds index.old rows → Holds index.new (rows ++ (front_of block.old.last, handle_text handle) ∷ [])) }
     ensures same { block.new ≡ block.old }
-    ensures cause { HasWriteCause (S.faults sink.old) (S.faults sink.new) result }
+    ensures cause { HasCauseOf BuildErr.WriteFault (S.faults sink.old) (S.faults sink.new) result }
     ensures rest { S.beside sink.new ≡ S.beside sink.old }
 {
     match put_block(block, sink) {
@@ -64,7 +65,7 @@ fn close<S: Sink>(
     ensures named { OnOk result ((rows : List Row) → Holds index.old rows → Holds index.new (rows ++ (front_of block.old.last, handle_text (next_handle at.old (block_size block.old))) ∷ [])) }
     ensures block { block.new ≡ empty block.old.interval }
     ensures at { at.new ≡ at.old + (block_size block.old + 5) }
-    ensures cause { HasWriteCause (S.faults sink.old) (S.faults sink.new) result }
+    ensures cause { HasCauseOf BuildErr.WriteFault (S.faults sink.old) (S.faults sink.new) result }
     ensures rest { S.beside sink.new ≡ S.beside sink.old }
 {
     let offset = *at;
@@ -86,7 +87,7 @@ fn put_index<S: Sink>(
     ensures good { OnOk result ((rows : List Row) → Holds index.old rows → Good (block_text index.old) rows) }
     ensures size { length (footer_text meta named) ≡ 48 }
     ensures read { footer_in (footer_text meta named) ≡ Ok (meta, named) }
-    ensures cause { HasWriteCause (S.faults sink.old) (S.faults sink.new) result }
+    ensures cause { HasCauseOf BuildErr.WriteFault (S.faults sink.old) (S.faults sink.new) result }
     ensures rest { S.beside sink.new ≡ S.beside sink.old }
 {
     let foot = footer(meta, named);
@@ -106,7 +107,7 @@ fn put_ending<S: Sink>(index: &mut EntryBlock, at: u64, sink: &mut S) -> Result<
     ensures bytes { Puts (S.written sink.old) (S.written sink.new) (ending_at at index.old) result }
     ensures length { IfOk result (λ n. n ≡ at + length (ending_at at index.old)) }
     ensures table { OnOk result ((bytes : List ℕ) (rows : List Row) → length bytes ≡ at → Indexes index.old bytes rows → IsTable (bytes ++ ending_at at index.old) rows) }
-    ensures cause { HasWriteCause (S.faults sink.old) (S.faults sink.new) result }
+    ensures cause { HasCauseOf BuildErr.WriteFault (S.faults sink.old) (S.faults sink.new) result }
     ensures rest { S.beside sink.new ≡ S.beside sink.old }
 {
     let meta = Handle {
@@ -142,7 +143,7 @@ fn put_rest<S: Sink>(
     ensures length { IfOk result (λ n. n ≡ at + length (finishing (kept_at block.old index.old at))) }
     ensures table { OnOk result ((bytes : List ℕ) (rows : List Row) → Builds (kept_at block.old index.old at) bytes rows
         → IsTable (bytes ++ finishing (kept_at block.old index.old at)) rows) }
-    ensures cause { HasWriteCause (S.faults sink.old) (S.faults sink.new) result }
+    ensures cause { HasCauseOf BuildErr.WriteFault (S.faults sink.old) (S.faults sink.new) result }
     ensures rest { S.beside sink.new ≡ S.beside sink.old }
 {
     if block.is_empty() {
@@ -236,7 +237,7 @@ impl TableBuilder {
         ensures builds { OnOk result ((bytes : List ℕ) (rows : List Row) → Builds self.old bytes rows
             → Builds self.new (bytes ++ written_by self.old (key.now, value.now)) (rows ++ (key.now, value.now) ∷ [])) }
         // When it fails, and what stays.
-        ensures cause { HasWriteCause (S.faults sink.old) (S.faults sink.new) result }
+        ensures cause { HasCauseOf BuildErr.WriteFault (S.faults sink.old) (S.faults sink.new) result }
         ensures rest { S.beside sink.new ≡ S.beside sink.old }
     {
         match self.block.add(key, value) {
@@ -261,7 +262,7 @@ impl TableBuilder {
         ensures bytes { Puts (S.written sink.old) (S.written sink.new) (finishing self) result }
         ensures length { IfOk result (λ n. n ≡ self.at + length (finishing self)) }
         ensures table { OnOk result ((bytes : List ℕ) (rows : List Row) → Builds self bytes rows → IsTable (bytes ++ finishing self) rows) }
-        ensures cause { HasWriteCause (S.faults sink.old) (S.faults sink.new) result }
+        ensures cause { HasCauseOf BuildErr.WriteFault (S.faults sink.old) (S.faults sink.new) result }
         ensures rest { S.beside sink.new ≡ S.beside sink.old }
     {
         let TableBuilder {

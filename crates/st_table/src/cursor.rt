@@ -1,8 +1,9 @@
 //! A reading of the rows of a table between two keys.
 
 ghost use Rattle.std.specs.Prelude.{◌≡◌, ◌+◌, ◌-◌, ◌<◌, List, ℕ, [], ◌∷◌, length, Some, IfOk, OnOk, OnErr, MatchOption, MatchResult, true, false};
+ghost use Rattle.st_base.specs.Faults.{HasCauseOf};
 ghost use Rattle.st_tblock.specs.Block.{Row as Pair};
-ghost use Rattle.st_table.specs.Errors.{HasFileCause, IsSameFile};
+ghost use Rattle.st_table.specs.Errors.{IsSameFile};
 ghost use Rattle.st_table.specs.ReadingIndex.{Decodes};
 ghost use Rattle.st_table.specs.ReadingRange.{unread, Fills, IsDone, ReadsNext, RefusesNext, Steps};
 
@@ -81,7 +82,7 @@ impl Cursor {
             → Decodes index entries.now
             → Fills (length bytes - 48) bytes index self.old self.new result }
         ensures next { OnOk result (self.new.next ≡ self.old.next + 1) }
-        ensures cause { HasFileCause (R.faults file.old) (R.faults file.new) result }
+        ensures cause { HasCauseOf TableErr.ReadFault (R.faults file.old) (R.faults file.new) result }
         ensures same { IsSameFile (R.content file.old) (R.content file.new) (R.extent file.old) (R.extent file.new) (R.beside file.old) (R.beside file.new) }
     {
         let (low, high) = (self.low.bytes(), self.high.bytes());
@@ -128,7 +129,7 @@ fn read_rows<R: Reader>(
         → Decodes index entries.now
         → MatchResult result (λ kept. ReadsNext (length bytes - 48) bytes index next low.now high.now kept.items)
         (λ e. RefusesNext (length bytes - 48) bytes index next e) }
-    ensures cause { HasFileCause (R.faults file.old) (R.faults file.new) result }
+    ensures cause { HasCauseOf TableErr.ReadFault (R.faults file.old) (R.faults file.new) result }
     ensures same { IsSameFile (R.content file.old) (R.content file.new) (R.extent file.old) (R.extent file.new) (R.beside file.old) (R.beside file.new) }
 {
     let (bounds, handle) = block_at(entries, next);
@@ -150,7 +151,7 @@ pub fn step_in<R: Reader>(
     ensures steps { (bytes : List ℕ) (index : List Pair) → R.content file.old ≡ Some bytes
         → Decodes index entries.now
         → Steps (length bytes - 48) bytes index cursor.old cursor.new result }
-    ensures cause { HasFileCause (R.faults file.old) (R.faults file.new) result }
+    ensures cause { HasCauseOf TableErr.ReadFault (R.faults file.old) (R.faults file.new) result }
     ensures same { IsSameFile (R.content file.old) (R.content file.new) (R.extent file.old) (R.extent file.new) (R.beside file.old) (R.beside file.new) }
 {
     'steps: loop {

@@ -1,8 +1,9 @@
 //! The footer of a table and its index block.
 
 ghost use Rattle.std.specs.Prelude.{◌≡◌, ◌≢◌, ◌+◌, ◌^◌, ◌<◌, ◌≤◌, List, ℕ, length, Some, Ok, IfOk, IfErr, OnSome, MatchOption, MatchResult, None, true, false, All, take, option_map, vec_len};
+ghost use Rattle.st_base.specs.Faults.{HasCauseOf};
 ghost use Rattle.st_tblock.specs.Handles.{handle_in, IsHandle};
-ghost use Rattle.st_table.specs.Errors.{refusal_of, HasFileCause, IsSameFile};
+ghost use Rattle.st_table.specs.Errors.{refusal_of, IsSameFile};
 ghost use Rattle.st_table.specs.ReadingIndex.{is_whole, StepsIndex, HasEntries, ReadsFooter, Entered, RefusesTable, Decodes, holds_handle};
 ghost use Rattle.st_table.specs.ReadingTable.{IsBlockAt, Rises, found_at, last_key};
 ghost use Rattle.st_table.specs.Lookup.{find};
@@ -94,7 +95,7 @@ fn placed(damage: Damage, at: u64) -> Damage
 /// The handle of the index block, by one read of the table's footer at most.
 fn read_handle<R: Reader>(file: &mut R) -> Result<Handle, TableErr>
     ensures footer { (bytes : List ℕ) → R.content file.old ≡ Some bytes → ReadsFooter bytes result }
-    ensures cause { HasFileCause (R.faults file.old) (R.faults file.new) result }
+    ensures cause { HasCauseOf TableErr.ReadFault (R.faults file.old) (R.faults file.new) result }
     ensures reads { R.reads file.new ≤ R.reads file.old + 1 }
     ensures same { IsSameFile (R.content file.old) (R.content file.new) (R.extent file.old) (R.extent file.new) (R.beside file.old) (R.beside file.new) }
 {
@@ -128,7 +129,7 @@ pub fn read_index<R: Reader>(
 ) -> Result<Vec<IndexEntry>, TableErr>
     ensures entered { (bytes : List ℕ) → R.content file.old ≡ Some bytes
         → MatchResult result (λ v. Entered bytes v.items) (λ e. RefusesTable bytes e) }
-    ensures cause { HasFileCause (R.faults file.old) (R.faults file.new) result }
+    ensures cause { HasCauseOf TableErr.ReadFault (R.faults file.old) (R.faults file.new) result }
     ensures reads { R.reads file.new ≤ R.reads file.old + 2 }
     ensures same { IsSameFile (R.content file.old) (R.content file.new) (R.extent file.old) (R.extent file.new) (R.beside file.old) (R.beside file.new) }
 {

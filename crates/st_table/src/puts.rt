@@ -2,13 +2,12 @@
 
 ghost use Rattle.std.specs.Prelude.{◌≡◌, ◌∷◌, List, OnOk};
 ghost use Rattle.byteorder.specs.Endian.{little_bytes};
-ghost use Rattle.st_base.specs.Faults.{HasCause};
+ghost use Rattle.st_base.specs.Faults.{HasCause, HasCauseOf};
 ghost use Rattle.st_base.specs.Pieces.{Puts};
 ghost use Rattle.st_tblock.specs.Block.{Row, Good};
 ghost use Rattle.st_tblock.specs.Build.{block_text, Holds};
 ghost use Rattle.st_table.specs.Table.{sum_of};
 ghost use Rattle.st_table.specs.Builder.{stored_text};
-ghost use Rattle.st_table.specs.Writing.{HasWriteCause};
 
 use crate::build_errors::BuildErr;
 use byteorder::{ByteOrder, LittleEndian};
@@ -43,7 +42,7 @@ pub fn put_block<S: Sink>(block: &mut EntryBlock, sink: &mut S) -> Result<(), Bu
     ensures bytes { Puts (S.written sink.old) (S.written sink.new) (stored_text (block_text block.old)) result }
     ensures good { OnOk result ((rows : List Row) → Holds block.old rows → Good (block_text block.old) rows) }
     ensures same { block.new ≡ block.old }
-    ensures cause { HasWriteCause (S.faults sink.old) (S.faults sink.new) result }
+    ensures cause { HasCauseOf BuildErr.WriteFault (S.faults sink.old) (S.faults sink.new) result }
     ensures rest { S.beside sink.new ≡ S.beside sink.old }
 {
     match block.finish() {

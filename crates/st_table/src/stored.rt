@@ -1,9 +1,10 @@
 //! Blocks as they stand in a table's file, each with its type byte and its sum behind it.
 
 ghost use Rattle.std.specs.Prelude.{◌≡◌, ◌≢◌, ◌+◌, ◌-◌, ◌^◌, ◌<◌, ◌≤◌, List, ℕ, length, Some, OnOk, IfErr, IfSome, MatchOption, option_map, vec_len};
+ghost use Rattle.st_base.specs.Faults.{HasCauseOf};
 ghost use Rattle.st_base.specs.Places.{HasPart};
 ghost use Rattle.st_table.specs.Table.{sum_of};
-ghost use Rattle.st_table.specs.Errors.{refusal_of, IsOutside, HasFileCause, IsSameFile};
+ghost use Rattle.st_table.specs.Errors.{refusal_of, IsOutside, IsSameFile};
 ghost use Rattle.st_table.specs.ReadingBlock.{handle_wrong, part_wrong, ReadsBlock};
 
 use crate::errors::TableErr;
@@ -81,7 +82,7 @@ fn read_part<R: Reader>(
     ensures bytes { OnOk result ((vec_len part.new ≡ len)
         × HasPart (R.content file.old) place part.new.items) }
     ensures error { IfErr result IsOutside }
-    ensures cause { HasFileCause (R.faults file.old) (R.faults file.new) result }
+    ensures cause { HasCauseOf TableErr.ReadFault (R.faults file.old) (R.faults file.new) result }
     ensures reads { R.reads file.new ≤ R.reads file.old + 1 }
     ensures same { IsSameFile (R.content file.old) (R.content file.new) (R.extent file.old) (R.extent file.new) (R.beside file.old) (R.beside file.new) }
 {
@@ -106,7 +107,7 @@ pub fn read_block<R: Reader>(
     ensures block { (bytes : List ℕ) → R.content file.old ≡ Some bytes
         → ReadsBlock (length bytes - 48) bytes handle block.new.items result }
     ensures fits { OnOk result (handle.offset + vec_len block.new < 2 ^ 64) }
-    ensures cause { HasFileCause (R.faults file.old) (R.faults file.new) result }
+    ensures cause { HasCauseOf TableErr.ReadFault (R.faults file.old) (R.faults file.new) result }
     ensures reads { R.reads file.new ≤ R.reads file.old + 1 }
     ensures same { IsSameFile (R.content file.old) (R.content file.new) (R.extent file.old) (R.extent file.new) (R.beside file.old) (R.beside file.new) }
 {

@@ -1,9 +1,10 @@
 ghost use Rattle.std.specs.Prelude.{◌≡◌, ◌≤◌, ◌+◌, ◌-◌, List, ℕ, [], length, Some, None, All, IfOk, IfErr, OnOk, OnErr, IsTrue};
+ghost use Rattle.st_base.specs.Faults.{HasCauseOf};
 ghost use Rattle.st_tblock.specs.Block.{Row as Pair, front_of};
 ghost use Rattle.st_table.specs.Table.{IsTable, is_at_most};
 ghost use Rattle.st_table.specs.Lookup.{find, in_range};
 ghost use Rattle.st_table.specs.ReadingRange.{unread, Steps, Coming, StepsRow, IsSound, GivesNamed};
-ghost use Rattle.st_table.specs.Errors.{IsOutside, HasFileCause, IsSameFile};
+ghost use Rattle.st_table.specs.Errors.{IsOutside, IsSameFile};
 ghost use Rattle.st_table.specs.ReadingIndex.{Decodes, Entered, Enters};
 ghost use Rattle.st_table.specs.ReadingTable.{Rises, Gets, GetsRow, found_at, last_key};
 ghost use Rattle.st_table.specs.Walked.{Walked};
@@ -67,7 +68,7 @@ fn get_in<R: Reader>(
         → Decodes index entries.now
         → Walked (length bytes - 48) bytes None entries.now marks.old
         → Walked (length bytes - 48) bytes None entries.now marks.new }
-    ensures cause { HasFileCause (R.faults file.old) (R.faults file.new) result }
+    ensures cause { HasCauseOf TableErr.ReadFault (R.faults file.old) (R.faults file.new) result }
     ensures reads { R.reads file.new ≤ R.reads file.old + 1 }
     ensures same { IsSameFile (R.content file.old) (R.content file.new) (R.extent file.old) (R.extent file.new) (R.beside file.old) (R.beside file.new) }
 {
@@ -129,7 +130,7 @@ impl<'a, R: Reader> Table<'a, R> {
 
         // What becomes of the file.
         ensures same_reference { self.new.file.ghost_name ≡ self.old.file.ghost_name }
-        ensures cause { HasFileCause (R.faults self.old.file.now) (R.faults self.new.file.now) result }
+        ensures cause { HasCauseOf TableErr.ReadFault (R.faults self.old.file.now) (R.faults self.new.file.now) result }
         ensures reads { R.reads self.new.file.now ≤ R.reads self.old.file.now + 2 }
         ensures same { IsSameFile (R.content self.old.file.now) (R.content self.new.file.now) (R.extent self.old.file.now) (R.extent self.new.file.now) (R.beside self.old.file.now) (R.beside self.new.file.now) }
     {
@@ -173,7 +174,7 @@ impl<'a, R: Reader> Table<'a, R> {
 
         // What becomes of the file.
         ensures same_reference { self.new.file.ghost_name ≡ self.old.file.ghost_name }
-        ensures cause { HasFileCause (R.faults self.old.file.now) (R.faults self.new.file.now) result }
+        ensures cause { HasCauseOf TableErr.ReadFault (R.faults self.old.file.now) (R.faults self.new.file.now) result }
         ensures reads { R.reads self.new.file.now ≤ R.reads self.old.file.now + 1 }
         ensures same { IsSameFile (R.content self.old.file.now) (R.content self.new.file.now) (R.extent self.old.file.now) (R.extent self.new.file.now) (R.beside self.old.file.now) (R.beside self.new.file.now) }
     {
@@ -228,7 +229,7 @@ impl<'a, R: Reader> Table<'a, R> {
 
         // What becomes of the file.
         ensures same_reference { self.new.file.ghost_name ≡ self.old.file.ghost_name }
-        ensures cause { HasFileCause (R.faults self.old.file.now) (R.faults self.new.file.now) result }
+        ensures cause { HasCauseOf TableErr.ReadFault (R.faults self.old.file.now) (R.faults self.new.file.now) result }
         ensures same { IsSameFile (R.content self.old.file.now) (R.content self.new.file.now) (R.extent self.old.file.now) (R.extent self.new.file.now) (R.beside self.old.file.now) (R.beside self.new.file.now) }
     {
         step_in(
