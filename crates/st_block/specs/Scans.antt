@@ -104,11 +104,6 @@ EntersNew bytes (Ok p) = Stands p bytes []
 EntersNew bytes (Err (head_err.Damaged d)) = file_wrong bytes ≡ Some (fault_of d)
 EntersNew bytes (Err head_err.ReadFault) = Unit {0}
 
--- the content, the length and what else is said of a file are as they were
-abbrev pub IsSameFile : {B : Type 0} → Option (List ℕ) → Option (List ℕ) → ℕ → ℕ → B → B → Type 0
-IsSameFile content content_then extent extent_then beside beside_then =
-    (content_then ≡ content) × (extent_then ≡ extent) × (beside_then ≡ beside)
-
 -- the same from the file's first eight bytes, or as many as it has, and its length
 abbrev pub Starts : List ℕ → ℕ → Result Progress HeadErr → Type 0
 Starts head extent (Ok p) =

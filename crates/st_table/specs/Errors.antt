@@ -1,5 +1,5 @@
 -- Why a call on a table refuses.
-use Rattle.std.specs.Prelude.{◌≡◌, ℕ, ◌≤◌, List, Option, Result, IfErr}
+use Rattle.std.specs.Prelude.{◌≡◌, ℕ}
 use Rattle.st_base.specs.Damages.{Fault, fault_of}
 use Rattle.st_tblock.specs.declared.cursor.CursorErr.{CursorErr}
 use Rattle.st_tblock.specs.declared.cursor.CursorErr.TheVariants as cursor
@@ -26,12 +26,6 @@ IsOutside ReadFault = Unit {0}
 IsOutside (Damaged d) = ⊥
 IsOutside (Compressed place) = ⊥
 IsOutside NoMemory = Unit {0}
-
--- a file keeps its content, its length and what else of it there is
-pub record IsSameFile {B : Type 0} (bytes now : Option (List ℕ)) (length size : ℕ) (others rest : B) : Type 0 where
-  pub content : now ≡ bytes
-  pub extent : size ≡ length
-  pub beside : rest ≡ others
 
 -- a refusal of a cursor, said by a table
 abbrev pub Repeats : CursorErr → TableErr → Type 0

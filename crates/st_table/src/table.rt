@@ -1,10 +1,11 @@
 ghost use Rattle.std.specs.Prelude.{◌≡◌, ◌≤◌, ◌+◌, ◌-◌, List, ℕ, [], length, Some, None, All, IfOk, IfErr, OnOk, OnErr, IsTrue};
 ghost use Rattle.st_base.specs.Faults.{HasCauseOf};
+ghost use Rattle.st_base.specs.Places.{IsSameFile};
 ghost use Rattle.st_tblock.specs.Block.{Row as Pair, front_of};
 ghost use Rattle.st_table.specs.Table.{IsTable, is_at_most};
 ghost use Rattle.st_table.specs.Lookup.{find, in_range};
 ghost use Rattle.st_table.specs.ReadingRange.{unread, Steps, Coming, StepsRow, IsSound, GivesNamed};
-ghost use Rattle.st_table.specs.Errors.{IsOutside, IsSameFile};
+ghost use Rattle.st_table.specs.Errors.{IsOutside};
 ghost use Rattle.st_table.specs.ReadingIndex.{Decodes, Entered, Enters};
 ghost use Rattle.st_table.specs.ReadingTable.{Rises, Gets, GetsRow, found_at, last_key};
 ghost use Rattle.st_table.specs.Walked.{Walked};

@@ -1,6 +1,6 @@
 use Rattle.std.proofs.Common.{◌≡◌, ◌≤◌, ◌-◌, ℕ, List, [], length, Some}
+use Rattle.st_base.specs.Places.{IsSameFile}
 use Rattle.st_tblock.specs.Block.{Row}
-use Rattle.st_table.specs.Errors.{IsSameFile}
 use Rattle.st_table.specs.ReadingIndex.{Decodes}
 use Rattle.st_table.specs.ReadingRange.{Goes}
 use Rattle.st_table.proofs.cursor.step_in.Given as goal
