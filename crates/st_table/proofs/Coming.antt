@@ -15,7 +15,7 @@ use Rattle.st_table.specs.ReadingTable.{Rises, last_key}
 use Rattle.st_table.specs.ReadingRange.{Pending, unread, Goes, IsDone, RefusesNext, Steps, Coming, StepsRow}
 use Rattle.st_table.specs.declared.errors.TableErr.{TableErr}
 use Rattle.st_table.specs.declared.index.IndexEntry.{IndexEntry}
-use Rattle.st_table.proofs.Order.{at_most_before, at_most_trans, before_at_most, not_behind, not_itself}
+use Rattle.st_tblock.proofs.Order.{at_most_before, at_most_trans, before_at_most, not_behind, not_itself}
 use Rattle.st_table.proofs.Ranges.{in_range-append, in_range-before, in_range-behind}
 use Rattle.st_table.proofs.Values.{is_between}
 use Rattle.st_table.proofs.Tables.{blocks_above, handle_once, stored_stands, not_true, index_once, entered_rises}

@@ -2,7 +2,7 @@
 use Rattle.std.proofs.Common.{◌≡◌, ℕ, zero, suc, ◌+◌, ◌-◌, ◌≤◌, ◌<◌, true, false, List, [], ◌∷◌, length, take, drop, get_or, All, Option, Some, None, refl, sym, ap, ◌∙◌, subst, ◌⊎◌, inl, inr, arith}
 use Rattle.std.proofs.lemmas.List.{get_or_read, get_or-take, length-take, take_all}
 use Rattle.std.proofs.lemmas.List.Elements.{All-from_get_or}
-use Rattle.st_table.proofs.Order.{before_trans}
+use Rattle.st_tblock.proofs.Order.{before_trans}
 use Rattle.st_tblock.specs.Block.{Row, front_of, is_before}
 use Rattle.st_tblock.specs.Handles.{IsHandle}
 use Rattle.st_table.specs.Lookup.{find}

@@ -7,7 +7,6 @@ mod Built
 mod Ending
 pub mod Rising
 pub mod OneTable
-pub mod Order
 pub mod Entries
 pub mod Walking
 pub mod Lookups

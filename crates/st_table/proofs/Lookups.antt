@@ -8,7 +8,7 @@ use Rattle.st_tblock.specs.Block.{Row, start, front_of, key_of, entry_in, is_bef
 use Rattle.st_tblock.proofs.Longer.{rising_some}
 use Rattle.st_tblock.specs.Lookup.{lookup}
 use Rattle.st_table.specs.ReadingRows.{Behind, StepsOn, ReadsValue, answer_behind, row_of}
-use Rattle.st_table.proofs.Order.{at_most_before, not_behind}
+use Rattle.st_tblock.proofs.Order.{at_most_before, not_behind}
 use Rattle.st_table.proofs.Walking.{rows_below, behind_on, behind_all}
 
 -- a row behind the wanted key changes no answer

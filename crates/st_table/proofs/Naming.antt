@@ -10,7 +10,7 @@ use Rattle.st_table.specs.Lookup.{find, in_range}
 use Rattle.st_table.specs.ReadingTable.{Rises, last_key, Named}
 use Rattle.st_table.specs.ReadingRange.{Pending, Goes, Steps, IsSound, GivesNamed}
 use Rattle.st_table.specs.declared.errors.TableErr.{TableErr}
-use Rattle.st_table.proofs.Order.{before_trans, not_itself}
+use Rattle.st_tblock.proofs.Order.{before_trans, not_itself}
 use Rattle.st_table.proofs.Finding.{rises_above}
 use Rattle.st_table.proofs.Blocks.{stored_is}
 use Rattle.st_table.proofs.Values.{good_rises}

@@ -20,7 +20,7 @@ use Rattle.std.proofs.lemmas.Bool.Decides.{nat_tests}
 use Rattle.st_table.specs.ReadingTable.{Rises, Named, RefusesNamed, Gets, GetsRow, around}
 use Rattle.st_table.specs.declared.errors.TableErr.{TableErr}
 use Rattle.st_table.specs.declared.index.IndexEntry.{IndexEntry}
-use Rattle.st_table.proofs.Order.{before_trans, at_most_before, not_behind}
+use Rattle.st_tblock.proofs.Order.{before_trans, at_most_before, not_behind}
 use Rattle.st_table.proofs.Entries.{row_is_wrong}
 use Rattle.st_table.proofs.Blocks.{stored_is}
 use Rattle.st_table.proofs.Values.{good_rises, is_between}

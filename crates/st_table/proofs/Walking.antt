@@ -12,7 +12,7 @@ use Rattle.st_base.specs.declared.damages.Damage.{Damage}
 use Rattle.st_table.specs.Errors.{Broken, refusal_of}
 use Rattle.st_table.specs.ReadingRows.{Behind, RefusesBlock, RefusesEntry, entry_wrong, row_of}
 use Rattle.st_table.specs.declared.errors.TableErr.{TableErr}
-use Rattle.st_table.proofs.Order.{before_trans}
+use Rattle.st_tblock.proofs.Order.{before_trans}
 
 -- a new cursor stands behind no rows
 pub begun : (takes : Row → Bool) (block : List ℕ) (place : ℕ) (s : Standing) → Begins block place (Ok s) → Behind takes block s.walk [] × (s.place ≡ place)

@@ -1,4 +1,5 @@
 pub mod Groups
+pub mod Order
 mod Keys
 mod Restarts
 pub mod Fronts
