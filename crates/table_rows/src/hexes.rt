@@ -35,15 +35,39 @@ pub fn next_line<R: BufRead>(reader: &mut R, line: &mut Vec<u8>) -> io::Result<b
     Ok(true)
 }
 
+// Which digit comes next can't be foretold, so neither of these branches on it.
+
+/// Whether this is a hexadecimal digit.
+fn is_digit(letter: u8) -> bool {
+    (letter.wrapping_sub(b'0') < 10) | ((letter | 32).wrapping_sub(b'a') < 6)
+}
+
+/// The value of a hexadecimal digit.
+fn value_of(digit: u8) -> u8 {
+    ((digit & 15) + 9 * (digit >> 6)) & 15
+}
+
 /// Makes `bytes` what `text` spells in hexadecimal.
 pub fn decode(text: &[u8], bytes: &mut Vec<u8>) -> Result<(), LineErr> {
-    if bytes.resize(text.len() / 2, 0).is_err() {
+    let mut spelled = text.len() % 2 == 0;
+    for letter in text {
+        spelled &= is_digit(*letter);
+    }
+    if !spelled {
+        return Err(LineErr::NotHexadecimal);
+    }
+    bytes.clear();
+    if bytes.reserve(text.len() / 2).is_err() {
         return Err(LineErr::NoMemory);
     }
-    match hex::decode_to_slice(text, bytes.as_mut_slice()) {
-        Ok(()) => Ok(()),
-        Err(_) => Err(LineErr::NotHexadecimal),
+    for pair in text.chunks_exact(2) {
+        if let [high, low] = pair {
+            if bytes.push((value_of(*high) << 4) | value_of(*low)).is_err() {
+                return Err(LineErr::NoMemory);
+            }
+        }
     }
+    Ok(())
 }
 
 /// Writes `bytes` in hexadecimal, by way of `text`.
