@@ -4,6 +4,7 @@ pub mod Moments
 pub mod Keeping
 pub mod Order
 pub mod Gathering
+mod Placing
 pub mod Settling
 pub mod Bits
 pub mod Crashing

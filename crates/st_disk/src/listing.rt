@@ -89,23 +89,36 @@ pub(crate) fn add_name(names: &mut Vec<Name>, name: Name) -> Result<(), NoMemory
 
 /// Names of any order, in their order; one that stands there twice is left out.
 pub fn rising(alloc: Global, names: Vec<Name>) -> Result<Names, NoMemory>
-    ensures { IfOk result Rises }
+    ensures sorted { IfOk result Rises }
+    ensures all { IfOk result (λ rising. (n : Name) → Contains rising n ↔ Contains names.items n) }
 {
     let mut sorted = names;
     sorted.sort_by_key(|name| (sort(*name), number(*name)))?;
     let mut items = Vec::new(alloc);
-    for name in &sorted {
-        push_behind(&mut items, *name)?;
-    }
+    put_all(&mut items, sorted.as_slice())?;
     Ok(Names { items })
 }
 
-// Puts a name behind those that rise, where it belongs there.
-fn push_behind(names: &mut Vec<Name>, name: Name) -> Result<(), NoMemory>
-    ensures { Rises names.old.items → Rises names.new.items }
+// Puts names into their places, each once.
+fn put_all(names: &mut Vec<Name>, found: &[Name]) -> Result<(), NoMemory>
+    ensures rises { Rises names.old.items → OnOk result (Rises names.new.items) }
+    ensures has { OnOk result ((n : Name) → Contains names.new.items n ↔ (Contains names.old.items n ⊎ Contains found.now n)) }
+{
+    let mut rest = found;
+    'found: while let Some((name, after)) = rest.split_first() {
+        put(names, *name)?;
+        rest = after;
+    }
+    Ok(())
+}
+
+// Puts a name into its place, once. Where the names come in their order, that is behind the others.
+fn put(names: &mut Vec<Name>, name: Name) -> Result<(), NoMemory>
+    ensures rises { Rises names.old.items → OnOk result (Rises names.new.items) }
+    ensures has { OnOk result ((n : Name) → Contains names.new.items n ↔ (Contains names.old.items n ⊎ (n ≡ name))) }
 {
     if !is_behind(names, name) {
-        return Ok(());
+        return add_name(names, name);
     }
     match names.push(name) {
         Ok(()) => Ok(()),
