@@ -1,8 +1,9 @@
 #!/usr/bin/env python3
 """Tables beside LevelDB: each reads what the other writes, with sums verified, and gives the same rows.
 
-It is skipped, and says so, where a C++ compiler or LevelDB's headers are missing (Debian: g++,
-libleveldb-dev). The last line is 'N passed, M failed'; the status is 0 where none failed.
+Before, each byte is tried as a digit of table_rows' lines. What needs LevelDB is skipped, and that is said,
+where a C++ compiler or LevelDB's headers are missing (Debian: g++, libleveldb-dev). The last line is
+'N passed, M failed'; the status is 0 where none failed.
 """
 import pathlib
 import random
@@ -107,10 +108,24 @@ def refusals(theirs, folder):
     check("a byte that changed is found", status != 0 and b"damaged" in said, (status, said))
 
 
+def digits():
+    """Each byte as the first and as the second digit of a value: it is read, or the line is refused."""
+    for byte in set(range(256)) - {0x0A}:
+        good = byte in b"0123456789abcdefABCDEF"
+        for text in (bytes([byte, 0x30]), bytes([0x30, byte])):
+            status, table, said = run([OURS, "make"], b"01 " + text + b"\n")
+            if good:
+                holds = status == 0 and table.startswith(b"\0\1\1\1" + bytes.fromhex(text.decode()))
+            else:
+                holds = status != 0 and b"line 1: not hexadecimal" in said
+            check(f"the digits {text!r}", holds, (status, said))
+
+
 def main():
     if not OURS.exists():
         sys.exit(f"{OURS} is not built: run `rt ci` first")
     compiler = shutil.which("g++") or shutil.which("c++")
+    digits()
     with tempfile.TemporaryDirectory() as name:
         folder = pathlib.Path(name)
         theirs = folder / "rows"
@@ -118,7 +133,7 @@ def main():
             [compiler, "-O2", "-std=c++17", "-o", theirs, SOURCE, "-lleveldb"], capture_output=True
         ).returncode:
             print("skipped: tables beside LevelDB, for want of a C++ compiler or of LevelDB's headers")
-            return 0
+            return report(CASES)
         for name, rows in row_sets().items():
             read_by_leveldb(theirs, folder, name, rows)
             read_by_us(theirs, folder, name, rows)
