@@ -38,7 +38,7 @@ both None index = None
 both (Some block) None = None
 both (Some block) (Some index) = Some (record { block = block; index = index })
 
--- the file set of the stamps whose block and index are both in the folder
+-- a file set with an entry for each stamp under which a folder has both files, and for no other
 pub record PairsIn (folder : Folder) (set : List Entry) : Type 0 where
   pub rises : IsFileSet set
   pub each : (s : ℕ) → files_at s set ≡ both (folder (Block s)) (folder (Index s))
