@@ -4,10 +4,10 @@ use Rattle.std.proofs.lemmas.List.{take-append-le, take_min}
 use Rattle.std.proofs.Math.Seq.{take-add, take-append-add}
 use Rattle.std.specs.Io.KnownBytes.{Appends}
 use Rattle.std.proofs.KnownBytes.{Appends-trans, Appends-nil}
-use Rattle.st_base.specs.Pieces.{AppendsFront}
+use Rattle.st_base.specs.Pieces.{AppendsPrefix}
 
 -- nothing was put yet
-pub front-none : (a : Option (List ℕ)) (bytes : List ℕ) → AppendsFront a a bytes
+pub front-none : (a : Option (List ℕ)) (bytes : List ℕ) → AppendsPrefix a a bytes
 front-none a bytes = (0, Appends-nil a)
 
 -- the next n bytes were put behind the first d
@@ -17,14 +17,14 @@ appends-next a b c d n bytes first next =
     subst (Appends a c) (sym (take-add d n bytes)) (Appends-trans a b c (take d bytes) (take n (drop d bytes)) first next)
 
 -- a front of some bytes is a front of these with more behind them
-pub front-more : (a b : Option (List ℕ)) (xs ys : List ℕ) → AppendsFront a b xs → AppendsFront a b (xs ++ ys)
-front-more a b xs ys (n, put) =
+pub prefix-more : (a b : Option (List ℕ)) (xs ys : List ℕ) → AppendsPrefix a b xs → AppendsPrefix a b (xs ++ ys)
+prefix-more a b xs ys (n, put) =
     let m = min n (length xs) in
     let within : m ≤ length xs = omega arith in
     let same : take m (xs ++ ys) ≡ take n xs = take-append-le m xs ys within ∙ take_min n xs in
     (m, subst (Appends a b) (sym same) put)
 
 -- after some bytes a front of others was put
-pub front-then : (a b c : Option (List ℕ)) (xs ys : List ℕ) → Appends a b xs → AppendsFront b c ys → AppendsFront a c (xs ++ ys)
-front-then a b c xs ys first (n, put) =
+pub prefix-then : (a b c : Option (List ℕ)) (xs ys : List ℕ) → Appends a b xs → AppendsPrefix b c ys → AppendsPrefix a c (xs ++ ys)
+prefix-then a b c xs ys first (n, put) =
     (length xs + n, subst (Appends a c) (sym (take-append-add xs ys n)) (Appends-trans a b c xs (take n ys) first put))

@@ -2,6 +2,6 @@ pub mod Records
 pub mod Faults
 pub mod Pieces
 pub mod Ticks
-pub mod Places
-pub mod Scripts
+pub mod PlacedReads
+pub mod MemoryViews
 pub mod Damages

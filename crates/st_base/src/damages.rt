@@ -16,11 +16,11 @@ pub struct Damage {
 
 impl Damage {
     ghost use Rattle.std.specs.Prelude.{◌≡◌};
-    ghost use Rattle.st_base.specs.Damages.{fault_of, no};
+    ghost use Rattle.st_base.specs.Damages.{damage_view, unmet};
 
     /// What a check says that can only hold or fail, where it fails at `place`.
     pub fn broken(place: u64) -> Damage
-        ensures { fault_of result ≡ no place }
+        ensures { damage_view result ≡ unmet place }
     {
         Damage {
             place,

@@ -51,7 +51,7 @@ impl Reader for FileReader {
 
     ghost beside = { λ r. tt };
 
-    ghost told = { λ r bytes same. Prim.cc };
+    ghost sized = { λ r bytes same. Prim.cc };
 
     fn size(&self) -> u64 {
         self.size

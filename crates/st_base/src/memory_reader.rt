@@ -2,7 +2,7 @@ ghost use Rattle.std.specs.Prelude.{◌≡◌, ◌+◌, ◌-◌, ◌^◌, ◌≤
 
 use crate::failures::{Failed, NoMemory};
 use crate::readers::Reader;
-use crate::scripts::{after, is_listed};
+use crate::schedule::{after, is_listed};
 use std::alloc::Global;
 use std::marker::Model;
 
@@ -17,9 +17,9 @@ pub struct MemReader {
 }
 
 impl Model for MemReader {
-    ghost use Rattle.st_base.specs.Scripts.{HeldBytes};
+    ghost use Rattle.st_base.specs.MemoryViews.{ReaderView};
 
-    ghost Value = { HeldBytes };
+    ghost Value = { ReaderView };
 
     ghost view = { λ a. record {
       content = a.bytes.items;
@@ -49,9 +49,9 @@ impl MemReader {
 
 impl Reader for MemReader {
     ghost use Rattle.std.specs.Prelude.{Some, length, ◌≡◌};
-    ghost use Rattle.st_base.specs.Places.{ReadsAt};
+    ghost use Rattle.st_base.specs.PlacedReads.{ReadsAt};
     ghost use Rattle.st_base.specs.Faults.{HasCause, CountsOn};
-    ghost use Rattle.st_base.specs.Scripts.{ReadsOrFails};
+    ghost use Rattle.st_base.specs.MemoryViews.{ReadsOrFails};
     ghost use Rattle.std.proofs.Common.{rules};
 
     ghost Beside = { Unit {0} };
@@ -68,7 +68,7 @@ impl Reader for MemReader {
 
     ghost beside = { λ r. tt };
 
-    ghost told = { λ r bytes same. Prim.search rules };
+    ghost sized = { λ r bytes same. Prim.search rules };
 
     fn size(&self) -> u64 {
         self.bytes.len() as u64

@@ -2,10 +2,10 @@ ghost use Rattle.std.specs.Prelude.{◌≡◌, ◌+◌, ◌^◌, ◌≤◌, ◌<
 ghost use Rattle.std.specs.Io.{WritesAtMost};
 ghost use Rattle.std.specs.Io.KnownBytes.{WriteAppends};
 ghost use Rattle.st_base.specs.Faults.{HasCause, TakesSome};
-ghost use Rattle.st_base.specs.Scripts.{TakesOrFails};
+ghost use Rattle.st_base.specs.MemoryViews.{TakesOrFails};
 
 use crate::failures::{Failed, NoMemory};
-use crate::scripts::{after, is_listed};
+use crate::schedule::{after, is_listed};
 use crate::sinks::Sink;
 use std::alloc::Global;
 use std::marker::Model;
@@ -20,9 +20,9 @@ pub struct MemSink {
 }
 
 impl Model for MemSink {
-    ghost use Rattle.st_base.specs.Scripts.{TakenBytes};
+    ghost use Rattle.st_base.specs.MemoryViews.{SinkView};
 
-    ghost Value = { TakenBytes };
+    ghost Value = { SinkView };
 
     ghost view = { λ a. record {
       written = a.bytes.items;

@@ -2,10 +2,10 @@ ghost use Rattle.std.specs.Prelude.{◌≡◌, ◌-◌, ◌+◌, ◌^◌, ◌≤
 ghost use Rattle.std.specs.Io.{ReadsAtMost};
 ghost use Rattle.std.specs.Io.KnownBytes.{ReadConsumes};
 ghost use Rattle.st_base.specs.Faults.{HasCause};
-ghost use Rattle.st_base.specs.Scripts.{GivesOrFails};
+ghost use Rattle.st_base.specs.MemoryViews.{GivesOrFails};
 
 use crate::failures::{Failed, NoMemory};
-use crate::scripts::{after, is_listed};
+use crate::schedule::{after, is_listed};
 use crate::sources::Source;
 use std::alloc::Global;
 use std::marker::Model;
@@ -23,9 +23,9 @@ pub struct MemSource {
 
 impl Model for MemSource {
     ghost use Rattle.std.specs.Prelude.{◌≤◌, length, drop};
-    ghost use Rattle.st_base.specs.Scripts.{GivenBytes};
+    ghost use Rattle.st_base.specs.MemoryViews.{SourceView};
 
-    ghost Value = { GivenBytes };
+    ghost Value = { SourceView };
 
     ghost view = { λ a. record {
       left = drop a.at a.bytes.items;

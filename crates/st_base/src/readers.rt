@@ -1,6 +1,6 @@
 ghost use Rattle.std.specs.Prelude.{Option, ◌≡◌, ◌+◌, ◌-◌, ◌^◌, ◌≤◌, ℕ, List, length, min, OnOk, Some};
 ghost use Rattle.st_base.specs.Faults.{HasCause, CountsOn};
-ghost use Rattle.st_base.specs.Places.{HasPart, ReadsAt};
+ghost use Rattle.st_base.specs.PlacedReads.{HasPart, ReadsAt};
 
 use crate::failures::Failed;
 
@@ -42,8 +42,8 @@ pub trait Reader {
         ensures asked { CountsOn (asked self.old) (asked self.new) (length out.old) }
         ensures rest { beside self.new ≡ beside self.old };
 
-    // a content that is told has the length that `size` answers
-    ghost told: { (r : Self) (bytes : List ℕ) → content r ≡ Some bytes → length bytes ≡ extent r };
+    // known content has the length that `size` answers
+    ghost sized: { (r : Self) (bytes : List ℕ) → content r ≡ Some bytes → length bytes ≡ extent r };
 }
 
 /// Fills `out` whole with the bytes from `place`, an offset in bytes, by one read.

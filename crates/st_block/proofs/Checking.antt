@@ -6,7 +6,7 @@ use Rattle.std.proofs.lemmas.List.{drop-drop, length-drop, take_all}
 use Rattle.std.proofs.lemmas.Bool.Decides.{nat_tests}
 use Rattle.byteorder.specs.Endian.{little_number}
 use Rattle.st_base.specs.Records.{Rec}
-use Rattle.st_base.specs.Damages.{Fault}
+use Rattle.st_base.specs.Damages.{DamageView}
 use Rattle.st_block.specs.Fields.{Field, Zeros, Body, sizes, not_same, above, not_zero, first_wrong}
 use Rattle.st_block.specs.BlockText.{padded, room, used, record_head, record_fields, records_fields, block_head, block_fields}
 use Rattle.st_block.specs.Scanning.{captured, taken, record_at, records_at, count_of, records_of}
@@ -17,7 +17,7 @@ use Rattle.st_block.proofs.Laying.{body_is, room_is, records_more, fit_first}
 use Rattle.st_block.proofs.Texts.{first_wrong-append, sizes-append}
 
 -- nothing behind a check
-pub option_or-none : (o : Option Fault) → option_or o None ≡ o
+pub option_or-none : (o : Option DamageView) → option_or o None ≡ o
 option_or-none None = refl
 option_or-none (Some f) = refl
 
@@ -84,7 +84,7 @@ record_checks place next bytes fits =
     ∙ (ap (λ (n : ℕ). not_zero (place + 48 + n) (take (padded n - n) (drop n (drop 48 bytes)))) size ∙ ap (λ (l : List ℕ). not_zero (place + 48 + len) (take (padded len - len) l)) on) in
     split
     ∙ (ap (λ (n : ℕ). option_or (first_wrong place (record_head next r) bytes) (first_wrong (place + n) (Body r.body ∷ Zeros (padded (length r.body) - length r.body) ∷ []) (drop n bytes))) head
-    ∙ ap (λ (o : Option Fault). option_or (first_wrong place (record_head next r) bytes) o) body)
+    ∙ ap (λ (o : Option DamageView). option_or (first_wrong place (record_head next r) bytes) o) body)
 
 -- where the next head is
 next_is : (left : ℕ) (r : Rec) (bytes : List ℕ) → 0 < left → distance r (records_at (left - 1) bytes) ≡ (if nat_lt 1 left then room r else 0)
@@ -136,17 +136,17 @@ checked_more block place count had at checked l none =
           ap (λ (n : ℕ). first_wrong n (records_fields (records_at (count - (had + 1)) (drop (at + taken rest) block))) (drop (at + taken rest) block)) (sym there)
           ∙ (ap (λ (b : List ℕ). first_wrong (place + at + taken rest) (records_fields (records_at (count - (had + 1)) b)) b) (sym on)
           ∙ (ap (λ (k : ℕ). first_wrong (place + at + taken rest) (records_fields (records_at k (drop (taken rest) rest))) (drop (taken rest) rest)) (sym less)
-          ∙ (sym (split ∙ ap (λ (o : Option Fault). option_or o (first_wrong (place + at + taken rest) (records_fields (records_at (count - had - 1) (drop (taken rest) rest))) (drop (taken rest) rest))) well) ∙ checked.wrong)));
+          ∙ (sym (split ∙ ap (λ (o : Option DamageView). option_or o (first_wrong (place + at + taken rest) (records_fields (records_at (count - had - 1) (drop (taken rest) rest))) (drop (taken rest) rest))) well) ∙ checked.wrong)));
     }
 
 -- a record at which something is
-pub checked_wrong : (block : List ℕ) (place count had at : ℕ) (f : Fault) → Checked block place count had at → had < count → first_wrong (place + at) (record_fields (if nat_lt (had + 1) count then taken (drop at block) else 0) (record_at (drop at block))) (drop at block) ≡ Some f → first_wrong (place + 48) (records_fields (records_at count (drop 48 block))) (drop 48 block) ≡ Some f
+pub checked_wrong : (block : List ℕ) (place count had at : ℕ) (f : DamageView) → Checked block place count had at → had < count → first_wrong (place + at) (record_fields (if nat_lt (had + 1) count then taken (drop at block) else 0) (record_at (drop at block))) (drop at block) ≡ Some f → first_wrong (place + 48) (records_fields (records_at count (drop 48 block))) (drop 48 block) ≡ Some f
 checked_wrong block place count had at f checked l some =
     let rest = drop at block in
     let fits = fit_first (count - had) rest (omega arith) checked.fit in
     let split = records_checks (place + at) (count - had) rest (omega arith) fits.0 in
     let ill : first_wrong (place + at) (record_fields (if nat_lt 1 (count - had) then taken rest else 0) (record_at rest)) rest ≡ Some f = subst (λ (n : ℕ). first_wrong (place + at) (record_fields n (record_at rest)) rest ≡ Some f) (distance_is had count (taken rest) l) some in
-    sym checked.wrong ∙ (split ∙ ap (λ (o : Option Fault). option_or o (first_wrong (place + at + taken rest) (records_fields (records_at (count - had - 1) (drop (taken rest) rest))) (drop (taken rest) rest))) ill)
+    sym checked.wrong ∙ (split ∙ ap (λ (o : Option DamageView). option_or o (first_wrong (place + at + taken rest) (records_fields (records_at (count - had - 1) (drop (taken rest) rest))) (drop (taken rest) rest))) ill)
 
 -- all were
 pub checked_all : (block : List ℕ) (place count at : ℕ) → Checked block place count count at → first_wrong (place + 48) (records_fields (records_at count (drop 48 block))) (drop 48 block) ≡ None
@@ -186,8 +186,8 @@ block_split size number place r rs block =
     let four = ap (λ (fs : List Field). first_wrong place fs block) (head_split size number r rs) ∙ first_wrong-append place (head_counts size number (length (r ∷ rs)) (used (r ∷ rs))) (head_times r (last_of r rs)) block in
     one
     ∙ (ap (λ (n : ℕ). option_or (first_wrong place head block) (first_wrong (place + n) (records ++ zeros) (drop n block))) size_is
-    ∙ (ap (λ (o : Option Fault). option_or o (first_wrong (place + 48) (records ++ zeros) (drop 48 block))) four
-    ∙ ap (λ (o : Option Fault). option_or (option_or (first_wrong place (head_counts size number (length (r ∷ rs)) (used (r ∷ rs))) block) (first_wrong (place + 32) (head_times r (last_of r rs)) (drop 32 block))) o) (two ∙ ap (λ (o : Option Fault). option_or (first_wrong (place + 48) records (drop 48 block)) o) three)))
+    ∙ (ap (λ (o : Option DamageView). option_or o (first_wrong (place + 48) (records ++ zeros) (drop 48 block))) four
+    ∙ ap (λ (o : Option DamageView). option_or (option_or (first_wrong place (head_counts size number (length (r ∷ rs)) (used (r ∷ rs))) block) (first_wrong (place + 32) (head_times r (last_of r rs)) (drop 32 block))) o) (two ∙ ap (λ (o : Option DamageView). option_or (first_wrong (place + 48) records (drop 48 block)) o) three)))
 
 -- so many records are as many
 pub length-records_at : (n : ℕ) (bytes : List ℕ) → length (records_at n bytes) ≡ n
@@ -218,8 +218,8 @@ block_checks number place block layout laid =
     ∙ ap (λ (l : List ℕ). option_or (option_or (first_wrong place (head_counts size number layout.count layout.end) block) (first_wrong (place + 32) (head_times r (record_at (drop layout.last block))) (drop 32 block))) (option_or (first_wrong (place + 48) (records_fields (records_at layout.count (drop 48 block))) (drop 48 block)) (not_zero (place + layout.end) l))) whole)))))
 
 -- the first of two checks that are the same
-pub or_both : {a b c d : Option Fault} → a ≡ b → c ≡ d → option_or a c ≡ option_or b d
-or_both {a} {b} {c} {d} e f = ap (λ (o : Option Fault). option_or o c) e ∙ ap (λ (o : Option Fault). option_or b o) f
+pub or_both : {a b c d : Option DamageView} → a ≡ b → c ≡ d → option_or a c ≡ option_or b d
+or_both {a} {b} {c} {d} e f = ap (λ (o : Option DamageView). option_or o c) e ∙ ap (λ (o : Option DamageView). option_or b o) f
 
 -- a record's check at the bytes and with the distance that were found
 pub found_there : (place count had next taken_is : ℕ) (rest bytes : List ℕ) → bytes ≡ rest → taken_is ≡ taken rest → next ≡ (if nat_lt (had + 1) count then taken_is else 0) → first_wrong place (record_fields next (record_at bytes)) bytes ≡ first_wrong place (record_fields (if nat_lt (had + 1) count then taken rest else 0) (record_at rest)) rest

@@ -7,7 +7,7 @@ use Rattle.std.proofs.lemmas.List.{drop_at, take_at, drop-drop}
 use Rattle.byteorder.specs.Endian.{little_number}
 use Rattle.byteorder.specs.Numbers.{little_number-reads_back}
 use Rattle.st_base.specs.Records.{Rec, InRange}
-use Rattle.st_base.specs.Damages.{fault_of}
+use Rattle.st_base.specs.Damages.{damage_view}
 use Rattle.st_block.specs.Fields.{Number, text, above, first_wrong}
 use Rattle.st_block.specs.BlockText.{padded, record_head, BlockText}
 use Rattle.st_block.specs.Reading.{head_outside, body_outside, record_outside, head_wrong, HeadStands, GivesHead, GivesBody, StandsAt, HeadOf, BodyOf}
@@ -152,13 +152,13 @@ head_found content size position (Err (head_err.Damaged d)) told (inl outside) r
     let f = found content position r s in
     let size_is = told f.bytes f.told in
     let inside = lies_inside f.bytes position r f.laid in
-    none-some (fault_of d) (sym (head_inside size position (omega (arith, size_is, inside))) ∙ outside)
+    none-some (damage_view d) (sym (head_inside size position (omega (arith, size_is, inside))) ∙ outside)
 head_found content size position (Err (head_err.Damaged d)) told (inr (head, stands, wrong)) r s =
     let f = found content position r s in
     let same = is_head_of content size position r f head stands in
     let size_is = told f.bytes f.told in
     let inside = lies_inside f.bytes position r f.laid in
-    none-some (fault_of d) (sym (head_good size position f.laid.next r f.range (omega (arith, size_is, inside))) ∙ ap (head_wrong size position) (sym same) ∙ wrong)
+    none-some (damage_view d) (sym (head_good size position f.laid.next r f.range (omega (arith, size_is, inside))) ∙ ap (head_wrong size position) (sym same) ∙ wrong)
 head_found content size position (Err head_err.ReadFault) told gives r s = tt
 
 -- behind it its body is read, and nothing is damaged
@@ -173,6 +173,6 @@ body_found content size position len (Err (block_err.Damaged d)) told outside r 
     let head = head_inside size position (omega (arith, size_is, inside)) in
     let body : body_outside size position len ≡ None = above_not (position + 12) len (size - position - 48) (omega (arith, size_is, inside)) in
     let whole : record_outside size position len ≡ None = rw (head, body) refl in
-    none-some (fault_of d) (sym whole ∙ outside)
+    none-some (damage_view d) (sym whole ∙ outside)
 body_found content size position len (Err block_err.ReadFault) told gives r s e = tt
 body_found content size position len (Err block_err.NoMemory) told gives r s e = tt

@@ -2,7 +2,7 @@
 use Rattle.std.proofs.Common.{◌≡◌, ℕ, ◌*◌, ◌<◌, ◌≤◌, List, [], ◌∷◌, ◌++◌, take, drop, Option, None, Some, refl, sym, ap, ◌∙◌, subst, arith, Ok, Err, Result}
 use Rattle.std.specs.Prelude.{IfOk, IfSome}
 use Rattle.st_base.specs.Records.{Rec}
-use Rattle.st_base.specs.Damages.{fault_of}
+use Rattle.st_base.specs.Damages.{damage_view}
 use Rattle.st_base.specs.declared.damages.Damage.{Damage}
 use Rattle.st_block.specs.Position.{places}
 use Rattle.st_block.specs.Scanning.{record_at, records_at}
@@ -79,7 +79,7 @@ loads_stands p q content bytes given told e stands none l (block, next, well, wh
 pub loads_gives : (p q : Progress) (content : Option (List ℕ)) (bytes : List ℕ) (given : List Placed) (f : BlockErr) → content ≡ Some bytes → p.stopped ≡ None → Stands p bytes given → p.left ≡ 0 → p.done < p.blocks → Loads p content q (Err f) → Gives bytes given q (Err f)
 loads_gives p q content bytes given (block_err.Damaged d) told e stands none l (block, next, ill, stop) =
     let is = next_is p bytes block (subst (λ o. IsNext p o block) told next) in
-    stops_there p bytes given block (fault_of d) (going p bytes given e stands) l is ill
+    stops_there p bytes given block (damage_view d) (going p bytes given e stands) l is ill
 loads_gives p q content bytes given block_err.ReadFault told e stands none l same =
     subst (λ (r : Progress). Stands r bytes given) (sym same) (standing (waiting p) bytes given e (goes_waiting p bytes given (going p bytes given e stands) none))
 loads_gives p q content bytes given block_err.NoMemory told e stands none l same =

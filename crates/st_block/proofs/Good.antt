@@ -7,7 +7,7 @@ use Rattle.std.proofs.lemmas.Bool.Decides.{nat_tests}
 use Rattle.byteorder.specs.Endian.{little_number}
 use Rattle.byteorder.specs.Numbers.{little_number-reads_back}
 use Rattle.st_base.specs.Records.{Rec, InRange}
-use Rattle.st_base.specs.Damages.{Fault}
+use Rattle.st_base.specs.Damages.{DamageView}
 use Rattle.st_block.specs.Fields.{Field, Number, Any, Nanoseconds, Zeros, Body, size_of, text_of, text, not_same, above, not_zero, field_wrong, first_wrong}
 use Rattle.st_block.specs.BlockText.{padded, room, used, distance, last_of, record_head, record_fields, records_fields, block_head, block_fields, block_text}
 use Rattle.st_block.specs.Scanning.{captured, taken, record_at, records_at, count_of, layout_from}
@@ -62,7 +62,7 @@ fields_good place (f ∷ fields) rest (h, fit) =
     let all : (text_of f ++ text fields) ++ rest ≡ text_of f ++ (text fields ++ rest) = append_assoc (text_of f) (text fields) rest in
     let behind : drop (size_of f) (text_of f ++ (text fields ++ rest)) ≡ text fields ++ rest = drop_at (text_of f) (text fields ++ rest) (size_of f) (length-text_of f) in
     ap (λ (l : List ℕ). option_or (field_wrong place f l) (first_wrong (place + size_of f) fields (drop (size_of f) l))) all
-    ∙ (ap (λ (o : Option Fault). option_or o (first_wrong (place + size_of f) fields (drop (size_of f) (text_of f ++ (text fields ++ rest))))) (field_good place f (text fields ++ rest) h)
+    ∙ (ap (λ (o : Option DamageView). option_or o (first_wrong (place + size_of f) fields (drop (size_of f) (text_of f ++ (text fields ++ rest))))) (field_good place f (text fields ++ rest) h)
     ∙ (ap (λ (l : List ℕ). first_wrong (place + size_of f) fields l) behind ∙ fields_good (place + size_of f) fields rest fit))
 
 -- a record's text in two parts

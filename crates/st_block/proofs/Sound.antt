@@ -2,7 +2,7 @@
 use Rattle.std.proofs.Common.{◌≡◌, ℕ, zero, suc, ◌+◌, ◌-◌, ◌*◌, ◌<◌, ◌≤◌, List, length, drop, Option, None, Some, refl, sym, ap, ◌∙◌, subst, arith, Ok}
 use Rattle.std.proofs.Math.Nat.{mul-le-mul}
 use Rattle.std.proofs.lemmas.List.{drop-drop, length-drop}
-use Rattle.st_base.specs.Damages.{Fault}
+use Rattle.st_base.specs.Damages.{DamageView}
 use Rattle.st_block.specs.BlockText.{used}
 use Rattle.st_block.specs.Scanning.{taken, record_at, count_of, records_of, block_wrong}
 use Rattle.st_block.specs.Layout.{Stand, IsWholeBlock}
@@ -65,7 +65,7 @@ not_wrong size number before block items same len none =
     subst (λ (k : ℕ). block_wrong k number before items ≡ None) len (subst (λ (l : List ℕ). block_wrong (length l) number before l ≡ None) same none)
 
 -- what is wrong, likewise
-pub is_wrong : (size number : ℕ) (before : Option ℕ) (block items : List ℕ) (o : Option Fault) → block ≡ items → length items ≡ size → block_wrong (length block) number before block ≡ o → block_wrong size number before items ≡ o
+pub is_wrong : (size number : ℕ) (before : Option ℕ) (block items : List ℕ) (o : Option DamageView) → block ≡ items → length items ≡ size → block_wrong (length block) number before block ≡ o → block_wrong size number before items ≡ o
 is_wrong size number before block items o same len wrong =
     subst (λ (k : ℕ). block_wrong k number before items ≡ o) len (subst (λ (l : List ℕ). block_wrong (length l) number before l ≡ o) same wrong)
 

@@ -8,7 +8,7 @@ use Rattle.std.proofs.lemmas.List.Elements.{All-nil}
 use Rattle.std.proofs.lemmas.Bool.Decides.{nat_tests}
 use Rattle.byteorder.specs.Endian.{little_number}
 use Rattle.st_base.specs.Records.{InRange}
-use Rattle.st_base.specs.Damages.{Fault, fault_of}
+use Rattle.st_base.specs.Damages.{DamageView, damage_view}
 use Rattle.st_block.specs.BlockText.{IsBlockSize, IsShort}
 use Rattle.st_block.specs.Scanning.{is_block_size, nearest, extent_wrong, start_wrong, blocks_wrong, file_wrong, fails}
 use Rattle.st_block.specs.Progress.{Progress, IsSound, fresh}
@@ -83,11 +83,11 @@ whole_blocks size extent l e = either (min (extent / size) 4095) refl e
         (whole ∙ ap (λ (n : ℕ). size * n) (sym k), omega arith, omega arith)
 
 -- a choice that finds nothing
-finds_none : (b : Bool) (f : Fault) (o : Option Fault) → cond b (Some f) o ≡ None → (b ≡ false) × (o ≡ None)
+finds_none : (b : Bool) (f : DamageView) (o : Option DamageView) → cond b (Some f) o ≡ None → (b ≡ false) × (o ≡ None)
 finds_none true f o e = cc
 finds_none false f o e = (refl, e)
 
-finds_none_else : (b : Bool) (f : Fault) (o : Option Fault) → cond b o (Some f) ≡ None → (b ≡ true) × (o ≡ None)
+finds_none_else : (b : Bool) (f : DamageView) (o : Option DamageView) → cond b o (Some f) ≡ None → (b ≡ true) × (o ≡ None)
 finds_none_else true f o e = (refl, e)
 finds_none_else false f o e = cc
 
@@ -122,7 +122,7 @@ starts_stand bytes none =
       done = omega arith;
       whole = whole.0;
       wrong =
-          ap (λ (o : Option Fault). option_or o (blocks_wrong size count 0 None bytes)) none
+          ap (λ (o : Option DamageView). option_or o (blocks_wrong size count 0 None bytes)) none
           ∙ (ap (λ (n : ℕ). blocks_wrong size n 0 None bytes) (sym all) ∙ ap (λ (n : ℕ). blocks_wrong size (count - 0) 0 None (drop n bytes)) (sym none_before));
       read = [];
       fills = tt;
@@ -137,10 +137,10 @@ starts_stand bytes none =
     }
 
 -- what the checks before the first block find is what is wrong first with the file
-starts_damaged : (bytes : List ℕ) (f : Fault) → start_wrong (take 8 bytes) (length bytes) ≡ Some f → file_wrong bytes ≡ Some f
+starts_damaged : (bytes : List ℕ) (f : DamageView) → start_wrong (take 8 bytes) (length bytes) ≡ Some f → file_wrong bytes ≡ Some f
 unfolding file_wrong
 starts_damaged bytes f e =
-    ap (λ (o : Option Fault). option_or o (blocks_wrong (little_number 4 (drop 4 (take 8 bytes))) (length bytes / little_number 4 (drop 4 (take 8 bytes))) 0 None bytes)) e
+    ap (λ (o : Option DamageView). option_or o (blocks_wrong (little_number 4 (drop 4 (take 8 bytes))) (length bytes / little_number 4 (drop 4 (take 8 bytes))) 0 None bytes)) e
 
 -- so what starts at a file's first eight bytes enters the file
 pub enters : (bytes head : List ℕ) (extent : ℕ) (result : Result Progress HeadErr) → head ≡ take 8 bytes → length bytes ≡ extent → Starts head extent result → EntersNew bytes result
@@ -149,7 +149,7 @@ enters bytes head extent (Ok p) same len (none, is) =
     let is_there = is ∙ (ap (λ (n : ℕ). fresh (little_number 4 (drop 4 head)) (n / little_number 4 (drop 4 head))) (sym len) ∙ ap (λ (h : List ℕ). fresh (little_number 4 (drop 4 h)) (length bytes / little_number 4 (drop 4 h))) same) in
     subst (λ (q : Progress). Stands q bytes []) (sym is_there) (starts_stand bytes none_there)
 enters bytes head extent (Err (head_err.Damaged d)) same len wrong =
-    starts_damaged bytes (fault_of d) (subst (λ (h : List ℕ). start_wrong h (length bytes) ≡ Some (fault_of d)) same (subst (λ (n : ℕ). start_wrong head n ≡ Some (fault_of d)) (sym len) wrong))
+    starts_damaged bytes (damage_view d) (subst (λ (h : List ℕ). start_wrong h (length bytes) ≡ Some (damage_view d)) same (subst (λ (n : ℕ). start_wrong head n ≡ Some (damage_view d)) (sym len) wrong))
 enters bytes head extent (Err head_err.ReadFault) same len wrong = tt
 
 -- a file of fewer than eight bytes

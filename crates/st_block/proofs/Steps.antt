@@ -7,7 +7,7 @@ use Rattle.std.proofs.lemmas.List.{drop-drop, length-drop, take_all}
 use Rattle.std.proofs.lemmas.List.Elements.{All-append}
 use Rattle.std.proofs.Math.Seq.{take-add}
 use Rattle.st_base.specs.Records.{Rec, InRange}
-use Rattle.st_base.specs.Damages.{Fault}
+use Rattle.st_base.specs.Damages.{DamageView}
 use Rattle.st_block.specs.BlockText.{room, used, block_text, blocks, blocks_text, BlockText, Fills, IsShort, HasFile}
 use Rattle.st_block.specs.Position.{places, places_of, positions}
 use Rattle.st_block.specs.Scanning.{taken, record_at, records_at, count_of, records_of, layout_wrong, join_wrong, block_wrong, blocks_wrong, file_wrong}
@@ -73,9 +73,9 @@ wrong_here p bytes given block on l same =
     ∙ ap (λ (b : List ℕ). option_or (block_wrong p.size p.done p.before block) (blocks_wrong p.size (p.blocks - (p.done + 1)) (p.done + 1) (Some (used (records_of block))) b)) behind)))
 
 -- a check of the next block fails
-pub stops_there : (p : Progress) (bytes : List ℕ) (given : List Placed) (block : List ℕ) (f : Fault) → GoesOn p bytes given → p.done < p.blocks → block ≡ take p.size (drop (p.size * p.done) bytes) → block_wrong p.size p.done p.before block ≡ Some f → file_wrong bytes ≡ Some f
+pub stops_there : (p : Progress) (bytes : List ℕ) (given : List Placed) (block : List ℕ) (f : DamageView) → GoesOn p bytes given → p.done < p.blocks → block ≡ take p.size (drop (p.size * p.done) bytes) → block_wrong p.size p.done p.before block ≡ Some f → file_wrong bytes ≡ Some f
 stops_there p bytes given block f on l same wrong =
-    wrong_here p bytes given block on l same ∙ ap (λ (o : Option Fault). option_or o (blocks_wrong p.size (p.blocks - (p.done + 1)) (p.done + 1) (Some (used (records_of block))) (drop (p.size * (p.done + 1)) bytes))) wrong
+    wrong_here p bytes given block on l same ∙ ap (λ (o : Option DamageView). option_or o (blocks_wrong p.size (p.blocks - (p.done + 1)) (p.done + 1) (Some (used (records_of block))) (drop (p.size * (p.done + 1)) bytes))) wrong
 
 -- at the first record of the next block
 pub goes_entered : (p : Progress) (bytes : List ℕ) (given : List Placed) (block : List ℕ) → GoesOn p bytes given → p.left ≡ 0 → p.done < p.blocks → block ≡ take p.size (drop (p.size * p.done) bytes) → length block ≡ p.size → block_wrong p.size p.done p.before block ≡ None → IsWholeBlock block → GoesOn (entered p block) bytes given
@@ -105,7 +105,7 @@ goes_entered p bytes given block on none_left l same len none whole =
       most = on.most;
       done = omega arith;
       whole = on.whole;
-      wrong = wrong_here p bytes given block on l same ∙ ap (λ (o : Option Fault). option_or o (blocks_wrong p.size (p.blocks - (p.done + 1)) (p.done + 1) (Some (used b)) (drop (p.size * (p.done + 1)) bytes))) none;
+      wrong = wrong_here p bytes given block on l same ∙ ap (λ (o : Option DamageView). option_or o (blocks_wrong p.size (p.blocks - (p.done + 1)) (p.done + 1) (Some (used b)) (drop (p.size * (p.done + 1)) bytes))) none;
       read = on.read ++ b ∷ [];
       fills = fills_push p.size on.read b on.fills many (omega arith) apart;
       count = length-append on.read (b ∷ []) ∙ ap (λ (n : ℕ). n + 1) on.count;

@@ -11,7 +11,7 @@ use Rattle.std.proofs.lemmas.Option.{none-some}
 use Rattle.std.proofs.lemmas.Bool.Decides.{nat_tests}
 use Rattle.byteorder.specs.Endian.{little_bytes, little_number, little_from}
 use Rattle.byteorder.specs.Numbers.{length-bytes_low_first, little_from-cons}
-use Rattle.st_base.specs.Damages.{Fault}
+use Rattle.st_base.specs.Damages.{DamageView}
 use Rattle.st_block.specs.Fields.{Field, Number, Any, Nanoseconds, Zeros, Body, size_of, text_of, sizes, text, not_zero, not_same, field_wrong, first_wrong, IsRead, AreRead}
 
 -- one text behind another
@@ -38,7 +38,7 @@ length-text [] = refl
 length-text (f ∷ fields) = length-append (text_of f) (text fields) ∙ ap (λ n. n + length (text fields)) (length-text_of f) ∙ ap (λ n. size_of f + n) (length-text fields)
 
 -- the first of three checks
-option_or-assoc : (a b c : Option Fault) → option_or (option_or a b) c ≡ option_or a (option_or b c)
+option_or-assoc : (a b c : Option DamageView) → option_or (option_or a b) c ≡ option_or a (option_or b c)
 option_or-assoc None b c = refl
 option_or-assoc (Some f) b c = refl
 
@@ -85,7 +85,7 @@ number_again (suc k) (x ∷ xs) bytes l =
     ∙ ap (λ l. x ∷ l) (shifts 0 k (x + 256 * little_number k xs) ∙ ap (λ n. little_bytes k n) high ∙ rest)
 
 -- the first of two checks that both hold
-or_none : (a b : Option Fault) → option_or a b ≡ None → (a ≡ None) × (b ≡ None)
+or_none : (a b : Option DamageView) → option_or a b ≡ None → (a ≡ None) × (b ≡ None)
 or_none None b e = (refl, e)
 or_none (Some f) b e = cc
 

@@ -12,7 +12,7 @@ use Rattle.std.proofs.lemmas.Bool.Decides.{nat_tests}
 use Rattle.byteorder.specs.Endian.{little_number, little_bytes}
 use Rattle.byteorder.specs.Numbers.{little_number-reads_back}
 use Rattle.st_base.specs.Records.{Rec, InRange}
-use Rattle.st_base.specs.Damages.{fault_of}
+use Rattle.st_base.specs.Damages.{damage_view}
 use Rattle.st_block.specs.Fields.{text, first_wrong}
 use Rattle.st_block.specs.BlockText.{IsBlockSize, room, used, records_fields, block_head, block_fields, block_text, blocks, blocks_text, NoRoom, Fills}
 use Rattle.st_block.specs.Scanning.{captured, records_at, count_of, records_of, layout_from, layout_wrong, join_wrong, block_wrong, blocks_wrong, is_block_size, nearest, start_wrong, file_wrong}
@@ -269,11 +269,11 @@ one_given_there bytes xs ys a b =
 -- so a scan of a file gives no damage
 pub gives_outside : (bytes : List ℕ) (given rs : List Placed) (new : Progress) (result : Result (Option Placed) BlockErr) → IsFile bytes rs → Gives bytes given new result → IfErr result IsOutside
 gives_outside bytes given rs new (Ok o) is gives = tt
-gives_outside bytes given rs new (Err (block_err.Damaged d)) is gives = none-some (fault_of d) (sym (file_unhurt bytes rs is) ∙ gives)
+gives_outside bytes given rs new (Err (block_err.Damaged d)) is gives = none-some (damage_view d) (sym (file_unhurt bytes rs is) ∙ gives)
 gives_outside bytes given rs new (Err block_err.ReadFault) is gives = tt
 gives_outside bytes given rs new (Err block_err.NoMemory) is gives = tt
 
 -- nor does entering it
 pub entered_outside : (bytes : List ℕ) (rs : List Placed) (e : HeadErr) → IsFile bytes rs → EntersNew bytes (Err e) → e ≡ head_err.ReadFault
-entered_outside bytes rs (head_err.Damaged d) is gives = absurd (none-some (fault_of d) (sym (file_unhurt bytes rs is) ∙ gives))
+entered_outside bytes rs (head_err.Damaged d) is gives = absurd (none-some (damage_view d) (sym (file_unhurt bytes rs is) ∙ gives))
 entered_outside bytes rs head_err.ReadFault is gives = refl

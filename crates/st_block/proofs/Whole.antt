@@ -8,7 +8,7 @@ use Rattle.std.proofs.lemmas.Bool.Decides.{nat_tests}
 use Rattle.byteorder.specs.Endian.{little_number}
 use Rattle.byteorder.specs.Numbers.{little_from-lt}
 use Rattle.st_base.specs.Records.{Rec, InRange}
-use Rattle.st_base.specs.Damages.{Fault}
+use Rattle.st_base.specs.Damages.{DamageView}
 use Rattle.st_block.specs.Fields.{Field, Zeros, Body, size_of, sizes, not_same, above, first_wrong, AreRead}
 use Rattle.st_block.specs.BlockText.{padded, used, distance, record_head, record_fields, records_fields, block_head, block_fields, block_text, IsShort}
 use Rattle.st_block.specs.Scanning.{captured, taken, record_at, records_at, count_of, records_of, layout_wrong, join_wrong, block_wrong}
@@ -19,7 +19,7 @@ use Rattle.st_block.proofs.Laying.{body_is, room_is, records_more, padded_more}
 use Rattle.st_block.proofs.Checking.{sizes_head, sizes_record, sizes_records, sizes_block_head, record_head_checks, record_checks}
 
 -- two checks that both hold
-pub both_hold : (a b : Option Fault) → option_or a b ≡ None → (a ≡ None) × (b ≡ None)
+pub both_hold : (a b : Option DamageView) → option_or a b ≡ None → (a ≡ None) × (b ≡ None)
 both_hold None b e = (refl, e)
 both_hold (Some f) b e = cc
 

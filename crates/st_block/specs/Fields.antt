@@ -3,7 +3,7 @@
 use Rattle.std.specs.Prelude.{◌≡◌, ℕ, ◌+◌, List, [], ◌∷◌, ◌++◌, length, take, drop, replicate, Option, None, Some, nat_eq, nat_lt, if◌then◌else◌}
 use Rattle.std.specs.Option.{option_or}
 use Rattle.byteorder.specs.Endian.{little_bytes, little_number}
-use Rattle.st_base.specs.Damages.{Fault}
+use Rattle.st_base.specs.Damages.{DamageView}
 
 -- what stands in some bytes
 pub data Field : Type 0 where
@@ -45,21 +45,21 @@ text [] = []
 text (f ∷ fields) = text_of f ++ text fields
 
 -- the first byte that isn't zero, of bytes that begin at this place
-abbrev pub not_zero : ℕ → List ℕ → Option Fault
+abbrev pub not_zero : ℕ → List ℕ → Option DamageView
 not_zero place [] = None
 not_zero place (b ∷ bytes) =
     if nat_eq b 0 then not_zero (place + 1) bytes else Some (record { place = place; found = b; want = 0 })
 
 -- the number found is to be the one wanted
-abbrev pub not_same : ℕ → ℕ → ℕ → Option Fault
+abbrev pub not_same : ℕ → ℕ → ℕ → Option DamageView
 not_same place found want = if nat_eq found want then None else Some (record { place = place; found = found; want = want })
 
 -- the number found is to be no more than the one wanted
-abbrev pub above : ℕ → ℕ → ℕ → Option Fault
+abbrev pub above : ℕ → ℕ → ℕ → Option DamageView
 above place found want = if nat_lt want found then Some (record { place = place; found = found; want = want }) else None
 
 -- what is wrong at a field that is to stand at the front of these bytes, which begin at this place
-abbrev pub field_wrong : ℕ → Field → List ℕ → Option Fault
+abbrev pub field_wrong : ℕ → Field → List ℕ → Option DamageView
 field_wrong place (Number width n) bytes = not_same place (little_number width bytes) n
 field_wrong place (Any width n) bytes = None
 field_wrong place (Nanoseconds n) bytes = above place (little_number 4 bytes) 999999999
@@ -67,7 +67,7 @@ field_wrong place (Zeros count) bytes = not_zero place (take count bytes)
 field_wrong place (Body body) bytes = None
 
 -- what is wrong first, in the fields' order
-abbrev pub first_wrong : ℕ → List Field → List ℕ → Option Fault
+abbrev pub first_wrong : ℕ → List Field → List ℕ → Option DamageView
 first_wrong place [] bytes = None
 first_wrong place (f ∷ fields) bytes =
     option_or (field_wrong place f bytes) (first_wrong (place + size_of f) fields (drop (size_of f) bytes))

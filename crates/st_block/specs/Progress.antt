@@ -1,7 +1,7 @@
 -- What a scan has come to, and how its steps change that.
 use Rattle.std.specs.Prelude.{◌≡◌, ℕ, ◌+◌, ◌-◌, ◌*◌, ◌%◌, ◌≤◌, List, [], length, drop, Option, None, Some, Result, Ok, Err}
-use Rattle.st_base.specs.Places.{HasPart}
-use Rattle.st_base.specs.Damages.{fault_of}
+use Rattle.st_base.specs.PlacedReads.{HasPart}
+use Rattle.st_base.specs.Damages.{damage_view}
 use Rattle.st_block.specs.BlockText.{IsBlockSize, used}
 use Rattle.st_block.specs.Scanning.{taken, count_of, records_of, block_wrong}
 use Rattle.st_block.specs.Layout.{Stand, IsWholeBlock}
@@ -73,7 +73,7 @@ abbrev pub Loads : Progress → Option (List ℕ) → Progress → Result (Unit 
 Loads old content new (Ok u) =
     (block : List ℕ) × IsNext old content block × (block_wrong old.size old.done old.before block ≡ None) × IsWholeBlock block × (new ≡ entered old block)
 Loads old content new (Err (block_err.Damaged d)) =
-    (block : List ℕ) × IsNext old content block × (block_wrong old.size old.done old.before block ≡ Some (fault_of d)) × (new.stopped ≡ Some d)
+    (block : List ℕ) × IsNext old content block × (block_wrong old.size old.done old.before block ≡ Some (damage_view d)) × (new.stopped ≡ Some d)
 Loads old content new (Err block_err.ReadFault) = new ≡ waiting old
 Loads old content new (Err block_err.NoMemory) = new ≡ waiting old
 

@@ -4,8 +4,8 @@ use Rattle.std.specs.Option.{option_or}
 use Rattle.std.specs.List.{slice_get}
 use Rattle.byteorder.specs.Endian.{little_number}
 use Rattle.st_base.specs.Records.{Rec}
-use Rattle.st_base.specs.Places.{HasPart}
-use Rattle.st_base.specs.Damages.{Fault, fault_of}
+use Rattle.st_base.specs.PlacedReads.{HasPart}
+use Rattle.st_base.specs.Damages.{DamageView, damage_view}
 use Rattle.st_block.specs.Fields.{Number, above, first_wrong}
 use Rattle.st_block.specs.BlockText.{HasFile, BlockText}
 use Rattle.st_block.specs.Position.{PositionOf}
@@ -16,21 +16,21 @@ use Rattle.st_block.specs.declared.errors.BlockErr.{BlockErr}
 use Rattle.st_block.specs.declared.errors.BlockErr.TheVariants as block_err
 
 -- a head at this position is to lie in a file of this size
-abbrev pub head_outside : ℕ → ℕ → Option Fault
+abbrev pub head_outside : ℕ → ℕ → Option DamageView
 head_outside size position =
     if nat_lt size (position + 48) then Some (record { place = position; found = size; want = position + 48 }) else None
 
 -- a body of this length behind it is to lie in the file, too
-abbrev pub body_outside : ℕ → ℕ → ℕ → Option Fault
+abbrev pub body_outside : ℕ → ℕ → ℕ → Option DamageView
 body_outside size position len = above (position + 12) len (size - position - 48)
 
 -- both are to lie in the file
-abbrev pub record_outside : ℕ → ℕ → ℕ → Option Fault
+abbrev pub record_outside : ℕ → ℕ → ℕ → Option DamageView
 record_outside size position len = option_or (head_outside size position) (body_outside size position len)
 
 -- What is wrong first in the bytes of a head: its status, the two offsets of its body, its
 -- nanoseconds, and then its captured length.
-abbrev pub head_wrong : ℕ → ℕ → List ℕ → Option Fault
+abbrev pub head_wrong : ℕ → ℕ → List ℕ → Option DamageView
 head_wrong size position head =
     option_or (first_wrong (position + 20) (Number 4 0 ∷ Number 2 48 ∷ Number 2 48 ∷ []) (drop 20 head))
     (option_or (above (position + 8) (little_number 4 (drop 8 head)) 999999999)
@@ -53,8 +53,8 @@ abbrev pub GivesHead : Option (List ℕ) → ℕ → ℕ → Result Head HeadErr
 GivesHead content size position (Ok h) =
     (head : List ℕ) × HeadStands content size position head × (head_wrong size position head ≡ None) × IsHead head h
 GivesHead content size position (Err (head_err.Damaged d)) =
-    (head_outside size position ≡ Some (fault_of d))
-    ⊎ ((head : List ℕ) × HeadStands content size position head × (head_wrong size position head ≡ Some (fault_of d)))
+    (head_outside size position ≡ Some (damage_view d))
+    ⊎ ((head : List ℕ) × HeadStands content size position head × (head_wrong size position head ≡ Some (damage_view d)))
 GivesHead content size position (Err head_err.ReadFault) = position + 48 ≤ size
 
 -- the body there, or the check that fails first; a fault comes only where the body lies in the file
@@ -62,7 +62,7 @@ GivesHead content size position (Err head_err.ReadFault) = position + 48 ≤ siz
 abbrev pub GivesBody : Option (List ℕ) → ℕ → ℕ → ℕ → Result (List ℕ) BlockErr → Type 0
 GivesBody content size position len (Ok body) =
     (position + 48 + len ≤ size) × (length body ≡ len) × HasPart content (position + 48) body
-GivesBody content size position len (Err (block_err.Damaged d)) = record_outside size position len ≡ Some (fault_of d)
+GivesBody content size position len (Err (block_err.Damaged d)) = record_outside size position len ≡ Some (damage_view d)
 GivesBody content size position len (Err block_err.ReadFault) = (position + 48 + len ≤ size) × (1 ≤ len)
 GivesBody content size position len (Err block_err.NoMemory) = position + 48 + len ≤ size
 

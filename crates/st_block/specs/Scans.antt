@@ -3,7 +3,7 @@ use Rattle.std.specs.Prelude.{◌≡◌, ℕ, ◌+◌, ◌-◌, ◌*◌, ◌/◌
 use Rattle.std.specs.List.{flat_map}
 use Rattle.byteorder.specs.Endian.{little_number}
 use Rattle.st_base.specs.Records.{Rec, InRange}
-use Rattle.st_base.specs.Damages.{fault_of}
+use Rattle.st_base.specs.Damages.{damage_view}
 use Rattle.st_block.specs.BlockText.{IsBlockSize, IsShort, HasFile, Fills, BlockText, blocks_text, used, room}
 use Rattle.st_block.specs.Position.{places, places_of, positions}
 use Rattle.st_block.specs.Scanning.{record_at, records_at, blocks_wrong, start_wrong, file_wrong}
@@ -64,7 +64,7 @@ pub record GoesOn (p : Progress) (bytes : List ℕ) (given : List Placed) : Type
 -- the file that fails
 abbrev pub StandsIn : Option Damage → Progress → List ℕ → List Placed → Type 0
 StandsIn None p bytes given = GoesOn p bytes given
-StandsIn (Some d) p bytes given = file_wrong bytes ≡ Some (fault_of d)
+StandsIn (Some d) p bytes given = file_wrong bytes ≡ Some (damage_view d)
 
 abbrev pub Stands : Progress → List ℕ → List Placed → Type 0
 Stands p bytes given = StandsIn p.stopped p bytes given
@@ -75,7 +75,7 @@ Stands p bytes given = StandsIn p.stopped p bytes given
 abbrev pub Gives : List ℕ → List Placed → Progress → Result (Option Placed) BlockErr → Type 0
 Gives bytes given new (Ok None) = IsFile bytes given × Stands new bytes given
 Gives bytes given new (Ok (Some x)) = Stands new bytes (given ++ x ∷ [])
-Gives bytes given new (Err (block_err.Damaged d)) = file_wrong bytes ≡ Some (fault_of d)
+Gives bytes given new (Err (block_err.Damaged d)) = file_wrong bytes ≡ Some (damage_view d)
 Gives bytes given new (Err block_err.ReadFault) = Stands new bytes given
 Gives bytes given new (Err block_err.NoMemory) = Stands new bytes given
 
@@ -95,18 +95,18 @@ Follows old new x = (reached old ≤ x.0) × (48 ≤ x.0) × (x.0 + room x.1 ≡
 -- what entering a file gives: the scan then stands for no records yet; or the first check that fails
 abbrev pub Enters : {T : Type 0} → List ℕ → Progress → Result T HeadErr → Type 0
 Enters bytes new (Ok u) = Stands new bytes []
-Enters bytes new (Err (head_err.Damaged d)) = file_wrong bytes ≡ Some (fault_of d)
+Enters bytes new (Err (head_err.Damaged d)) = file_wrong bytes ≡ Some (damage_view d)
 Enters bytes new (Err head_err.ReadFault) = Unit {0}
 
 -- the same of a scan that is made
 abbrev pub EntersNew : List ℕ → Result Progress HeadErr → Type 0
 EntersNew bytes (Ok p) = Stands p bytes []
-EntersNew bytes (Err (head_err.Damaged d)) = file_wrong bytes ≡ Some (fault_of d)
+EntersNew bytes (Err (head_err.Damaged d)) = file_wrong bytes ≡ Some (damage_view d)
 EntersNew bytes (Err head_err.ReadFault) = Unit {0}
 
 -- the same from the file's first eight bytes, or as many as it has, and its length
 abbrev pub Starts : List ℕ → ℕ → Result Progress HeadErr → Type 0
 Starts head extent (Ok p) =
     (start_wrong head extent ≡ None) × (p ≡ fresh (little_number 4 (drop 4 head)) (extent / little_number 4 (drop 4 head)))
-Starts head extent (Err (head_err.Damaged d)) = start_wrong head extent ≡ Some (fault_of d)
+Starts head extent (Err (head_err.Damaged d)) = start_wrong head extent ≡ Some (damage_view d)
 Starts head extent (Err head_err.ReadFault) = ⊥

@@ -2,8 +2,8 @@ ghost use Rattle.std.specs.Prelude.{◌≡◌, ◌≤◌, ◌<◌, ◌+◌, ◌*
 ghost use Rattle.byteorder.specs.Endian.{little_number};
 ghost use Rattle.st_base.specs.Records.{Rec};
 ghost use Rattle.st_base.specs.Faults.{CountsOn, Rose, HasCauseOf};
-ghost use Rattle.st_base.specs.Places.{HasPart};
-ghost use Rattle.st_base.specs.Damages.{fault_of};
+ghost use Rattle.st_base.specs.PlacedReads.{HasPart};
+ghost use Rattle.st_base.specs.Damages.{damage_view};
 ghost use Rattle.st_block.specs.Fields.{not_same, above};
 ghost use Rattle.st_block.specs.Reading.{head_outside, body_outside, record_outside, head_wrong, IsHead, GivesHead, GivesBody, head_reads, body_reads, StandsAt, HeadOf, BodyOf};
 
@@ -30,7 +30,7 @@ pub struct Head {
 
 /// The number found is to be the one wanted.
 fn not_same(place: u64, found: u64, want: u64) -> Option<Damage>
-    ensures { option_map fault_of result ≡ not_same place found want }
+    ensures { option_map damage_view result ≡ not_same place found want }
 {
     if found == want {
         None
@@ -41,7 +41,7 @@ fn not_same(place: u64, found: u64, want: u64) -> Option<Damage>
 
 /// The number found is to be no more than the one wanted.
 fn above(place: u64, found: u64, want: u64) -> Option<Damage>
-    ensures { option_map fault_of result ≡ above place found want }
+    ensures { option_map damage_view result ≡ above place found want }
 {
     if want < found {
         Some(Damage { place, found, want })
@@ -52,7 +52,7 @@ fn above(place: u64, found: u64, want: u64) -> Option<Damage>
 
 /// A head at this position is to lie in a file of this size.
 fn head_outside(size: u64, position: u32) -> Option<Damage>
-    ensures { option_map fault_of result ≡ head_outside size position }
+    ensures { option_map damage_view result ≡ head_outside size position }
 {
     let place = u64::from(position);
     let want = place + u64::from(HEAD);
@@ -70,7 +70,7 @@ fn head_outside(size: u64, position: u32) -> Option<Damage>
 /// A body of this length behind a head that lies in the file is to lie there, too.
 fn body_outside(size: u64, position: u32, len: u32) -> Option<Damage>
     requires { position + 48 ≤ size }
-    ensures { option_map fault_of result ≡ body_outside size position len }
+    ensures { option_map damage_view result ≡ body_outside size position len }
 {
     let place = u64::from(position);
     above(place + 12, u64::from(len), size - place - u64::from(HEAD))
@@ -80,7 +80,7 @@ fn body_outside(size: u64, position: u32, len: u32) -> Option<Damage>
 fn head_wrong(size: u64, position: u32, head: &[u8]) -> Option<Damage>
     requires inside { position + 48 ≤ size }
     requires len { length head.now ≡ 48 }
-    ensures { option_map fault_of result ≡ head_wrong size position head.now }
+    ensures { option_map damage_view result ≡ head_wrong size position head.now }
 {
     let place = u64::from(position);
     let fields = head.split_at(20).1;
@@ -166,7 +166,7 @@ pub fn record_head_at<R: Reader>(file: &mut R, position: u32) -> Result<Head, He
 
 /// A head at this position and a body of this length behind it are to lie in a file of this size.
 fn record_outside(size: u64, position: u32, len: u32) -> Option<Damage>
-    ensures { option_map fault_of result ≡ record_outside size position len }
+    ensures { option_map damage_view result ≡ record_outside size position len }
 {
     match head_outside(size, position) {
         Some(damage) => Some(damage),

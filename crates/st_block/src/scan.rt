@@ -1,6 +1,6 @@
 ghost use Rattle.std.specs.Prelude.{◌≡◌, ◌≤◌, ◌*◌, List, ℕ, Some, Err, IfOk, IfErr, IfSome, OnErr};
 ghost use Rattle.st_base.specs.Faults.{HasCauseOf};
-ghost use Rattle.st_base.specs.Places.{IsSameFile};
+ghost use Rattle.st_base.specs.PlacedReads.{IsSameFile};
 ghost use Rattle.st_block.specs.Progress.{IsOutside};
 ghost use Rattle.st_block.specs.Scans.{Placed, IsFile, Stands, Gives, Follows, Enters};
 

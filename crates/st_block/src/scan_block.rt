@@ -1,5 +1,5 @@
 ghost use Rattle.std.specs.Prelude.{◌≡◌, ◌≤◌, ◌+◌, ◌*◌, ◌%◌, ◌^◌, length, None, Some, MatchResult, IfOk, OnOk, option_map};
-ghost use Rattle.st_base.specs.Damages.{fault_of};
+ghost use Rattle.st_base.specs.Damages.{damage_view};
 ghost use Rattle.st_block.specs.Scanning.{join_wrong, block_wrong};
 ghost use Rattle.st_block.specs.Layout.{IsLayout, IsWholeBlock};
 
@@ -12,7 +12,7 @@ use st_base::Damage;
 fn join_wrong(place: u64, before: Option<usize>, block: &[u8]) -> Option<Damage>
     requires least { 4096 ≤ length block.now }
     requires place { place + length block.now ≤ 2 ^ 32 }
-    ensures { option_map fault_of result ≡ join_wrong (length block.now) place before block.now }
+    ensures { option_map damage_view result ≡ join_wrong (length block.now) place before block.now }
 {
     let before = before?;
     let found = captured_at(block.split_at(48).1) as u64;
@@ -36,7 +36,7 @@ pub fn check_block(number: u32, before: Option<usize>, block: &[u8]) -> Result<L
     requires least { 4096 ≤ length block.now }
     requires whole { length block.now % 16 ≡ 0 }
     requires place { length block.now * number + length block.now ≤ 2 ^ 32 }
-    ensures wrong { MatchResult result (λ _. block_wrong (length block.now) number before block.now ≡ None) (λ d. block_wrong (length block.now) number before block.now ≡ Some (fault_of d)) }
+    ensures wrong { MatchResult result (λ _. block_wrong (length block.now) number before block.now ≡ None) (λ d. block_wrong (length block.now) number before block.now ≡ Some (damage_view d)) }
     ensures whole { OnOk result (IsWholeBlock block.now) }
     ensures laid { IfOk result (IsLayout block.now) }
 {

@@ -1,7 +1,7 @@
 ghost use Rattle.std.specs.Prelude.{◌≡◌, ◌≤◌, ◌<◌, ◌+◌, ◌-◌, ◌*◌, ◌%◌, ◌^◌, length, drop, None, Some, Err, IfOk, OnErr, IfErr, OnOk, IfSome, List, ℕ, Ok, option_map};
 ghost use Rattle.st_base.specs.Faults.{HasCauseOf};
 ghost use Rattle.st_base.specs.Records.{Rec};
-ghost use Rattle.st_base.specs.Places.{HasPart};
+ghost use Rattle.st_base.specs.PlacedReads.{HasPart};
 ghost use Rattle.st_block.specs.Scanning.{taken, captured, record_at};
 ghost use Rattle.st_block.specs.Progress.{bytes_of, IsOutside};
 

@@ -2,7 +2,7 @@ ghost use Rattle.std.specs.Prelude.{◌≡◌, ◌≤◌, ◌<◌, ◌+◌, ◌^
 ghost use Rattle.std.specs.Option.{option_or};
 ghost use Rattle.byteorder.specs.Endian.{little_number};
 ghost use Rattle.st_base.specs.Records.{Rec};
-ghost use Rattle.st_base.specs.Damages.{fault_of};
+ghost use Rattle.st_base.specs.Damages.{damage_view};
 ghost use Rattle.st_block.specs.Fields.{not_same, above, not_zero, first_wrong, Zeros};
 ghost use Rattle.st_block.specs.BlockText.{padded, record_head, record_fields, records_fields, block_fields, block_head};
 ghost use Rattle.st_block.specs.Scanning.{captured, taken, count_of, record_at, records_at, records_of};
@@ -14,7 +14,7 @@ use st_base::Damage;
 
 /// The first of two checks that fails.
 pub fn first_of(one: Option<Damage>, other: Option<Damage>) -> Option<Damage>
-    ensures { option_map fault_of result ≡ option_or (option_map fault_of one) (option_map fault_of other) }
+    ensures { option_map damage_view result ≡ option_or (option_map damage_view one) (option_map damage_view other) }
 {
     match one {
         Some(damage) => Some(damage),
@@ -24,7 +24,7 @@ pub fn first_of(one: Option<Damage>, other: Option<Damage>) -> Option<Damage>
 
 /// The number found is to be the one wanted.
 pub fn number_wrong(place: u64, found: u64, want: u64) -> Option<Damage>
-    ensures { option_map fault_of result ≡ not_same place found want }
+    ensures { option_map damage_view result ≡ not_same place found want }
 {
     if found == want {
         return None;
@@ -34,7 +34,7 @@ pub fn number_wrong(place: u64, found: u64, want: u64) -> Option<Damage>
 
 /// The nanoseconds found are to be less than a second.
 fn nanoseconds_wrong(place: u64, found: u32) -> Option<Damage>
-    ensures { option_map fault_of result ≡ above place found 999999999 }
+    ensures { option_map damage_view result ≡ above place found 999999999 }
 {
     if 999_999_999 < found {
         return Some(Damage {
@@ -49,7 +49,7 @@ fn nanoseconds_wrong(place: u64, found: u32) -> Option<Damage>
 /// The bytes, of which the first is at `place`, are to be zeros.
 fn zeros_wrong(place: u64, bytes: &[u8]) -> Option<Damage>
     requires { place + length bytes.now < 2 ^ 64 }
-    ensures { option_map fault_of result ≡ not_zero place bytes.now }
+    ensures { option_map damage_view result ≡ not_zero place bytes.now }
 {
     let mut at = place;
     'bytes: for byte in bytes {
@@ -78,7 +78,7 @@ fn short_at(at: usize, bytes: &[u8]) -> u16
 fn record_head_wrong(place: u64, next: u64, bytes: &[u8]) -> Option<Damage>
     requires head { 48 ≤ length bytes.now }
     requires place { place + length bytes.now ≤ 2 ^ 32 }
-    ensures { (r : Rec) → option_map fault_of result ≡ first_wrong place (record_head next r) bytes.now }
+    ensures { (r : Rec) → option_map damage_view result ≡ first_wrong place (record_head next r) bytes.now }
 {
     let distance = number_wrong(place, number_at(0, bytes) as u64, next);
     let nanoseconds = nanoseconds_wrong(place + 8, number_at(8, bytes));
@@ -94,7 +94,7 @@ fn record_head_wrong(place: u64, next: u64, bytes: &[u8]) -> Option<Damage>
 fn record_wrong(place: u64, next: u64, bytes: &[u8]) -> Option<Damage>
     requires fits { taken bytes.now ≤ length bytes.now }
     requires place { place + length bytes.now ≤ 2 ^ 32 }
-    ensures { option_map fault_of result ≡ first_wrong place (record_fields next (record_at bytes.now)) bytes.now }
+    ensures { option_map damage_view result ≡ first_wrong place (record_fields next (record_at bytes.now)) bytes.now }
 {
     let len = captured_at(bytes) as usize;
     let padding = room_of(len as u32) as usize - 48 - len;
@@ -127,7 +127,7 @@ fn records_wrong(place: u64, count: u32, block: &[u8]) -> Option<Damage>
     requires fits { Fit count (drop 48 block.now) }
     requires least { 48 ≤ length block.now }
     requires place { place + length block.now ≤ 2 ^ 32 }
-    ensures { option_map fault_of result ≡ first_wrong (place + 48) (records_fields (records_at count (drop 48 block.now))) (drop 48 block.now) }
+    ensures { option_map damage_view result ≡ first_wrong (place + 48) (records_fields (records_at count (drop 48 block.now))) (drop 48 block.now) }
 {
     let mut at = 48;
     'records: for had in 0..count {
@@ -147,7 +147,7 @@ fn records_wrong(place: u64, count: u32, block: &[u8]) -> Option<Damage>
 fn counts_wrong(place: u64, number: u32, layout: Layout, block: &[u8]) -> Option<Damage>
     requires least { 48 ≤ length block.now }
     requires place { place + length block.now ≤ 2 ^ 32 }
-    ensures { option_map fault_of result ≡ first_wrong place (head_counts (length block.now) number layout.count layout.end) block.now }
+    ensures { option_map damage_view result ≡ first_wrong place (head_counts (length block.now) number layout.count layout.end) block.now }
 {
     let version = number_wrong(place, number_at(0, block) as u64, 1);
     let size = number_wrong(place + 4, number_at(4, block) as u64, block.len() as u64);
@@ -168,7 +168,7 @@ fn times_wrong(place: u64, first: &[u8], last: &[u8], block: &[u8]) -> Option<Da
     requires last { 48 ≤ length last.now }
     requires least { 48 ≤ length block.now }
     requires place { place + length block.now ≤ 2 ^ 32 }
-    ensures { option_map fault_of result ≡ first_wrong (place + 32) (head_times (record_at first.now) (record_at last.now)) (drop 32 block.now) }
+    ensures { option_map damage_view result ≡ first_wrong (place + 32) (head_times (record_at first.now) (record_at last.now)) (drop 32 block.now) }
 {
     let seconds = number_wrong(
         place + 32,
@@ -198,7 +198,7 @@ pub fn fields_wrong(place: u64, number: u32, layout: Layout, block: &[u8]) -> Op
     requires laid { IsLayout block.now layout }
     requires least { 4096 ≤ length block.now }
     requires place { place + length block.now ≤ 2 ^ 32 }
-    ensures { option_map fault_of result ≡ first_wrong place (block_fields (length block.now) number (records_of block.now)) block.now }
+    ensures { option_map damage_view result ≡ first_wrong place (block_fields (length block.now) number (records_of block.now)) block.now }
 {
     let first = block.split_at(48).1;
     let last = block.split_at(layout.last).1;

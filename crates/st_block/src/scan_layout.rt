@@ -1,6 +1,6 @@
 ghost use Rattle.std.specs.Prelude.{◌≡◌, ◌≤◌, ◌+◌, ◌*◌, ◌%◌, ◌^◌, ◌-◌, length, drop, None, Some, MatchResult, IfOk};
 ghost use Rattle.byteorder.specs.Endian.{little_number};
-ghost use Rattle.st_base.specs.Damages.{fault_of};
+ghost use Rattle.st_base.specs.Damages.{damage_view};
 ghost use Rattle.st_block.specs.BlockText.{used, last_of, padded};
 ghost use Rattle.st_block.specs.Scanning.{captured, taken, count_of, record_at, records_of, layout_wrong};
 ghost use Rattle.st_block.specs.Layout.{Fit, IsLayout};
@@ -55,7 +55,7 @@ pub fn lay_out(place: u64, block: &[u8]) -> Result<Layout, Damage>
     requires place { place + length block.now ≤ 2 ^ 32 }
     requires least { 4096 ≤ length block.now }
     requires whole { length block.now % 16 ≡ 0 }
-    ensures wrong { MatchResult result (λ _. layout_wrong place block.now ≡ None) (λ d. layout_wrong place block.now ≡ Some (fault_of d)) }
+    ensures wrong { MatchResult result (λ _. layout_wrong place block.now ≡ None) (λ d. layout_wrong place block.now ≡ Some (damage_view d)) }
     ensures laid { IfOk result (IsLayout block.now) }
 {
     let count = count_at(block);

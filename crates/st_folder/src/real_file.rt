@@ -29,7 +29,7 @@ impl Reader for RealFile {
 
     ghost beside = { λ f. record { kind = f.kind; home = 0 } };
 
-    ghost told = { λ f bytes same. Prim.cc };
+    ghost sized = { λ f bytes same. Prim.cc };
 
     fn size(&self) -> u64 {
         self.file.size()

@@ -33,7 +33,7 @@ impl Reader for MemFile {
 
     ghost beside = { λ f. record { kind = f.kind; home = 0 } };
 
-    ghost told = { λ f bytes same. Prim.search rules };
+    ghost sized = { λ f bytes same. Prim.search rules };
 
     fn size(&self) -> u64 {
         self.content.bytes().len() as u64

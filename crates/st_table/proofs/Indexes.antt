@@ -2,7 +2,7 @@
 use Rattle.std.proofs.Common.{◌≡◌, ℕ, ◌≤◌, true, List, [], ◌∷◌, ◌++◌, take, drop, Option, Some, None, Result, Ok, Err, sym, ap, ◌∙◌, subst, inl, inr, arith}
 use Rattle.std.specs.Prelude.{nat_eq}
 use Rattle.byteorder.specs.Endian.{little_number}
-use Rattle.st_base.specs.Damages.{Fault, no}
+use Rattle.st_base.specs.Damages.{DamageView, unmet}
 use Rattle.st_tblock.specs.Standing.{Standing}
 use Rattle.st_tblock.specs.Block.{Row}
 use Rattle.st_tblock.specs.Handles.{handle_in, handles_in, footer_in, named, IsHandle}
@@ -15,19 +15,19 @@ use Rattle.st_table.specs.declared.index.IndexEntry.{IndexEntry}
 use Rattle.st_table.proofs.Walking.{behind_on, behind_all}
 
 -- a footer's check fails within its first forty-one bytes
-named_place : (o : Option (Handle × Handle)) (f : Fault) → named o ≡ Err f → f.place ≤ 40
-named_place None f e = let same : no 0 ≡ f = cc in omega (arith, ap (λ (g : Fault). g.place) same)
+named_place : (o : Option (Handle × Handle)) (f : DamageView) → named o ≡ Err f → f.place ≤ 40
+named_place None f e = let same : unmet 0 ≡ f = cc in omega (arith, ap (λ (g : DamageView). g.place) same)
 named_place (Some x) f e = cc
 
-pub footer_place : (bytes : List ℕ) (f : Fault) → footer_in bytes ≡ Err f → f.place ≤ 40
+pub footer_place : (bytes : List ℕ) (f : DamageView) → footer_in bytes ≡ Err f → f.place ≤ 40
 unfolding footer_in
 footer_place bytes f e =
-    let wrong : Result (Handle × Handle) Fault = Err (record { place = 40; found = little_number 8 (drop 40 bytes); want = MAGIC }) in
+    let wrong : Result (Handle × Handle) DamageView = Err (record { place = 40; found = little_number 8 (drop 40 bytes); want = MAGIC }) in
     elim (chosen (nat_eq (little_number 8 (drop 40 bytes)) MAGIC) (named (handles_in (take 40 bytes))) wrong (Err f) e) [
       | inl h ↦ named_place (handles_in (take 40 bytes)) f h.1
       | inr h ↦
-          let same : ◌≡◌ {A = Fault} (record { place = 40; found = little_number 8 (drop 40 bytes); want = MAGIC }) f = let k = h.1 in cc in
-          omega (arith, ap (λ (g : Fault). g.place) same)
+          let same : ◌≡◌ {A = DamageView} (record { place = 40; found = little_number 8 (drop 40 bytes); want = MAGIC }) f = let k = h.1 in cc in
+          omega (arith, ap (λ (g : DamageView). g.place) same)
     ]
 
 -- a value that is one handle passes

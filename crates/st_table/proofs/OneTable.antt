@@ -2,7 +2,7 @@
 use Rattle.std.proofs.Common.{◌≡◌, ℕ, ◌+◌, ◌-◌, List, [], ◌∷◌, ◌++◌, length, take, drop, Option, Some, None, Result, Ok, sym, ap, ◌∙◌, subst}
 use Rattle.st_tblock.specs.Reading.{Read}
 use Rattle.st_tblock.specs.Block.{Row, Good}
-use Rattle.st_base.specs.Damages.{Fault}
+use Rattle.st_base.specs.Damages.{DamageView}
 use Rattle.st_tblock.specs.Handles.{IsHandle, footer_in}
 use Rattle.st_tblock.specs.declared.handle.Handle.{Handle}
 use Rattle.st_tblock.proofs.Following.{one_reading}
@@ -35,7 +35,7 @@ one_list limit bytes low (e ∷ index) rows others b o =
 -- a footer names one index
 one_footer : (bytes : List ℕ) (meta named m n : Handle) → footer_in bytes ≡ Ok (meta, named) → footer_in bytes ≡ Ok (m, n) → named ≡ n
 one_footer bytes meta named m n p q =
-    let both : ◌≡◌ {A = Result (Handle × Handle) Fault} (Ok (meta, named)) (Ok (m, n)) = sym p ∙ q in
+    let both : ◌≡◌ {A = Result (Handle × Handle) DamageView} (Ok (meta, named)) (Ok (m, n)) = sym p ∙ q in
     let inner : ◌≡◌ {A = Handle × Handle} (meta, named) (m, n) = cc in
     ap (λ (x : Handle × Handle). x.1) inner
 

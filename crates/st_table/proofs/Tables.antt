@@ -2,7 +2,7 @@
 use Rattle.std.proofs.Common.{◌≡◌, ℕ, ◌-◌, Bool, true, false, List, [], ◌∷◌, ◌++◌, length, take, drop, All, Option, Some, None, Result, Ok, Err, refl, sym, ap, ◌∙◌, subst, inl, inr, arith}
 use Rattle.std.specs.Prelude.{IsTrue, not, if◌then◌else◌, nat_lt}
 use Rattle.std.proofs.lemmas.List.Elements.{All-weaker, All-head, All-tail, All-append, All-same, All-cons, All-nil}
-use Rattle.st_base.specs.Damages.{Fault, no}
+use Rattle.st_base.specs.Damages.{DamageView, unmet}
 use Rattle.st_tblock.specs.Reading.{Read}
 use Rattle.st_tblock.specs.Block.{Row, Walk, Rows, Good, next_in, is_above, is_before, is_had}
 use Rattle.st_tblock.specs.Cursor.{fault_at}
@@ -31,20 +31,20 @@ not_true true h = cc
 not_true false h = refl
 
 -- no check fails at an entry of a good block whose rows pass
-entry_is_good : (takes : Row → Bool) (place : ℕ) (w v : Walk) (more : List Row) (f : Fault) → Rows w more v → v.rest ≡ [] → IsTrue (is_had v.at v.left) → All (λ r. IsTrue (takes r)) more → entry_wrong takes place w ≡ Some f → ⊥
+entry_is_good : (takes : Row → Bool) (place : ℕ) (w v : Walk) (more : List Row) (f : DamageView) → Rows w more v → v.rest ≡ [] → IsTrue (is_had v.at v.left) → All (λ r. IsTrue (takes r)) more → entry_wrong takes place w ≡ Some f → ⊥
 entry_is_good takes place w v [] f h e t a wrong =
     let rest : w.rest ≡ [] = ap (λ (u : Walk). u.rest) h ∙ e in
     let had : is_had w.at w.left ≡ true = ap (λ (u : Walk). is_had u.at u.left) h ∙ t in
-    let none : fault_at place w w.rest ≡ None = ap (fault_at place w) rest ∙ ap (λ (b : Bool). if b then None else Some (no place)) had in
+    let none : fault_at place w w.rest ≡ None = ap (fault_at place w) rest ∙ ap (λ (b : Bool). if b then None else Some (unmet place)) had in
     let no_row : row_wrong takes place w (next_in w) ≡ None = ap (row_wrong takes place w) (no_next w rest) in
-    let both : ◌≡◌ {A = Option Fault} None (Some f) = rw (none, no_row) at wrong in
+    let both : ◌≡◌ {A = Option DamageView} None (Some f) = rw (none, no_row) at wrong in
     cc
 entry_is_good takes place w v (r ∷ more) f h e t a wrong =
     let row : row_of w h.0 ≡ r = λ i. (h.2 i, h.3 i) in
     let pass : takes (row_of w h.0) ≡ true = ap takes row ∙ All-head (λ q. IsTrue (takes q)) r more a in
     let here = row_is_wrong takes place w h.0 h.1 in
     let none : row_wrong takes place w (Some h.0) ≡ None = rw pass refl in
-    let both : ◌≡◌ {A = Option Fault} None (Some f) = sym none ∙ sym here ∙ wrong in
+    let both : ◌≡◌ {A = Option DamageView} None (Some f) = sym none ∙ sym here ∙ wrong in
     cc
 
 -- the second part of a list whose elements all pass
@@ -53,7 +53,7 @@ rest_pass P [] ys a = a
 rest_pass P (x ∷ xs) ys a = rest_pass P xs ys (All-tail P x (xs ++ ys) a)
 
 -- no check of a good block fails whose rows pass
-pub good_block : (takes : Row → Bool) (place : ℕ) (block : List ℕ) (rows : List Row) (f : Fault) → Good block rows → All (λ r. IsTrue (takes r)) rows → Fails takes place block f → ⊥
+pub good_block : (takes : Row → Bool) (place : ℕ) (block : List ℕ) (rows : List Row) (f : DamageView) → Good block rows → All (λ r. IsTrue (takes r)) rows → Fails takes place block f → ⊥
 good_block takes place block rows f g a (inl h) =
     let both : ◌≡◌ {A = Option (List ℕ × List ℕ)} (Some (g.text, g.places)) None = sym g.restarts ∙ h.0 in
     cc
@@ -143,7 +143,7 @@ named_stands limit bytes key low (r ∷ index) rows e (hd, here, more, one, s, b
 -- a table has one index
 pub index_once : (bytes : List ℕ) (rows : List Row) (entries : List IndexEntry) → (t : IsTable bytes rows) → (n : Entered bytes entries) → t.index ≡ n.index
 index_once bytes rows entries t n =
-    let both : ◌≡◌ {A = Result (Handle × Handle) Fault} (Ok (t.meta, t.named)) (Ok (n.meta, n.named)) = sym t.handles ∙ n.handles in
+    let both : ◌≡◌ {A = Result (Handle × Handle) DamageView} (Ok (t.meta, t.named)) (Ok (n.meta, n.named)) = sym t.handles ∙ n.handles in
     let inner : ◌≡◌ {A = Handle × Handle} (t.meta, t.named) (n.meta, n.named) = cc in
     stored_once (length bytes - 48) bytes t.named n.named t.index n.index (ap (λ (x : Handle × Handle). x.1) inner) t.stored n.stored
 
@@ -175,7 +175,7 @@ table_entered bytes rows e t (inr (inl w)) =
     let none : footer_wrong bytes ≡ None = rw some (ap (moved (length bytes - 48)) t.handles) in
     absurd (let both : ◌≡◌ {A = Option Refusal} None (Some (refusal_of e)) = sym none ∙ w in cc)
 table_entered bytes rows e t (inr (inr (named, f, refuses))) =
-    let both : ◌≡◌ {A = Result (Handle × Handle) Fault} (Ok (t.meta, t.named)) (Ok (f.1.0, named)) = sym t.handles ∙ f.1.1 in
+    let both : ◌≡◌ {A = Result (Handle × Handle) DamageView} (Ok (t.meta, t.named)) (Ok (f.1.0, named)) = sym t.handles ∙ f.1.1 in
     let inner : ◌≡◌ {A = Handle × Handle} (t.meta, t.named) (f.1.0, named) = cc in
     let stored = subst (λ (h : Handle). Stored (length bytes - 48) bytes h t.index) (ap (λ (x : Handle × Handle). x.1) inner) t.stored in
     stored_stands holds_handle (length bytes - 48) bytes named t.index e stored (blocks_handles (length bytes - 48) bytes None t.index rows t.blocks) refuses

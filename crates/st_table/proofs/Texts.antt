@@ -4,16 +4,16 @@ use Rattle.std.specs.Prelude.{OnOk}
 use Rattle.std.proofs.lemmas.List.{take_all}
 use Rattle.std.specs.Io.KnownBytes.{Appends}
 use Rattle.std.proofs.KnownBytes.{Appends-trans}
-use Rattle.st_base.specs.Pieces.{Puts, AppendsFront}
-use Rattle.st_base.proofs.Putting.{front-then}
+use Rattle.st_base.specs.Pieces.{Puts, AppendsPrefix}
+use Rattle.st_base.proofs.Putting.{prefix-then}
 
 -- one text was put, and then another as the result says
 pub puts_then : {T E : Type 0} (a b c : Option (List ℕ)) (xs ys : List ℕ) (result : Result T E) → Appends a b xs → Puts b c ys result → Puts a c (xs ++ ys) result
 puts_then a b c xs ys (Ok x) first next = Appends-trans a b c xs ys first next
-puts_then a b c xs ys (Err e) first next = front-then a b c xs ys first next
+puts_then a b c xs ys (Err e) first next = prefix-then a b c xs ys first next
 
 -- a text is a front of itself
-pub whole_front : (a b : Option (List ℕ)) (xs : List ℕ) → Appends a b xs → AppendsFront a b xs
+pub whole_front : (a b : Option (List ℕ)) (xs : List ℕ) → Appends a b xs → AppendsPrefix a b xs
 whole_front a b xs put = (length xs, subst (Appends a b) (sym (take_all (length xs) xs (omega arith))) put)
 
 -- what follows from what an Ok gives

@@ -2,7 +2,7 @@
 use Rattle.std.proofs.Common.{◌≡◌, ℕ, Bool, true, List, [], ◌∷◌, ◌++◌, length, All, Option, Some, Ok, Err, refl, sym, ap, ◌∙◌, subst, inl, inr, rules}
 use Rattle.std.specs.Prelude.{IsTrue}
 use Rattle.std.proofs.lemmas.List.Elements.{All-push, All-head, All-cons}
-use Rattle.st_base.specs.Damages.{no, fault_of}
+use Rattle.st_base.specs.Damages.{unmet, damage_view}
 use Rattle.st_tblock.specs.Standing.{Standing}
 use Rattle.st_tblock.specs.Block.{Row, Entry, Walk, Rows, Good, next_in, key_of, past, start, front_of, entry_in, is_before, is_above, is_had}
 use Rattle.st_tblock.specs.Cursor.{Begins}
@@ -21,8 +21,8 @@ begun takes block place s h =
     (record { text = h.0.0; places = h.0.1; restarts = h.1; entries = sym walk; pass = search rules }, ap (λ (t : Standing). t.place) h.2)
 
 -- or the restarts are wrong
-pub not_begun : (takes : Row → Bool) (block : List ℕ) (place : ℕ) (d : Damage) (e : TableErr) → Begins block place (Err d) → refusal_of e ≡ Broken (fault_of d) → RefusesBlock takes place block e
-not_begun takes block place d e h r = inr (no place, inl (h.0, refl), r ∙ ap Broken h.1)
+pub not_begun : (takes : Row → Bool) (block : List ℕ) (place : ℕ) (d : Damage) (e : TableErr) → Begins block place (Err d) → refusal_of e ≡ Broken (damage_view d) → RefusesBlock takes place block e
+not_begun takes block place d e h r = inr (unmet place, inl (h.0, refl), r ∙ ap Broken h.1)
 
 -- a step goes behind one more row
 pub behind_on : (takes : Row → Bool) (block : List ℕ) (w v : Walk) (rows : List Row) (x : Entry × List ℕ) → Behind takes block w rows → next_in w ≡ Some x → IsTrue (takes (row_of w x)) → v ≡ past w x → Behind takes block v (rows ++ row_of w x ∷ [])

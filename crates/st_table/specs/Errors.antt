@@ -1,6 +1,6 @@
 -- Why a call on a table refuses.
 use Rattle.std.specs.Prelude.{◌≡◌, ℕ}
-use Rattle.st_base.specs.Damages.{Fault, fault_of}
+use Rattle.st_base.specs.Damages.{DamageView, damage_view}
 use Rattle.st_tblock.specs.declared.cursor.CursorErr.{CursorErr}
 use Rattle.st_tblock.specs.declared.cursor.CursorErr.TheVariants as cursor
 use Rattle.st_table.specs.declared.errors.TableErr.{TableErr}
@@ -9,14 +9,14 @@ use Rattle.st_table.specs.declared.errors.TableErr.TheVariants.{ReadFault, Damag
 -- what a refusal says, by its numbers: the outside failed, a check fails, a block is compressed, or memory was wanting
 pub data Refusal : Type 0 where
   Unread : Refusal
-  Broken : Fault → Refusal
+  Broken : DamageView → Refusal
   Snappy : ℕ → Refusal
   Unheld : Refusal
 
 -- what a `TableErr` says
 abbrev pub refusal_of : TableErr → Refusal
 refusal_of ReadFault = Unread
-refusal_of (Damaged d) = Broken (fault_of d)
+refusal_of (Damaged d) = Broken (damage_view d)
 refusal_of (Compressed place) = Snappy place
 refusal_of NoMemory = Unheld
 
@@ -29,5 +29,5 @@ IsOutside NoMemory = Unit {0}
 
 -- a refusal of a cursor, said by a table
 abbrev pub Repeats : CursorErr → TableErr → Type 0
-Repeats (cursor.Damaged d) e = refusal_of e ≡ Broken (fault_of d)
+Repeats (cursor.Damaged d) e = refusal_of e ≡ Broken (damage_view d)
 Repeats cursor.NoMemory e = e ≡ NoMemory

@@ -1,6 +1,6 @@
 -- What reading a table's footer and index block finds.
 use Rattle.std.specs.Prelude.{◌≡◌, ℕ, ◌+◌, ◌-◌, ◌≤◌, List, [], ◌∷◌, length, take, drop, Option, Some, None, Bool, true, false, ◌⊎◌, Result, Ok, Err, nat_lt, if◌then◌else◌, IsTrue}
-use Rattle.st_base.specs.Damages.{Fault}
+use Rattle.st_base.specs.Damages.{DamageView}
 use Rattle.st_tblock.specs.Reading.{Read}
 use Rattle.st_tblock.specs.Standing.{Standing}
 use Rattle.st_tblock.specs.Block.{Row, Entry, Good, next_in, key_of, past, is_had}
@@ -47,7 +47,7 @@ RefusesStored takes limit bytes h e =
     IsOutside e ⊎ ((stored_wrong limit bytes h ≡ Some (refusal_of e)) ⊎ ((stored_wrong limit bytes h ≡ None) × RefusesBlock takes h.offset (take h.size (drop h.offset bytes)) e))
 
 -- the first check of a footer that fails, with its place in the file
-abbrev pub moved : ℕ → Result (Handle × Handle) Fault → Option Refusal
+abbrev pub moved : ℕ → Result (Handle × Handle) DamageView → Option Refusal
 moved at (Ok x) = None
 moved at (Err f) = Some (Broken (record { place = at + f.place; found = f.found; want = f.want }))
 

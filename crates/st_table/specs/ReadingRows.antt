@@ -2,7 +2,7 @@
 use Rattle.std.specs.Prelude.{◌≡◌, ℕ, ◌+◌, List, [], All, Option, Some, None, Bool, ◌&&◌, ◌⊎◌, Result, Ok, Err, if◌then◌else◌, IsTrue}
 use Rattle.std.specs.Option.{option_or}
 use Rattle.std.specs.Borrow.{Bor}
-use Rattle.st_base.specs.Damages.{Fault, no}
+use Rattle.st_base.specs.Damages.{DamageView, unmet}
 use Rattle.st_tblock.specs.Reading.{Read}
 use Rattle.st_tblock.specs.Standing.{Standing}
 use Rattle.st_tblock.specs.Block.{Row, Entry, Walk, Rows, Good, next_in, key_of, past, start, restarts_in, is_before, is_above, is_had}
@@ -26,12 +26,12 @@ abbrev pub row_of : Walk → (Entry × List ℕ) → Row
 row_of w x = (key_of w.last x.0, x.0.value)
 
 -- what is wrong with the next row, by a test of rows: its entry's offset in the file
-abbrev pub row_wrong : (Row → Bool) → ℕ → Walk → Read Entry → Option Fault
+abbrev pub row_wrong : (Row → Bool) → ℕ → Walk → Read Entry → Option DamageView
 row_wrong takes place w None = None
-row_wrong takes place w (Some x) = if takes (row_of w x) then None else Some (no (place + w.at))
+row_wrong takes place w (Some x) = if takes (row_of w x) then None else Some (unmet (place + w.at))
 
 -- the first check that fails at the next entry, or at the block's end
-abbrev pub entry_wrong : (Row → Bool) → ℕ → Walk → Option Fault
+abbrev pub entry_wrong : (Row → Bool) → ℕ → Walk → Option DamageView
 entry_wrong takes place w = option_or (fault_at place w w.rest) (row_wrong takes place w (next_in w))
 
 -- a walk of a block stands behind these rows, each of which passes the test
@@ -43,18 +43,18 @@ pub record Behind (takes : Row → Bool) (block : List ℕ) (w : Walk) (rows : L
   pub pass : All (λ r. IsTrue (takes r)) rows
 
 -- the first check of a block that fails: that of its restarts, or one behind rows that pass
-abbrev pub Fails : (Row → Bool) → ℕ → List ℕ → Fault → Type 0
+abbrev pub Fails : (Row → Bool) → ℕ → List ℕ → DamageView → Type 0
 Fails takes place block f =
-    ((restarts_in block ≡ None) × (f ≡ no place))
+    ((restarts_in block ≡ None) × (f ≡ unmet place))
     ⊎ ((w : Walk) × (rows : List Row) × Behind takes block w rows × (entry_wrong takes place w ≡ Some f))
 
 -- a refusal of a block that stands at this place: the outside, or the first check that fails
 abbrev pub RefusesBlock : (Row → Bool) → ℕ → List ℕ → TableErr → Type 0
-RefusesBlock takes place block e = IsOutside e ⊎ ((f : Fault) × Fails takes place block f × (refusal_of e ≡ Broken f))
+RefusesBlock takes place block e = IsOutside e ⊎ ((f : DamageView) × Fails takes place block f × (refusal_of e ≡ Broken f))
 
 -- a refusal of the next entry: the outside, or the first check that fails there
 abbrev pub RefusesEntry : (Row → Bool) → Standing → TableErr → Type 0
-RefusesEntry takes s e = IsOutside e ⊎ ((f : Fault) × (entry_wrong takes s.place s.walk ≡ Some f) × (refusal_of e ≡ Broken f))
+RefusesEntry takes s e = IsOutside e ⊎ ((f : DamageView) × (entry_wrong takes s.place s.walk ≡ Some f) × (refusal_of e ≡ Broken f))
 
 -- a cursor goes behind the next row, which passes the test, and gives its value; or stands at the block's end
 abbrev pub StepsOn : (Row → Bool) → Standing → Standing → Result (Option (Bor (List ℕ))) TableErr → Type 0

@@ -2,7 +2,7 @@
 
 ghost use Rattle.std.specs.Prelude.{◌≡◌, ◌+◌, ◌-◌, ◌<◌, List, ℕ, [], ◌∷◌, length, Some, IfOk, OnOk, OnErr, MatchOption, MatchResult, true, false};
 ghost use Rattle.st_base.specs.Faults.{HasCauseOf};
-ghost use Rattle.st_base.specs.Places.{IsSameFile};
+ghost use Rattle.st_base.specs.PlacedReads.{IsSameFile};
 ghost use Rattle.st_tblock.specs.Block.{Row as Pair};
 ghost use Rattle.st_table.specs.ReadingIndex.{Decodes};
 ghost use Rattle.st_table.specs.ReadingRange.{unread, Fills, IsDone, ReadsNext, RefusesNext, Steps};

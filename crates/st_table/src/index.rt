@@ -2,7 +2,7 @@
 
 ghost use Rattle.std.specs.Prelude.{◌≡◌, ◌≢◌, ◌+◌, ◌^◌, ◌<◌, ◌≤◌, List, ℕ, length, Some, Ok, IfOk, IfErr, OnSome, MatchOption, MatchResult, None, true, false, All, take, option_map, vec_len};
 ghost use Rattle.st_base.specs.Faults.{HasCauseOf};
-ghost use Rattle.st_base.specs.Places.{IsSameFile};
+ghost use Rattle.st_base.specs.PlacedReads.{IsSameFile};
 ghost use Rattle.st_tblock.specs.Handles.{handle_in, IsHandle};
 ghost use Rattle.st_table.specs.Errors.{refusal_of};
 ghost use Rattle.st_table.specs.ReadingIndex.{is_whole, StepsIndex, HasEntries, ReadsFooter, Entered, RefusesTable, Decodes, holds_handle};

@@ -2,7 +2,7 @@
 
 ghost use Rattle.std.specs.Prelude.{◌≡◌, ◌≢◌, ◌+◌, ◌-◌, ◌^◌, ◌<◌, ◌≤◌, List, ℕ, length, Some, OnOk, IfErr, IfSome, MatchOption, option_map, vec_len};
 ghost use Rattle.st_base.specs.Faults.{HasCauseOf};
-ghost use Rattle.st_base.specs.Places.{HasPart, IsSameFile};
+ghost use Rattle.st_base.specs.PlacedReads.{HasPart, IsSameFile};
 ghost use Rattle.st_table.specs.Table.{sum_of};
 ghost use Rattle.st_table.specs.Errors.{refusal_of, IsOutside};
 ghost use Rattle.st_table.specs.ReadingBlock.{handle_wrong, part_wrong, ReadsBlock};

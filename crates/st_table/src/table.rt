@@ -1,6 +1,6 @@
 ghost use Rattle.std.specs.Prelude.{◌≡◌, ◌≤◌, ◌+◌, ◌-◌, List, ℕ, [], length, Some, None, All, IfOk, IfErr, OnOk, OnErr, IsTrue};
 ghost use Rattle.st_base.specs.Faults.{HasCauseOf};
-ghost use Rattle.st_base.specs.Places.{IsSameFile};
+ghost use Rattle.st_base.specs.PlacedReads.{IsSameFile};
 ghost use Rattle.st_tblock.specs.Block.{Row as Pair, front_of};
 ghost use Rattle.st_table.specs.Table.{IsTable, is_at_most};
 ghost use Rattle.st_table.specs.Lookup.{find, in_range};

@@ -2,7 +2,7 @@
 use Rattle.std.specs.Prelude.{◌≡◌, ℕ, ◌-◌, ◌^◌, ◌<◌, List, [], ◌++◌, length, take, drop, replicate, Option, Some, None, Result, Ok, Err, nat_eq, if◌then◌else◌}
 use Rattle.byteorder.specs.Endian.{little_bytes, little_number}
 use Rattle.st_tblock.specs.Varint.{varint_of}
-use Rattle.st_base.specs.Damages.{Fault, no}
+use Rattle.st_base.specs.Damages.{DamageView, unmet}
 use Rattle.st_tblock.specs.Reading.{Read, go, number_in}
 use Rattle.st_tblock.specs.declared.handle.Handle.{Handle}
 use Rattle.st_tblock.specs.declared.handle.TheConstants.{MAGIC}
@@ -48,12 +48,12 @@ unfoldable pub handles_in : List ℕ → Option (Handle × Handle)
 handles_in bytes = second (handle_in bytes)
 
 -- what a footer names, where its handles could be read
-abbrev pub named : Option (Handle × Handle) → Result (Handle × Handle) Fault
-named None = Err (no 0)
+abbrev pub named : Option (Handle × Handle) → Result (Handle × Handle) DamageView
+named None = Err (unmet 0)
 named (Some x) = Ok x
 
 -- what a footer names, the metaindex block and the index block, or its first check that fails
-unfoldable pub footer_in : List ℕ → Result (Handle × Handle) Fault
+unfoldable pub footer_in : List ℕ → Result (Handle × Handle) DamageView
 footer_in bytes =
     if nat_eq (little_number 8 (drop 40 bytes)) MAGIC then named (handles_in (take 40 bytes))
     else Err (record { place = 40; found = little_number 8 (drop 40 bytes); want = MAGIC })

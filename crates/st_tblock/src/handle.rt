@@ -1,7 +1,7 @@
 ghost use Rattle.std.specs.Prelude.{◌≡◌, ◌≤◌, ◌<◌, ◌+◌, ◌^◌, ◌++◌, List, ℕ, length, replicate, IfSome, Some, Ok, Err, MatchResult, option_map};
 ghost use Rattle.arrayvec.specs.ArrayVec.{array_vec_len};
 ghost use Rattle.byteorder.specs.Endian.{little_bytes};
-ghost use Rattle.st_base.specs.Damages.{fault_of};
+ghost use Rattle.st_base.specs.Damages.{damage_view};
 ghost use Rattle.st_tblock.specs.Reading.{number_in};
 ghost use Rattle.st_tblock.specs.Handles.{handle_in, handle_text, handles_in, padded, footer_text, footer_in, InRange};
 
@@ -133,7 +133,7 @@ pub fn footer(meta: Handle, index: Handle) -> [u8; 48]
 /// Source: LevelDB, doc/table_format.md; docs/FORMAT.md, "Table file" and "Checks".
 #[tactic(auto, unfolding(crate::specs::Handles::footer_in))]
 pub fn read_footer(bytes: &[u8; 48]) -> Result<(Handle, Handle), Damage>
-    ensures { MatchResult result (λ x. footer_in bytes.now ≡ Ok x) (λ d. footer_in bytes.now ≡ Err (fault_of d)) }
+    ensures { MatchResult result (λ x. footer_in bytes.now ≡ Ok x) (λ d. footer_in bytes.now ≡ Err (damage_view d)) }
 {
     let (front, back) = bytes.split_at(40);
     let found = LittleEndian::read_u64(back);

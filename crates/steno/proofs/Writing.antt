@@ -6,8 +6,8 @@ use Rattle.std.proofs.KnownBytes.{Appends-trans}
 use Rattle.std.proofs.lemmas.List.{take_more, take-append-drop}
 use Rattle.std.proofs.Math.Seq.{drop-cons}
 use Rattle.std.proofs.lemmas.Grind.{flat_map-append}
-use Rattle.st_base.specs.Pieces.{AppendsFront, Puts}
-use Rattle.st_base.proofs.Putting.{front-more, front-then}
+use Rattle.st_base.specs.Pieces.{AppendsPrefix, Puts}
+use Rattle.st_base.proofs.Putting.{prefix-more, prefix-then}
 
 -- the text of one more
 pub text-more : {X : Type 0} (f : X → List ℕ) (xs : List X) (i : ℕ) (x : X) → i < length xs → x ≡ get_or xs i x
@@ -29,12 +29,12 @@ wrote-more f xs i x a b c below is first next =
     subst (Appends a c) (sym (text-more f xs i x below is)) (Appends-trans a b c (flat_map f (take i xs)) (f x) first next)
 
 pub wrote-front : {X : Type 0} (f : X → List ℕ) (xs : List X) (i : ℕ) (x : X) (a b c : Option (List ℕ)) → i < length xs → x ≡ get_or xs i x
-    → Appends a b (flat_map f (take i xs)) → AppendsFront b c (f x) → AppendsFront a c (flat_map f xs)
+    → Appends a b (flat_map f (take i xs)) → AppendsPrefix b c (f x) → AppendsPrefix a c (flat_map f xs)
 wrote-front f xs i x a b c below is first next =
-    subst (AppendsFront a c) (sym (text-around f xs i x below is))
-    (front-then a b c (flat_map f (take i xs)) (f x ++ flat_map f (drop (suc i) xs)) first (front-more b c (f x) (flat_map f (drop (suc i) xs)) next))
+    subst (AppendsPrefix a c) (sym (text-around f xs i x below is))
+    (prefix-then a b c (flat_map f (take i xs)) (f x ++ flat_map f (drop (suc i) xs)) first (prefix-more b c (f x) (flat_map f (drop (suc i) xs)) next))
 
 -- some bytes, and then the outcome of putting others
 pub puts-then : {T E : Type 0} (a b c : Option (List ℕ)) (xs ys : List ℕ) (r : Result T E) → Appends a b xs → Puts b c ys r → Puts a c (xs ++ ys) r
 puts-then a b c xs ys (Ok done) first next = Appends-trans a b c xs ys first next
-puts-then a b c xs ys (Err e) first next = front-then a b c xs ys first next
+puts-then a b c xs ys (Err e) first next = prefix-then a b c xs ys first next

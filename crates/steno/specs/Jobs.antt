@@ -1,7 +1,7 @@
 -- What a run of `once` is asked for, and what it leaves.
 use Rattle.std.specs.Prelude.{◌≡◌, ◌⊎◌, ℕ, List, [], Option}
 use Rattle.std.specs.Io.KnownBytes.{Keeps, Appends}
-use Rattle.st_base.specs.Pieces.{AppendsFront}
+use Rattle.st_base.specs.Pieces.{AppendsPrefix}
 use Rattle.st_base.specs.Records.{Rec}
 use Rattle.st_pcap.specs.declared.errors.PcapErr.{PcapErr}
 use Rattle.st_pcap.specs.Heads.{IsOfFileHead}
@@ -58,5 +58,5 @@ abbrev pub Leaves : (List ℕ → Status → List ℕ → Type 0) → Status →
 Leaves job ReadFault message old new = Keeps old new × (message ≡ status_line ReadFault)
 Leaves job NoMemory message old new = Keeps old new × (message ≡ status_line NoMemory)
 Leaves job WriteFault message old new =
-    (output : List ℕ) × (status : Status) × (silenced : List ℕ) × job output status silenced × AppendsFront old new output × (message ≡ status_line WriteFault)
+    (output : List ℕ) × (status : Status) × (silenced : List ℕ) × job output status silenced × AppendsPrefix old new output × (message ≡ status_line WriteFault)
 Leaves job status message old new = (output : List ℕ) × job output status message × Appends old new output

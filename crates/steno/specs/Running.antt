@@ -2,7 +2,7 @@
 use Rattle.std.specs.Prelude.{◌≡◌, ◌≢◌, ◌≤◌, ◌⊎◌, ℕ, List, [], Option, None}
 use Rattle.std.specs.Io.KnownBytes.{Keeps, Appends}
 use Rattle.st_base.specs.Faults.{Rose}
-use Rattle.st_base.specs.Pieces.{AppendsFront}
+use Rattle.st_base.specs.Pieces.{AppendsPrefix}
 use Rattle.st_base.specs.Records.{Rec}
 use Rattle.st_base.specs.Ticks.{Ticks}
 use Rattle.st_pcap.specs.declared.errors.PcapErr.{PcapErr}
@@ -24,7 +24,7 @@ use Rattle.steno.specs.Plans.{IsPlan}
 -- the message stands behind what was there, or a front of it where the count of faults rose; the
 -- count never falls
 pub record Tells (old new : Option (List ℕ)) (before after : ℕ) (message : List ℕ) : Type 0 where
-  pub put : Appends old new message ⊎ (AppendsFront old new message × Rose before after)
+  pub put : Appends old new message ⊎ (AppendsPrefix old new message × Rose before after)
   pub later : before ≤ after
 
 -- the clock was asked once, but not at all where the words ask for nothing, or memory was wanting
@@ -135,7 +135,7 @@ plain_of status = record { status = status; line = None }
 abbrev pub Writes : Node → Shape → ℕ → List Rec → Option (List ℕ) → Option (List ℕ) → Ending → Ending → Type 0
 Writes q shape now rs old new ending result =
     ((result ≡ ending) × ((output : List ℕ) × IsAnswered q shape now rs output × Appends old new output))
-    ⊎ (((result ≡ plain_of WriteFault) × ((output : List ℕ) × IsAnswered q shape now rs output × AppendsFront old new output))
+    ⊎ (((result ≡ plain_of WriteFault) × ((output : List ℕ) × IsAnswered q shape now rs output × AppendsPrefix old new output))
     ⊎ ((result ≡ plain_of NoMemory) × Keeps old new))
 
 -- it ended as it was to, or the output failed, or memory was wanting before the output was touched

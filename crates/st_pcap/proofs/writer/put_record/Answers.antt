@@ -1,8 +1,8 @@
 use Rattle.std.proofs.Common.{subst, ap}
 use Rattle.std.specs.Io.KnownBytes.{Appends}
 use Rattle.st_base.specs.Records.{Rec}
-use Rattle.st_base.specs.Pieces.{Puts, AppendsFront}
-use Rattle.st_base.proofs.Putting.{front-more}
+use Rattle.st_base.specs.Pieces.{Puts, AppendsPrefix}
+use Rattle.st_base.proofs.Putting.{prefix-more}
 use Rattle.st_pcap.specs.Text.{record_head}
 use Rattle.st_pcap.proofs.Writing.{puts_then}
 use Rattle.st_pcap.proofs.writer.put_record.Goals as goal
@@ -16,5 +16,5 @@ returns-in-Ok-clause-bytes g c =
 
 pub returns-in-Err-clause-bytes : goal.returns-in-Err-clause-bytes
 returns-in-Err-clause-bytes g c =
-    let front = subst (AppendsFront (g.S.Sink.written c.args.sink.now) (g.S.Sink.written c.put.new.sink)) c.head_of.ensures c.in-Err.ensures.bytes in
-    front-more _ _ (record_head c.args.unit c.args.r) c.args.r.body front
+    let front = subst (AppendsPrefix (g.S.Sink.written c.args.sink.now) (g.S.Sink.written c.put.new.sink)) c.head_of.ensures c.in-Err.ensures.bytes in
+    prefix-more _ _ (record_head c.args.unit c.args.r) c.args.r.body front

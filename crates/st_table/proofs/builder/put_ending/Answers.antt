@@ -1,8 +1,8 @@
 use Rattle.std.proofs.Common.{List, ℕ, ◌+◌, ◌++◌, length, sym, ap, subst, arith}
 use Rattle.std.specs.Io.KnownBytes.{Appends}
 use Rattle.std.proofs.KnownBytes.{Appends-trans}
-use Rattle.st_base.specs.Pieces.{AppendsFront}
-use Rattle.st_base.proofs.Putting.{front-more, front-then}
+use Rattle.st_base.specs.Pieces.{AppendsPrefix}
+use Rattle.st_base.proofs.Putting.{prefix-more, prefix-then}
 use Rattle.st_tblock.specs.Build.{block_text}
 use Rattle.st_tblock.specs.Handles.{footer_text}
 use Rattle.st_table.specs.Table.{IsTable}
@@ -32,11 +32,11 @@ returns-in-Ok-put_index-clause-table g c =
 pub returns-in-Err-put_index-clause-bytes : goal.returns-in-Err-put_index-clause-bytes
 returns-in-Err-put_index-clause-bytes g c =
     let ending = ending_is c.args.at c.size.result c.args.index.now c.size.ensures in
-    subst (λ (xs : List ℕ). AppendsFront (g.S.Sink.written c.args.sink.now) (g.S.Sink.written c.put_index.new.sink) xs) (sym ending)
-    (front-then _ _ _ (stored_text zeros_and_one) (stored_text (block_text c.args.index.now) ++ footer_text (next_handle c.args.at 8) (next_handle (c.args.at + 13) c.size.result)) c.in-Ok.ensures.bytes c.in-Err-put_index.ensures.bytes)
+    subst (λ (xs : List ℕ). AppendsPrefix (g.S.Sink.written c.args.sink.now) (g.S.Sink.written c.put_index.new.sink) xs) (sym ending)
+    (prefix-then _ _ _ (stored_text zeros_and_one) (stored_text (block_text c.args.index.now) ++ footer_text (next_handle c.args.at 8) (next_handle (c.args.at + 13) c.size.result)) c.in-Ok.ensures.bytes c.in-Err-put_index.ensures.bytes)
 
 pub returns-in-Err-clause-bytes : goal.returns-in-Err-clause-bytes
 returns-in-Err-clause-bytes g c =
     let ending = ending_is c.args.at c.size.result c.args.index.now c.size.ensures in
-    subst (λ (xs : List ℕ). AppendsFront (g.S.Sink.written c.args.sink.now) (g.S.Sink.written c.put_stored.new.sink) xs) (sym ending)
-    (front-more _ _ (stored_text zeros_and_one) (stored_text (block_text c.args.index.now) ++ footer_text (next_handle c.args.at 8) (next_handle (c.args.at + 13) c.size.result)) c.in-Err.ensures.bytes)
+    subst (λ (xs : List ℕ). AppendsPrefix (g.S.Sink.written c.args.sink.now) (g.S.Sink.written c.put_stored.new.sink) xs) (sym ending)
+    (prefix-more _ _ (stored_text zeros_and_one) (stored_text (block_text c.args.index.now) ++ footer_text (next_handle c.args.at 8) (next_handle (c.args.at + 13) c.size.result)) c.in-Err.ensures.bytes)

@@ -1,7 +1,7 @@
 use Rattle.std.proofs.Common.{◌≡◌, ◌+◌, ℕ, List, length, arith, sym, ◌∙◌, subst}
 use Rattle.std.proofs.lemmas.Result.{IfOk-weaker}
-use Rattle.st_base.specs.Pieces.{Puts, AppendsFront}
-use Rattle.st_base.proofs.Putting.{front-more}
+use Rattle.st_base.specs.Pieces.{Puts, AppendsPrefix}
+use Rattle.st_base.proofs.Putting.{prefix-more}
 use Rattle.st_tblock.specs.Build.{block_size}
 use Rattle.st_tblock.specs.Handles.{InRange}
 use Rattle.st_table.specs.Builder.{next_handle, closing, closed, ending, ending_at, finishing}
@@ -53,5 +53,5 @@ pub returns-in-Err-clause-bytes : goal.returns-in-Err-clause-bytes
 returns-in-Err-clause-bytes g c =
     let k = kept_at c.args.block.now c.args.index.now c.args.at in
     let some = is_filled c.args.block.now.last (sym c.is_empty.ensures ∙ c.if-is_empty.false) in
-    subst (λ (xs : List ℕ). AppendsFront (g.S.Sink.written c.args.sink.now) (g.S.Sink.written c.close.new.sink) xs) (sym (finishing_some k some.0 some.1))
-    (front-more _ _ (closing k) (ending (closed k)) c.in-Err.ensures.bytes)
+    subst (λ (xs : List ℕ). AppendsPrefix (g.S.Sink.written c.args.sink.now) (g.S.Sink.written c.close.new.sink) xs) (sym (finishing_some k some.0 some.1))
+    (prefix-more _ _ (closing k) (ending (closed k)) c.in-Err.ensures.bytes)

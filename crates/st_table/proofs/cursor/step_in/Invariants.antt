@@ -1,5 +1,5 @@
 use Rattle.std.proofs.Common.{◌≡◌, ◌≤◌, ◌-◌, ℕ, List, [], length, Some}
-use Rattle.st_base.specs.Places.{IsSameFile}
+use Rattle.st_base.specs.PlacedReads.{IsSameFile}
 use Rattle.st_tblock.specs.Block.{Row}
 use Rattle.st_table.specs.ReadingIndex.{Decodes}
 use Rattle.st_table.specs.ReadingRange.{Goes}

@@ -1,7 +1,7 @@
 use Rattle.std.proofs.Common.{◌∷◌, List, ℕ, subst}
 use Rattle.byteorder.specs.Endian.{little_bytes}
 use Rattle.st_base.specs.Pieces.{Puts}
-use Rattle.st_base.proofs.Putting.{front-more}
+use Rattle.st_base.proofs.Putting.{prefix-more}
 use Rattle.st_table.specs.Table.{sum_of}
 use Rattle.st_table.specs.Builder.{stored_text}
 use Rattle.st_table.proofs.Texts.{puts_then}
@@ -16,4 +16,4 @@ returns-in-Ok-clause-bytes g c =
 pub returns-in-Err-clause-bytes : goal.returns-in-Err-clause-bytes
 unfolding stored_text
 returns-in-Err-clause-bytes g c =
-    front-more _ _ c.args.block.now (0 ∷ little_bytes 4 (sum_of 0 c.args.block.now)) c.in-Err.ensures.bytes
+    prefix-more _ _ c.args.block.now (0 ∷ little_bytes 4 (sum_of 0 c.args.block.now)) c.in-Err.ensures.bytes

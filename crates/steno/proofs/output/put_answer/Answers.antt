@@ -1,5 +1,5 @@
 use Rattle.std.specs.List.{flat_map}
-use Rattle.st_base.proofs.Putting.{front-more}
+use Rattle.st_base.proofs.Putting.{prefix-more}
 use Rattle.st_pcap.specs.Text.{file_head, record_text}
 use Rattle.steno.proofs.Writing.{puts-then}
 use Rattle.steno.proofs.output.put_answer.Goals as goal
@@ -10,4 +10,4 @@ returns-in-Ok-clause-bytes g c =
 
 pub returns-in-Err-clause-bytes : goal.returns-in-Err-clause-bytes
 returns-in-Err-clause-bytes g c =
-    front-more _ _ (file_head c.args.unit) (flat_map (record_text c.args.unit) c.args.packets.now) c.in-Err.ensures.bytes
+    prefix-more _ _ (file_head c.args.unit) (flat_map (record_text c.args.unit) c.args.packets.now) c.in-Err.ensures.bytes
