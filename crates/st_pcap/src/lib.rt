@@ -35,10 +35,10 @@
 #![tactic(auto)]
 
 mod checks;
-mod entries;
 mod errors;
 mod fill;
 mod forms;
+mod head_fields;
 pub mod laws;
 mod reader;
 mod records;
