@@ -2,7 +2,7 @@
 ghost use Rattle.std.specs.Prelude.{◌≡◌, ℕ, ◌≤◌, ◌↔◌, ⊤, ℤ, pos, ◌-ℤ◌, ◌<ℤ◌, ◌≤ℤ◌, IsTrue, IsFalse, MatchOption, Contains, length, take};
 ghost use Rattle.st_walk.specs.Walk.{FrameHas, HasKey};
 ghost use Rattle.st_walk.specs.declared.text.Key.{Key};
-ghost use Rattle.st_query.specs.Meaning.{Matches, HoldsOf, Holds, IsInNet, addr_key, second_of, span_of};
+ghost use Rattle.st_query.specs.Meaning.{Matches, MatchesTree, MatchesPrimitive, IsInNet, addr_key, second_of, span_of};
 ghost use Rattle.st_query.specs.Matching.{KeysAre, KeyIsIn, FrameIsIn, IsTold};
 ghost use Rattle.st_query.specs.Words.{network};
 ghost use Rattle.st_query.specs.Trees.{tree, is_joined};
@@ -25,8 +25,9 @@ fn key_of(addr: Addr) -> Key
     }
 }
 
-/// The second of a moment, where the clock stands at `now` microseconds since 1970.
-fn second_of(when: When, now: u64) -> i64
+/// The second of a moment, in seconds since 1970, where the clock stands at `now` microseconds since
+/// 1970: a relative one counts back from the clock's whole second, and may lie before 1970.
+pub fn second_of(when: When, now: u64) -> i64
     ensures { result ≡ second_of when now }
 {
     match when {
@@ -157,7 +158,7 @@ fn walks_into(frame: &[u8], net: Addr, bits: u8) -> bool
 fn meets(node: &Node, now: u64, packet: &Packet<'_>) -> bool
     requires told { IsTold packet.now }
     requires alone { IsFalse (is_joined (tree node.now)) }
-    ensures { IsTrue result ↔ HoldsOf (tree node.now) now packet.now.record.now }
+    ensures { IsTrue result ↔ MatchesTree (tree node.now) now packet.now.record.now }
 {
     let record = packet.record;
     match node {
@@ -179,7 +180,7 @@ fn meets(node: &Node, now: u64, packet: &Packet<'_>) -> bool
 /// parentheses.
 fn holds(node: &Node, now: u64, packet: &Packet<'_>) -> bool
     requires { IsTold packet.now }
-    ensures { IsTrue result ↔ HoldsOf (tree node.now) now packet.now.record.now }
+    ensures { IsTrue result ↔ MatchesTree (tree node.now) now packet.now.record.now }
 {
     let mut rest = node;
     'parts: loop {
