@@ -16,7 +16,8 @@ use st_walk::{Key, has_key, keys};
 /// How many keys of a frame are kept: more than a frame of IPv4 under two tags has.
 const MOST_KEYS: usize = 12;
 
-fn key_of(addr: Addr) -> Key
+/// The key of an address.
+pub fn addr_key(addr: Addr) -> Key
     ensures { result ≡ addr_key addr }
 {
     match addr {
@@ -163,7 +164,7 @@ fn meets(node: &Node, now: u64, packet: &Packet<'_>) -> bool
     let record = packet.record;
     match node {
         Node::And { .. } | Node::Or { .. } => unreachable!(),
-        Node::Host(addr) => has(packet, key_of(*addr)),
+        Node::Host(addr) => has(packet, addr_key(*addr)),
         Node::Net { addr, bits } => is_in_net(packet, *addr, *bits),
         Node::Port(port) => has(packet, Key::Port(*port)),
         Node::Proto(proto) => has(packet, Key::Proto(*proto)),
