@@ -33,21 +33,23 @@ second_of (Ago count hours) now = pos (now / 1000000) -ℤ pos (span_of count ho
 abbrev pub IsInNet : Addr → ℕ → Rec → Type 0
 IsInNet a n r = (b : Addr) × (network b n ≡ network a n) × HasKey r.body r.sec (addr_key b)
 
-abbrev pub Holds : Primitive → ℕ → Rec → Type 0
-Holds (Host a) now r = HasKey r.body r.sec (addr_key a)
-Holds (Net a n) now r = IsInNet a n r
-Holds (Port n) now r = HasKey r.body r.sec (key.Port n)
-Holds (Proto n) now r = HasKey r.body r.sec (key.Proto n)
-Holds (Vlan n) now r = HasKey r.body r.sec (key.Vlan n)
-Holds (Mpls n) now r = HasKey r.body r.sec (key.Mpls n)
-Holds (Before when) now r = pos r.sec <ℤ second_of when now
-Holds (After when) now r = second_of when now ≤ℤ pos r.sec
+-- the packet matches the primitive
+abbrev pub MatchesPrimitive : Primitive → ℕ → Rec → Type 0
+MatchesPrimitive (Host a) now r = HasKey r.body r.sec (addr_key a)
+MatchesPrimitive (Net a n) now r = IsInNet a n r
+MatchesPrimitive (Port n) now r = HasKey r.body r.sec (key.Port n)
+MatchesPrimitive (Proto n) now r = HasKey r.body r.sec (key.Proto n)
+MatchesPrimitive (Vlan n) now r = HasKey r.body r.sec (key.Vlan n)
+MatchesPrimitive (Mpls n) now r = HasKey r.body r.sec (key.Mpls n)
+MatchesPrimitive (Before when) now r = pos r.sec <ℤ second_of when now
+MatchesPrimitive (After when) now r = second_of when now ≤ℤ pos r.sec
 
-abbrev pub HoldsOf : Tree → ℕ → Rec → Type 0
-HoldsOf (both a b) now r = HoldsOf a now r × HoldsOf b now r
-HoldsOf (either a b) now r = HoldsOf a now r ⊎ HoldsOf b now r
-HoldsOf (one p) now r = Holds p now r
+-- the packet matches the tree: both parts of an `and`, one part or both of an `or`
+abbrev pub MatchesTree : Tree → ℕ → Rec → Type 0
+MatchesTree (both a b) now r = MatchesTree a now r × MatchesTree b now r
+MatchesTree (either a b) now r = MatchesTree a now r ⊎ MatchesTree b now r
+MatchesTree (one p) now r = MatchesPrimitive p now r
 
 -- the packet matches the query
 abbrev pub Matches : Node → ℕ → Rec → Type 0
-Matches q now r = HoldsOf (tree q) now r
+Matches q now r = MatchesTree (tree q) now r

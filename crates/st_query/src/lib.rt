@@ -17,6 +17,8 @@
 //! - A query's numbers are in their ranges, its nets have no host bits, and its printed form opens
 //!   at most 64 parentheses at once (`Query::node`).
 //! - A list of records has one answer to a query at most (`one_answer`).
+//! - The second of a moment, the net of an address and the key of an address are exact (`second_of`,
+//!   `network`, `addr_key`), for whoever looks a query up in an index.
 //!
 //! # What it leaves to others
 //!
@@ -50,7 +52,8 @@ mod words;
 pub use addrs::Addr;
 pub use errors::QueryErr;
 pub use laws::{one_answer, one_reading, some_reading};
-pub use meaning::matches;
+pub use meaning::{addr_key, matches, second_of};
 pub use nodes::{Node, Query, When};
 pub use parser::parse;
 pub use printer::print;
+pub use words::network;

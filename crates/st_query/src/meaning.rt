@@ -2,7 +2,7 @@
 ghost use Rattle.std.specs.Prelude.{◌≡◌, ℕ, ◌≤◌, ◌↔◌, ⊤, ℤ, pos, ◌-ℤ◌, ◌<ℤ◌, ◌≤ℤ◌, IsTrue, IsFalse, MatchOption, Contains, length, take};
 ghost use Rattle.st_walk.specs.Walk.{FrameHas, HasKey};
 ghost use Rattle.st_walk.specs.declared.text.Key.{Key};
-ghost use Rattle.st_query.specs.Meaning.{Matches, HoldsOf, Holds, IsInNet, addr_key, second_of, span_of};
+ghost use Rattle.st_query.specs.Meaning.{Matches, MatchesTree, MatchesPrimitive, IsInNet, addr_key, second_of, span_of};
 ghost use Rattle.st_query.specs.Matching.{KeysAre, KeyIsIn, FrameIsIn, IsTold};
 ghost use Rattle.st_query.specs.Words.{network};
 ghost use Rattle.st_query.specs.Trees.{tree, is_joined};
@@ -16,7 +16,8 @@ use st_walk::{Key, has_key, keys};
 /// How many keys of a frame are kept: more than a frame of IPv4 under two tags has.
 const MOST_KEYS: usize = 12;
 
-fn key_of(addr: Addr) -> Key
+/// The key of an address.
+pub fn addr_key(addr: Addr) -> Key
     ensures { result ≡ addr_key addr }
 {
     match addr {
@@ -25,8 +26,9 @@ fn key_of(addr: Addr) -> Key
     }
 }
 
-/// The second of a moment, where the clock stands at `now` microseconds since 1970.
-fn second_of(when: When, now: u64) -> i64
+/// The second of a moment, in seconds since 1970, where the clock stands at `now` microseconds since
+/// 1970: a relative one counts back from the clock's whole second, and may lie before 1970.
+pub fn second_of(when: When, now: u64) -> i64
     ensures { result ≡ second_of when now }
 {
     match when {
@@ -157,12 +159,12 @@ fn walks_into(frame: &[u8], net: Addr, bits: u8) -> bool
 fn meets(node: &Node, now: u64, packet: &Packet<'_>) -> bool
     requires told { IsTold packet.now }
     requires alone { IsFalse (is_joined (tree node.now)) }
-    ensures { IsTrue result ↔ HoldsOf (tree node.now) now packet.now.record.now }
+    ensures { IsTrue result ↔ MatchesTree (tree node.now) now packet.now.record.now }
 {
     let record = packet.record;
     match node {
         Node::And { .. } | Node::Or { .. } => unreachable!(),
-        Node::Host(addr) => has(packet, key_of(*addr)),
+        Node::Host(addr) => has(packet, addr_key(*addr)),
         Node::Net { addr, bits } => is_in_net(packet, *addr, *bits),
         Node::Port(port) => has(packet, Key::Port(*port)),
         Node::Proto(proto) => has(packet, Key::Proto(*proto)),
@@ -179,7 +181,7 @@ fn meets(node: &Node, now: u64, packet: &Packet<'_>) -> bool
 /// parentheses.
 fn holds(node: &Node, now: u64, packet: &Packet<'_>) -> bool
     requires { IsTold packet.now }
-    ensures { IsTrue result ↔ HoldsOf (tree node.now) now packet.now.record.now }
+    ensures { IsTrue result ↔ MatchesTree (tree node.now) now packet.now.record.now }
 {
     let mut rest = node;
     'parts: loop {
