@@ -1,7 +1,7 @@
 -- What is found at the end of a line.
 use Rattle.std.proofs.Common.{◌≡◌, Bool, true, false, List, [], ◌∷◌, Option, Some, None, option_and_then, slice_get, refl, sym, ap, ◌∙◌, subst, codes, cond, IsNone, MatchOption, length, arith, map, get_or}
 use Rattle.std.specs.Str.{bytes_eq}
-use Rattle.clap.specs.Words.{Row, Text, all_of, first_of, damage_view, takes, matches_of, rows_of}
+use Rattle.clap.specs.Words.{Row, Text, all_of, first_of, fault_of, takes, matches_of, rows_of}
 use Rattle.clap.specs.Walk.{has_row, with_default, finished, Held, settled_rows, walk, nothing_held}
 use Rattle.clap.specs.declared.parser.matches.Found.{Found}
 use Rattle.clap.specs.declared.parser.matches.ValueSource.TheVariants.{DefaultValue}
@@ -100,12 +100,12 @@ line_found words o gs f same line =
     }
 
 -- what has no fault is a line
-pub some_line : (words : List Text) → back.AllText words → damage_view line_app words ≡ [] → (o : Options) × (gs : List Text) × Line no_options [] words o gs
+pub some_line : (words : List Text) → back.AllText words → fault_of line_app words ≡ [] → (o : Options) × (gs : List Text) × Line no_options [] words o gs
 some_line words text none =
     let (turns, settles) = faults.by_faults words none in
     back.back words false [] None no_options [] (back.used_ready no_options [] [] nothing_read) text (record { turns = turns; settles = settles })
 
-pub found : (words : List Text) (f : Found) → back.AllText words → damage_view line_app words ≡ [] → rows_of f ≡ matches_of line_app words → IsTaken words f
+pub found : (words : List Text) (f : Found) → back.AllText words → fault_of line_app words ≡ [] → rows_of f ≡ matches_of line_app words → IsTaken words f
 found words f text none same = record { line = some_line words text none; found = λ o gs line. line_found words o gs f same line }
 
 -- what refuses no line answers none
