@@ -5,12 +5,12 @@ ghost use Rattle.st_base.specs.Faults.{HasWriteCause};
 ghost use Rattle.st_base.specs.MemoryViews.{TakesOrFails};
 
 use crate::failures::{Failed, NoMemory};
-use crate::schedule::{after, is_listed};
+use crate::memory::schedule::{is_listed, next_count};
 use crate::sinks::Sink;
 use std::alloc::Global;
 use std::marker::Model;
 
-/// A sink in memory, which keeps what is written and fails where it is told to.
+/// A sink in memory, which keeps what is written and fails at the calls that it is made to fail at.
 #[derive(Drop)]
 pub struct MemSink {
     bytes: Vec<u8>,
@@ -33,10 +33,12 @@ impl Model for MemSink {
 }
 
 impl MemSink {
+    ghost use Rattle.st_base.specs.MemoryViews.{empty_sink};
+
     /// A sink that has nothing yet, and fails at the calls whose numbers stand in `fails`, counted
-    /// from 0. Its `faults` rises at these and where a growth finds no memory.
+    /// from 0. Its `faults` rises at these, and at a call that runs out of memory.
     pub fn new(alloc: Global, fails: &[u32]) -> Result<MemSink, NoMemory>
-        ensures { IfOk result (λ s. s ≡ record { written = []; fails = fails.now; calls = 0; faults = 0 }) }
+        ensures { IfOk result (λ s. s ≡ empty_sink fails.now) }
     {
         let fails = fails.to_vec(alloc)?;
         Ok(MemSink {
@@ -71,10 +73,10 @@ impl Sink for MemSink {
         ensures exact { TakesOrFails self.old self.new bytes.now result }
     {
         let call = self.calls;
-        self.calls = after(call);
+        self.calls = next_count(call);
         let fails = is_listed(self.fails.as_slice(), call);
         if fails || self.bytes.extend_from_slice(bytes).is_err() {
-            self.faults = after(self.faults);
+            self.faults = next_count(self.faults);
             return Err(Failed);
         }
         Ok(bytes.len())

@@ -5,12 +5,13 @@ ghost use Rattle.st_base.specs.Faults.{HasCause};
 ghost use Rattle.st_base.specs.MemoryViews.{GivesOrFails};
 
 use crate::failures::{Failed, NoMemory};
-use crate::schedule::{after, is_listed};
+use crate::memory::schedule::{is_listed, next_count};
 use crate::sources::Source;
 use std::alloc::Global;
 use std::marker::Model;
 
-/// A source over bytes in memory, which gives them in pieces and fails where it is told to.
+/// A source over bytes in memory, which gives them in pieces and fails at the calls that it is made
+/// to fail at.
 #[derive(Drop)]
 pub struct MemSource {
     bytes: Vec<u8>,
@@ -39,6 +40,8 @@ impl Model for MemSource {
 }
 
 impl MemSource {
+    ghost use Rattle.st_base.specs.MemoryViews.{unread_source};
+
     /// A source that gives `bytes`, at most `piece` of them a call, and fails at the calls whose
     /// numbers stand in `fails`, counted from 0.
     pub fn over(
@@ -48,7 +51,7 @@ impl MemSource {
         fails: &[u32],
     ) -> Result<MemSource, NoMemory>
         requires { 1 ≤ piece }
-        ensures { IfOk result (λ s. s ≡ record { left = bytes.now; piece = piece; fails = fails.now; calls = 0; faults = 0 }) }
+        ensures { IfOk result (λ s. s ≡ unread_source bytes.now piece fails.now) }
     {
         let bytes = bytes.to_vec(alloc)?;
         let fails = fails.to_vec(alloc)?;
@@ -79,9 +82,9 @@ impl Source for MemSource {
         ensures exact { GivesOrFails self.old self.new out.old result }
     {
         let call = self.calls;
-        self.calls = after(call);
+        self.calls = next_count(call);
         if is_listed(self.fails.as_slice(), call) {
-            self.faults = after(self.faults);
+            self.faults = next_count(self.faults);
             return Err(Failed);
         }
         let rest = self.bytes.as_slice().split_at(self.at).1;

@@ -2,11 +2,11 @@ ghost use Rattle.std.specs.Prelude.{◌≡◌, ◌+◌, ◌-◌, ◌^◌, ◌≤
 
 use crate::failures::{Failed, NoMemory};
 use crate::readers::Reader;
-use crate::schedule::{after, is_listed};
+use crate::memory::schedule::{is_listed, next_count};
 use std::alloc::Global;
 use std::marker::Model;
 
-/// A file in memory, which fails where it is told to.
+/// A file in memory, which fails at the reads that it is made to fail at.
 #[derive(Drop)]
 pub struct MemReader {
     bytes: Vec<u8>,
@@ -31,9 +31,11 @@ impl Model for MemReader {
 }
 
 impl MemReader {
+    ghost use Rattle.st_base.specs.MemoryViews.{unread_file};
+
     /// A file of `bytes` that fails at the reads whose numbers stand in `fails`, counted from 0.
     pub fn over(alloc: Global, bytes: &[u8], fails: &[u32]) -> Result<MemReader, NoMemory>
-        ensures { IfOk result (λ r. r ≡ record { content = bytes.now; fails = fails.now; reads = 0; asked = 0; faults = 0 }) }
+        ensures { IfOk result (λ r. r ≡ unread_file bytes.now fails.now) }
     {
         let bytes = bytes.to_vec(alloc)?;
         let fails = fails.to_vec(alloc)?;
@@ -82,22 +84,31 @@ impl Reader for MemReader {
         ensures exact { ReadsOrFails self.old self.new out.old result }
     {
         let call = self.reads;
-        self.reads = after(call);
+        self.reads = next_count(call);
         self.asked = self.asked.saturating_add(out.len() as u64);
         if is_listed(self.fails.as_slice(), call) {
-            self.faults = after(self.faults);
+            self.faults = next_count(self.faults);
             return Err(Failed);
         }
-        let rest = rest_from(self.bytes.as_slice(), place);
-        let taken = rest.len().min(out.len());
-        out.split_at_mut(taken)
-            .0
-            .copy_from_slice(rest.split_at(taken).0);
-        Ok(taken)
+        Ok(copy_at(self.bytes.as_slice(), place, out))
     }
 }
 
-// the bytes from `place` on, none where it lies past the end
+// Copies the bytes from `place` on into the start of `out`, as far as they go, and returns how many
+// these are.
+pub fn copy_at(bytes: &[u8], place: u64, out: &mut [u8]) -> usize
+    ensures count { result ≡ min (length out.new) (length bytes.now - place) }
+    ensures bytes { take result out.new ≡ take result (drop place bytes.now) }
+{
+    let rest = rest_from(bytes, place);
+    let taken = rest.len().min(out.len());
+    out.split_at_mut(taken)
+        .0
+        .copy_from_slice(rest.split_at(taken).0);
+    taken
+}
+
+// The bytes from `place` on: none if it is past the end.
 fn rest_from(bytes: &[u8], place: u64) -> &[u8]
     ensures { result.now ≡ drop place bytes.now }
 {

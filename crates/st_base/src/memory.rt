@@ -1,0 +1,11 @@
+// Sources, sinks, files and a clock in memory, which do at each call what they are made to.
+mod clock;
+mod reader;
+mod schedule;
+mod sink;
+mod source;
+
+pub use clock::MemClock;
+pub use reader::MemReader;
+pub use sink::MemSink;
+pub use source::{MemSource, SureSource};
