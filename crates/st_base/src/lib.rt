@@ -48,7 +48,7 @@ pub use failures::{Failed, NoMemory};
 pub use file_reader::FileReader;
 pub use limits::Limits;
 pub use machine_clock::MachineClock;
-pub use memory::{MemClock, MemReader, MemSink, MemSource, SureSource};
+pub use memory::{MemClock, MemReader, MemSink, MemSource, SliceReader, SureSource};
 pub use outlets::{Outlet, Plain};
 pub use readers::{Reader, read_whole};
 pub use records::{Record, RecordRef};

@@ -3,9 +3,11 @@ mod clock;
 mod reader;
 mod schedule;
 mod sink;
+mod slice;
 mod source;
 
 pub use clock::MemClock;
 pub use reader::MemReader;
 pub use sink::MemSink;
+pub use slice::SliceReader;
 pub use source::{MemSource, SureSource};
