@@ -1,5 +1,6 @@
 -- What the implementations in memory are seen as, and what each call of them does.
 use Rattle.std.specs.Prelude.{ℕ, ◌+◌, ◌-◌, ◌^◌, ◌≡◌, min, List, [], length, drop, ◌++◌, Contains, Result, MatchResult}
+use Rattle.st_base.specs.Faults.{next_count}
 
 -- a source that gives at most this many bytes a call and fails at the calls of these numbers,
 -- counted from 0: the bytes to come, the calls so far and the faults so far
@@ -10,7 +11,8 @@ pub record SourceView : Type 0 where
   pub calls : ℕ
   pub faults : ℕ
 
--- a sink that fails at the calls of these numbers: what was written, the calls and the faults so far
+-- a sink that fails at the calls of these numbers: what was written, the calls so far and the
+-- faults so far
 pub record SinkView : Type 0 where
   pub written : List ℕ
   pub fails : List ℕ
@@ -39,10 +41,6 @@ empty_sink fails = record { written = []; fails = fails; calls = 0; faults = 0 }
 abbrev pub unread_file : List ℕ → List ℕ → ReaderView
 unread_file bytes fails =
     record { content = bytes; fails = fails; reads = 0; asked = 0; faults = 0 }
-
--- one more, but no more than a u64 holds
-abbrev pub next_count : ℕ → ℕ
-next_count n = min (n + 1) (2 ^ 64 - 1)
 
 -- the call gives as much as piece and room allow, or its number is listed and it fails
 abbrev pub GivesOrFails : {E : Type 0} → SourceView → SourceView → List ℕ → Result ℕ E → Type 0

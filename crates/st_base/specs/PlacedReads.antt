@@ -11,7 +11,7 @@ abbrev pub ReadsAt : {E : Type 0} → Option (List ℕ) → ℕ → ℕ → Resu
 ReadsAt content size place result out =
     IfOk result (λ n. (n ≡ min (length out) (size - place)) × HasPart content place (take n out))
 
--- if it is known which reads fail, this one of this many bytes fails if and only if it is one of them
+-- if it is known which reads fail, this one fails if and only if it is one of them
 abbrev pub FailsAsKnown : {T E : Type 0} → Option (ℕ → ℕ → Bool) → ℕ → ℕ → Result T E → Type 0
 FailsAsKnown known place n result =
     (fails : ℕ → ℕ → Bool) → known ≡ Some fails → IsErr result ↔ IsTrue (fails place n)

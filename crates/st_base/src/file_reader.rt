@@ -1,6 +1,5 @@
-ghost use Rattle.std.specs.Prelude.{Option, Bool, ◌≡◌, ◌+◌, ◌-◌, ◌^◌, ◌≤◌, ◌<◌, ℕ, min, List, length, take, None, OnOk, MatchResult};
-ghost use Rattle.st_base.specs.Faults.{HasCause, CountsOn};
-ghost use Rattle.st_base.specs.MemoryViews.{next_count};
+ghost use Rattle.std.specs.Prelude.{Option, Bool, ◌≡◌, ◌+◌, ◌-◌, ◌^◌, ◌≤◌, ◌<◌, ℕ, min, List, length, take, None, OnOk};
+ghost use Rattle.st_base.specs.Faults.{HasCause, CountsOne, CountsOn};
 ghost use Rattle.st_base.specs.PlacedReads.{HasPart, ReadsAt, FailsAsKnown};
 ghost use Rattle.st_base.specs.KnownLength.{of_length};
 
@@ -92,15 +91,17 @@ impl<F: PlacedBytes> Reader for FileReader<F> {
 
     fn read_at(&mut self, place: u64, out: &mut [u8]) -> Result<usize, Failed>
         // What every reader gives.
-        ensures bytes { ReadsAt (of_length self.old.size (F.content self.old.file)) self.old.size place result out.new }
+        ensures bytes { ReadsAt (of_length self.old.size (F.content self.old.file))
+            self.old.size place result out.new }
         ensures cause { HasCause self.old.faults self.new.faults result }
         ensures reads { CountsOn self.old.reads self.new.reads 1 }
         ensures asked { CountsOn self.old.asked self.new.asked (length out.old) }
 
         // It fails if and only if the file does, and counts one fault then.
         ensures same { (self.new.file ≡ self.old.file) × (self.new.size ≡ self.old.size) }
-        ensures fails { FailsAsKnown (F.fails self.old.file) place (min (length out.old) (self.old.size - place)) result }
-        ensures fault { MatchResult result (λ _. self.new.faults ≡ self.old.faults) (λ _. self.new.faults ≡ next_count self.old.faults) }
+        ensures fails { FailsAsKnown (F.fails self.old.file) place
+            (min (length out.old) (self.old.size - place)) result }
+        ensures fault { CountsOne self.old.faults self.new.faults result }
     {
         self.reads = self.reads.saturating_add(1);
         self.asked = self.asked.saturating_add(out.len() as u64);

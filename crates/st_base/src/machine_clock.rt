@@ -7,8 +7,8 @@ use std::time::{Duration, SystemTime};
 
 /// The machine's clock, of which no answer is known ahead.
 ///
-/// A clock that the machine can't read, or that is before 1970, answers 0, and one past what 64 bits
-/// hold answers their greatest number.
+/// It answers 0 if the machine can't read it or it is before 1970, and the greatest number of 64
+/// bits if it is past that.
 #[derive(Drop)]
 pub struct MachineClock<'a, R> {
     rt: &'a R,
