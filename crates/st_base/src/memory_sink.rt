@@ -1,7 +1,7 @@
 ghost use Rattle.std.specs.Prelude.{◌≡◌, ◌+◌, ◌^◌, ◌≤◌, ◌<◌, List, [], length, IfOk, Some};
 ghost use Rattle.std.specs.Io.{WritesAtMost};
 ghost use Rattle.std.specs.Io.KnownBytes.{WriteAppends};
-ghost use Rattle.st_base.specs.Faults.{HasCause, TakesSome};
+ghost use Rattle.st_base.specs.Faults.{HasWriteCause};
 ghost use Rattle.st_base.specs.MemoryViews.{TakesOrFails};
 
 use crate::failures::{Failed, NoMemory};
@@ -67,8 +67,7 @@ impl Sink for MemSink {
     fn write(&mut self, bytes: &[u8]) -> Result<usize, Failed>
         ensures bound { WritesAtMost result bytes.now }
         ensures bytes { WriteAppends (Some self.old.written) (Some self.new.written) result bytes.now }
-        ensures some { TakesSome self.old.faults self.new.faults bytes.now result }
-        ensures cause { HasCause self.old.faults self.new.faults result }
+        ensures cause { HasWriteCause self.old.faults self.new.faults bytes.now result }
         ensures exact { TakesOrFails self.old self.new bytes.now result }
     {
         let call = self.calls;

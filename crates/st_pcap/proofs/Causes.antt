@@ -1,7 +1,7 @@
 -- Which causes are those of a file head.
 use Rattle.std.proofs.Common.{Option, ◌≡◌, ℕ, ◌+◌, ◌-◌, ◌↔◌, List, length, take, None, Some, refl, sym, ap, ◌∙◌, subst, inl, inr, arith}
 use Rattle.std.specs.Prelude.{Bool, true, false, ◌&&◌, ◌%◌, if◌then◌else◌, nat_le, nat_lt, nat_eq}
-use Rattle.std.specs.Option.{option_map}
+use Rattle.std.specs.Option.{option_map, option_or}
 use Rattle.st_base.specs.Records.{Rec}
 use Rattle.st_pcap.specs.declared.errors.PcapErr.{PcapErr}
 use Rattle.st_pcap.specs.declared.errors.PcapErr.TheVariants.{NotPcap, Version, LinkType, BadFraction, TooLong, Truncated, TooMuch}
@@ -12,7 +12,7 @@ use Rattle.st_pcap.specs.declared.forms.Unit.TheVariants.{Micro, Nano}
 use Rattle.byteorder.specs.Endian.{little_number}
 use Rattle.st_pcap.specs.declared.forms.TheConstants.{MAX_INPUT, MAX_BODY}
 use Rattle.st_pcap.specs.Forms.{field, fractions, magic}
-use Rattle.st_pcap.specs.Heads.{IsOfFileHead, or_else, refusal_of_captured, refusal_of_entry, refusal_of_file, refusal_of_link, refusal_of_magic, refusal_of_record, refusal_of_rest, refusal_of_size, refusal_of_version}
+use Rattle.st_pcap.specs.Heads.{IsOfFileHead, refusal_of_captured, refusal_of_fields, refusal_of_file, refusal_of_link, refusal_of_magic, refusal_of_record, refusal_of_rest, refusal_of_size, refusal_of_version}
 use Rattle.st_pcap.specs.Input.{End, Whole, Refused, Input, end_at}
 use Rattle.st_pcap.proofs.Uniqueness.{pcap_accepted}
 
@@ -69,7 +69,7 @@ file_of_head : (head : List ℕ) → IsOfHead (refusal_of_file head)
 file_of_head head =
     chosen IsOfHead (nat_lt (length head) 4) (Some (Truncated 0 (length head) 24)) (refusal_of_magic (little_number 4 head) head) refl (magic_of_head (little_number 4 head) head)
 
-first_apart : (a b : Option PcapErr) → IsNotOfHead a → IsNotOfHead b → IsNotOfHead (or_else a b)
+first_apart : (a b : Option PcapErr) → IsNotOfHead a → IsNotOfHead b → IsNotOfHead (option_or a b)
 first_apart None b p q = q
 first_apart (Some e) b p q = p
 
@@ -79,16 +79,16 @@ size_apart number have want = chosen IsNotOfHead (nat_lt have want) (Some (Trunc
 captured_apart : (number captured : ℕ) → IsNotOfHead (refusal_of_captured number captured)
 captured_apart number captured = chosen IsNotOfHead (nat_lt MAX_BODY captured) (Some (TooLong number captured)) None (λ h. h) tt
 
-entry_apart : (order : Order) (u : unit.Unit) (number : ℕ) (head : List ℕ) → IsNotOfHead (refusal_of_entry order u number head)
-entry_apart order u number head =
+fields_apart : (order : Order) (u : unit.Unit) (number : ℕ) (head : List ℕ) → IsNotOfHead (refusal_of_fields order u number head)
+fields_apart order u number head =
     chosen IsNotOfHead (nat_le (fractions u) (field order 4 4 head)) (Some (BadFraction number (field order 4 4 head))) (refusal_of_captured number (field order 4 8 head)) (λ h. h)
     (captured_apart number (field order 4 8 head))
 
 record_apart : (order : Order) (u : unit.Unit) (number : ℕ) (rest : List ℕ) → IsNotOfHead (refusal_of_record order u (number + 1) rest)
 record_apart order u number rest =
-    first_apart (refusal_of_size (number + 1) (length rest) 16) (or_else (refusal_of_entry order u (number + 1) (take 16 rest)) (refusal_of_size (number + 1) (length rest) (16 + field order 4 8 (take 16 rest))))
+    first_apart (refusal_of_size (number + 1) (length rest) 16) (option_or (refusal_of_fields order u (number + 1) (take 16 rest)) (refusal_of_size (number + 1) (length rest) (16 + field order 4 8 (take 16 rest))))
     (size_apart number (length rest) 16)
-    (first_apart (refusal_of_entry order u (number + 1) (take 16 rest)) (refusal_of_size (number + 1) (length rest) (16 + field order 4 8 (take 16 rest))) (entry_apart order u (number + 1) (take 16 rest))
+    (first_apart (refusal_of_fields order u (number + 1) (take 16 rest)) (refusal_of_size (number + 1) (length rest) (16 + field order 4 8 (take 16 rest))) (fields_apart order u (number + 1) (take 16 rest))
     (size_apart number (length rest) (16 + field order 4 8 (take 16 rest))))
 
 refused_apart : (o : Option PcapErr) → IsNotOfHead o → EndsApart (option_map Refused o)

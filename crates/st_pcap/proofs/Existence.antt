@@ -4,7 +4,7 @@ use Rattle.std.proofs.Common.{Option, ◌≡◌, ℕ, ◌+◌, ◌-◌, ◌<◌,
 use Rattle.std.proofs.lemmas.Bool.{cases_eq}
 use Rattle.std.proofs.lemmas.Bool.Decides.{nat_tests}
 use Rattle.std.proofs.lemmas.List.{length-take}
-use Rattle.std.specs.Option.{option_map}
+use Rattle.std.specs.Option.{option_map, option_or}
 use Rattle.byteorder.specs.Endian.{little_number}
 use Rattle.st_base.specs.Records.{Rec}
 use Rattle.st_pcap.specs.declared.errors.PcapErr.{PcapErr}
@@ -15,7 +15,7 @@ use Rattle.st_pcap.specs.declared.forms.Unit as unit
 use Rattle.st_pcap.specs.declared.forms.Unit.TheVariants.{Micro, Nano}
 use Rattle.st_pcap.specs.declared.forms.TheConstants.{MAX_INPUT, MAX_BODY}
 use Rattle.st_pcap.specs.Forms.{field, magic, fractions, nanoseconds}
-use Rattle.st_pcap.specs.Heads.{IsFileHead, IsRecordHead, refusal_of_file, refusal_of_magic, refusal_of_rest, refusal_of_record, refusal_of_entry, refusal_of_size, or_else}
+use Rattle.st_pcap.specs.Heads.{IsFileHead, IsRecordHead, refusal_of_file, refusal_of_magic, refusal_of_rest, refusal_of_record, refusal_of_fields, refusal_of_size}
 use Rattle.st_pcap.specs.Input.{Records, AllBegin, End, Whole, Refused, Input, end_at}
 use Rattle.st_pcap.proofs.Spellings.{size_of, length-Records}
 
@@ -31,21 +31,21 @@ unmapped : (o : Option PcapErr) → option_map Refused o ≡ None → o ≡ None
 unmapped None e = refl
 unmapped (Some x) e = cc
 
-first_none : (a b : Option PcapErr) → or_else a b ≡ None → a ≡ None
+first_none : (a b : Option PcapErr) → option_or a b ≡ None → a ≡ None
 first_none None b e = refl
 first_none (Some x) b e = e
 
-second_none : (a b : Option PcapErr) → or_else a b ≡ None → b ≡ None
+second_none : (a b : Option PcapErr) → option_or a b ≡ None → b ≡ None
 second_none None b e = e
 second_none (Some x) b e = cc
 
 size_enough : (number have want : ℕ) → refusal_of_size number have want ≡ None → want ≤ have
 size_enough number have want e = grind (arith, nat_tests)
 
-fraction_fits : (order : Order) (u : unit.Unit) (number : ℕ) (head : List ℕ) → refusal_of_entry order u number head ≡ None → field order 4 4 head < fractions u
+fraction_fits : (order : Order) (u : unit.Unit) (number : ℕ) (head : List ℕ) → refusal_of_fields order u number head ≡ None → field order 4 4 head < fractions u
 fraction_fits order u number head e = grind (arith, nat_tests)
 
-captured_fits : (order : Order) (u : unit.Unit) (number : ℕ) (head : List ℕ) → refusal_of_entry order u number head ≡ None → field order 4 8 head ≤ MAX_BODY
+captured_fits : (order : Order) (u : unit.Unit) (number : ℕ) (head : List ℕ) → refusal_of_fields order u number head ≡ None → field order 4 8 head ≤ MAX_BODY
 captured_fits order u number head e = grind (arith, nat_tests)
 
 -- both tests of an end are passed by
@@ -59,15 +59,15 @@ begins : (order : Order) (u : unit.Unit) (before number : ℕ) (rest : List ℕ)
 begins order u before number rest e =
     let head = take 16 rest in
     let none = unmapped (refusal_of_record order u number rest) (passed_to before (length rest) (Refused (TooMuch before)) Whole (option_map Refused (refusal_of_record order u number rest)) e) in
-    let long = first_none (refusal_of_size number (length rest) 16) (or_else (refusal_of_entry order u number head) (refusal_of_size number (length rest) (16 + field order 4 8 head))) none in
-    let fields = second_none (refusal_of_size number (length rest) 16) (or_else (refusal_of_entry order u number head) (refusal_of_size number (length rest) (16 + field order 4 8 head))) none in
-    let entry = first_none (refusal_of_entry order u number head) (refusal_of_size number (length rest) (16 + field order 4 8 head)) fields in
-    let body = second_none (refusal_of_entry order u number head) (refusal_of_size number (length rest) (16 + field order 4 8 head)) fields in
+    let long = first_none (refusal_of_size number (length rest) 16) (option_or (refusal_of_fields order u number head) (refusal_of_size number (length rest) (16 + field order 4 8 head))) none in
+    let later = second_none (refusal_of_size number (length rest) 16) (option_or (refusal_of_fields order u number head) (refusal_of_size number (length rest) (16 + field order 4 8 head))) none in
+    let fields = first_none (refusal_of_fields order u number head) (refusal_of_size number (length rest) (16 + field order 4 8 head)) later in
+    let body = second_none (refusal_of_fields order u number head) (refusal_of_size number (length rest) (16 + field order 4 8 head)) later in
     record {
       below = passed before (length rest) (Refused (TooMuch before)) Whole (option_map Refused (refusal_of_record order u number rest)) e;
       long = size_enough number (length rest) 16 long;
-      fraction = fraction_fits order u number head entry;
-      short = captured_fits order u number head entry;
+      fraction = fraction_fits order u number head fields;
+      short = captured_fits order u number head fields;
       whole = size_enough number (length rest) (16 + field order 4 8 head) body;
     }
 

@@ -3,7 +3,7 @@ use Rattle.std.specs.Prelude.{◌==◌, if◌then◌else◌}
 use Rattle.std.proofs.Common.{◌≡◌, ℕ, ◌+◌, ◌-◌, ◌<◌, List, [], ◌∷◌, ◌++◌, length, take, None, Some, refl, sym, ap, ◌∙◌, subst, inl, inr, arith, length-append}
 use Rattle.std.proofs.lemmas.Bool.Decides.{nat_tests}
 use Rattle.std.proofs.lemmas.List.{take_at}
-use Rattle.std.specs.Option.{option_map}
+use Rattle.std.specs.Option.{option_map, option_or}
 use Rattle.byteorder.specs.Endian.{little_number}
 use Rattle.st_base.specs.Records.{Rec}
 use Rattle.st_pcap.specs.declared.forms.Order.{Order}
@@ -12,9 +12,9 @@ use Rattle.st_pcap.specs.declared.forms.Unit as unit
 use Rattle.st_pcap.specs.declared.forms.Unit.TheVariants.{Micro, Nano}
 use Rattle.st_pcap.specs.declared.forms.TheConstants.{MAX_INPUT}
 use Rattle.st_pcap.specs.Forms.{field, magic}
-use Rattle.st_pcap.specs.Heads.{IsFileHead, IsRecordHead, refusal_of_file, refusal_of_magic, refusal_of_rest, refusal_of_entry, refusal_of_size, or_else}
+use Rattle.st_pcap.specs.Heads.{IsFileHead, IsRecordHead, refusal_of_file, refusal_of_magic, refusal_of_rest, refusal_of_fields, refusal_of_size}
 use Rattle.st_pcap.specs.Input.{Records, AllBegin, IsPcap, End, Refused, Input, end_at}
-use Rattle.st_pcap.proofs.Heads.{end_at-entry}
+use Rattle.st_pcap.proofs.Heads.{end_at-fields}
 use Rattle.st_pcap.proofs.Spellings.{size_of, length-Records}
 use Rattle.st_pcap.proofs.Splits.{same_front, same_back}
 
@@ -29,7 +29,7 @@ head_same : (order : Order) (u : unit.Unit) (head : List ℕ) (r q : Rec) → Is
 head_same order u head r q a b same = rec_same r q (sym a.sec ∙ b.sec) (sym a.nsec ∙ b.nsec) (sym a.orig ∙ b.orig) same
 
 -- fields in range are not refused
-in_range : (order : Order) (u : unit.Unit) (number : ℕ) (head : List ℕ) (r : Rec) → IsRecordHead order u head r → refusal_of_entry order u number head ≡ None
+in_range : (order : Order) (u : unit.Unit) (number : ℕ) (head : List ℕ) (r : Rec) → IsRecordHead order u head r → refusal_of_fields order u number head ≡ None
 in_range order u number head r is = grind (arith, nat_tests)
 
 -- where a record stands, no end does
@@ -41,11 +41,11 @@ record_there order u before number rest head more r below is whole =
     let body = length-append r.body more in
     let size = is.size in
     let captured = is.captured in
-    let entry : refusal_of_entry order u number head ≡ None = in_range order u number head r is in
+    let fields : refusal_of_fields order u number head ≡ None = in_range order u number head r is in
     let enough : refusal_of_size number (length rest) (16 + field order 4 8 head) ≡ None = grind (arith, nat_tests) in
-    end_at-entry order u before number rest below (omega arith)
-    ∙ ap (λ l. option_map Refused (or_else (refusal_of_entry order u number l) (refusal_of_size number (length rest) (16 + field order 4 8 l)))) front
-    ∙ ap (λ o. option_map Refused (or_else o (refusal_of_size number (length rest) (16 + field order 4 8 head)))) entry ∙ ap (option_map Refused) enough
+    end_at-fields order u before number rest below (omega arith)
+    ∙ ap (λ l. option_map Refused (option_or (refusal_of_fields order u number l) (refusal_of_size number (length rest) (16 + field order 4 8 l)))) front
+    ∙ ap (λ o. option_map Refused (option_or o (refusal_of_size number (length rest) (16 + field order 4 8 head)))) fields ∙ ap (option_map Refused) enough
 
 -- from one place on, the records and what stands behind them are one
 same_records : (order : Order) (u : unit.Unit) (before number : ℕ) (bytes : List ℕ) (rs qs : List Rec) (rest other : List ℕ) (end last : End)

@@ -1,6 +1,7 @@
 -- The two heads of a pcap file, and what each is refused for. The libpcap savefile format, "File
 -- Header" and "Packet Record".
 use Rattle.std.specs.Prelude.{Option, ◌≡◌, ℕ, ◌+◌, ◌<◌, ◌≤◌, ◌%◌, ◌==◌, nat_lt, nat_le, ◌&&◌, if◌then◌else◌, List, length, take, None, Some}
+use Rattle.std.specs.Option.{option_or}
 use Rattle.byteorder.specs.Endian.{little_number}
 use Rattle.st_base.specs.Records.{Rec}
 use Rattle.st_pcap.specs.declared.errors.PcapErr.{PcapErr}
@@ -60,18 +61,13 @@ abbrev pub refusal_of_file : List ℕ → Option PcapErr
 refusal_of_file head =
     if nat_lt (length head) 4 then Some (Truncated 0 (length head) 24) else refusal_of_magic (little_number 4 head) head
 
--- the first of two refusals
-abbrev pub or_else : Option PcapErr → Option PcapErr → Option PcapErr
-or_else None later = later
-or_else (Some e) later = Some e
-
 -- the captured length is to be no longer than a body may be
 abbrev pub refusal_of_captured : ℕ → ℕ → Option PcapErr
 refusal_of_captured number captured = if nat_lt MAX_BODY captured then Some (TooLong number captured) else None
 
 -- the fraction is to be less than a second; only then the captured length is looked at
-abbrev pub refusal_of_entry : Order → unit.Unit → ℕ → List ℕ → Option PcapErr
-refusal_of_entry order u number head =
+abbrev pub refusal_of_fields : Order → unit.Unit → ℕ → List ℕ → Option PcapErr
+refusal_of_fields order u number head =
     if nat_le (fractions u) (field order 4 4 head) then Some (BadFraction number (field order 4 4 head))
     else refusal_of_captured number (field order 4 8 head)
 
@@ -83,8 +79,8 @@ refusal_of_size number have want = if nat_lt have want then Some (Truncated numb
 -- with one. First a head that is cut is refused, then what its fields say, then a body that is cut.
 abbrev pub refusal_of_record : Order → unit.Unit → ℕ → List ℕ → Option PcapErr
 refusal_of_record order u number rest =
-    or_else (refusal_of_size number (length rest) 16)
-    (or_else (refusal_of_entry order u number (take 16 rest)) (refusal_of_size number (length rest) (16 + field order 4 8 (take 16 rest))))
+    option_or (refusal_of_size number (length rest) 16)
+    (option_or (refusal_of_fields order u number (take 16 rest)) (refusal_of_size number (length rest) (16 + field order 4 8 (take 16 rest))))
 
 -- the causes that a file head is refused for, which name no record
 abbrev pub IsOfFileHead : PcapErr → Type 0

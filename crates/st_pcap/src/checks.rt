@@ -1,12 +1,12 @@
 ghost use Rattle.std.specs.Prelude.{◌≡◌, ◌≤◌, length, IfErr, MatchResult, Some};
 ghost use Rattle.byteorder.specs.Endian.{little_number};
 ghost use Rattle.st_pcap.specs.Forms.{magic};
-ghost use Rattle.st_pcap.specs.Heads.{IsFileHead, refusal_of_file, refusal_of_rest, refusal_of_entry};
-ghost use Rattle.st_pcap.specs.Checks.{IsEntry, IsNoLimit};
+ghost use Rattle.st_pcap.specs.Heads.{IsFileHead, refusal_of_file, refusal_of_rest, refusal_of_fields};
+ghost use Rattle.st_pcap.specs.Checks.{HasFields, IsNoLimit};
 
-use crate::entries::Entry;
 use crate::errors::PcapErr;
 use crate::forms::{Form, MAX_BODY, Order, Unit, fractions, nanoseconds, number_at, short_at};
+use crate::head_fields::HeadFields;
 use byteorder::{ByteOrder, LittleEndian};
 
 /// The form of the file whose first 24 bytes, or as many as it has, are `head`; else the cause for
@@ -62,10 +62,10 @@ fn form_with(order: Order, unit: Unit, head: &[u8]) -> Result<Form, PcapErr>
 
 /// What the 16 bytes before the body of record `number` say; else the first of their fields that
 /// is out of range.
-pub fn entry_in(form: Form, number: u64, head: &[u8]) -> Result<Entry, PcapErr>
+pub fn fields_in(form: Form, number: u64, head: &[u8]) -> Result<HeadFields, PcapErr>
     requires { length head.now ≡ 16 }
-    ensures checks { MatchResult result (IsEntry form head.now)
-        (λ e. refusal_of_entry form.order form.unit number head.now ≡ Some e) }
+    ensures checks { MatchResult result (HasFields form head.now)
+        (λ e. refusal_of_fields form.order form.unit number head.now ≡ Some e) }
     ensures below { IfErr result IsNoLimit }
 {
     let fraction = number_at(form.order, 4, head);
@@ -82,7 +82,7 @@ pub fn entry_in(form: Form, number: u64, head: &[u8]) -> Result<Entry, PcapErr>
             len: captured,
         });
     }
-    Ok(Entry {
+    Ok(HeadFields {
         sec: number_at(form.order, 0, head),
         nsec: nanoseconds(form.unit, fraction),
         captured,

@@ -3,11 +3,11 @@ ghost use Rattle.st_base.specs.Faults.{Rose};
 ghost use Rattle.st_pcap.specs.Reading.{Took, Counts};
 ghost use Rattle.st_pcap.specs.Checks.{GivesForm, GivesBody, GivesRecord, EndsAtLimit, IsNoLimit};
 
-use crate::checks::{entry_in, form_in};
-use crate::entries::Entry;
+use crate::checks::{fields_in, form_in};
 use crate::errors::PcapErr;
 use crate::fill::take_bytes;
 use crate::forms::{Form, MAX_BODY, MAX_INPUT};
+use crate::head_fields::HeadFields;
 use st_base::{Octets, Record, Source};
 
 /// Reads the file head, by one read where the source gives as much as it is asked for, and answers
@@ -64,8 +64,8 @@ pub fn read_record<S: Source>(
             want: 16,
         });
     }
-    match entry_in(form, number, &head) {
-        Ok(entry) => match read_body(&entry, number, source, body, taken) {
+    match fields_in(form, number, &head) {
+        Ok(fields) => match read_body(&fields, number, source, body, taken) {
             Ok(packet) => Ok(Some(packet)),
             Err(error) => Err(error),
         },
@@ -75,17 +75,17 @@ pub fn read_record<S: Source>(
 
 /// Reads the body of record `number`, whose head has been read, into the memory of `body`.
 fn read_body<S: Source>(
-    entry: &Entry,
+    fields: &HeadFields,
     number: u64,
     source: &mut S,
     body: Vec<u8>,
     taken: &mut u64,
 ) -> Result<Record, PcapErr>
     requires room { taken.old ≤ MAX_INPUT + 16 }
-    requires short { entry.now.captured ≤ MAX_BODY }
-    requires below { entry.now.nsec < 1000000000 }
+    requires short { fields.now.captured ≤ MAX_BODY }
+    requires below { fields.now.nsec < 1000000000 }
     ensures gives { (rest : List ℕ) → S.left source.old ≡ Some rest
-        → GivesBody entry.now number rest (S.left source.new) result }
+        → GivesBody fields.now number rest (S.left source.new) result }
     ensures below { IfErr result IsNoLimit }
     ensures fault { result ≡ Err PcapErr.ReadFault → Rose (S.faults source.old) (S.faults source.new) }
     ensures taken { Took (S.left source.old) (S.left source.new) taken.old taken.new }
@@ -94,20 +94,20 @@ fn read_body<S: Source>(
     ensures later { S.faults source.old ≤ S.faults source.new }
     ensures rest { S.beside source.new ≡ S.beside source.old }
 {
-    let mut body = match sized(body, entry.captured as usize) {
+    let mut body = match sized(body, fields.captured as usize) {
         Ok(body) => body,
         Err(error) => return Err(error),
     };
     match take_bytes(source, body.as_mut_slice(), taken) {
-        Ok(have) if have < entry.captured as usize => Err(PcapErr::Truncated {
+        Ok(have) if have < fields.captured as usize => Err(PcapErr::Truncated {
             number,
             have: 16 + have as u64,
-            want: 16 + u64::from(entry.captured),
+            want: 16 + u64::from(fields.captured),
         }),
         Ok(_) => Ok(Record {
-            sec: entry.sec,
-            nsec: entry.nsec,
-            orig: entry.orig,
+            sec: fields.sec,
+            nsec: fields.nsec,
+            orig: fields.orig,
             body: Octets::of(body),
         }),
         Err(error) => Err(error),

@@ -1,11 +1,11 @@
-ghost use Rattle.std.specs.Prelude.{◌≡◌};
+ghost use Rattle.std.specs.Prelude.{◌≡◌, ◌+◌, ◌<◌, ◌++◌, length, vec_len, vec_capacity, OnOk, OnErr};
 ghost use Rattle.st_base.specs.Faults.{HasCause};
 ghost use Rattle.st_base.specs.Pieces.{Puts};
 ghost use Rattle.st_pcap.specs.Text.{file_head, record_head, record_text};
 
 use crate::forms::{MAX_BODY, Unit, fraction_of};
 use byteorder::{ByteOrder, LittleEndian};
-use st_base::{Failed, RecordRef, Sink, put};
+use st_base::{Failed, NoMemory, RecordRef, Sink, put};
 
 /// The 24 bytes of the file head that stands before records in this unit. It takes no memory.
 ///
@@ -75,5 +75,29 @@ pub fn put_record<S: Sink>(sink: &mut S, unit: Unit, r: RecordRef<'_>) -> Result
     match put(sink, &head_of(unit, &r)) {
         Ok(()) => put(sink, r.body),
         Err(error) => Err(error),
+    }
+}
+
+/// Appends a record's text to `text`: its head of 16 bytes, and then its body.
+///
+/// `NoMemory` comes only if `text` had no room for it, and leaves `text` as it was.
+pub fn append_record(text: &mut Vec<u8>, unit: Unit, r: &RecordRef<'_>) -> Result<(), NoMemory>
+    ensures appended { OnOk result (text.new.items ≡ text.old.items ++ record_text unit r.now) }
+    ensures kept { OnErr result (text.new.items ≡ text.old.items) }
+    ensures full { OnErr result
+        (vec_capacity text.old < vec_len text.old + length (record_text unit r.now)) }
+{
+    let head = head_of(unit, r);
+    match text.reserve(head.len() + r.body.len()) {
+        Ok(()) => (),
+        Err(_) => return Err(NoMemory),
+    }
+    match text.extend_from_slice(&head) {
+        Ok(()) => (),
+        Err(_) => return Err(NoMemory),
+    }
+    match text.extend_from_slice(r.body) {
+        Ok(()) => Ok(()),
+        Err(_) => Err(NoMemory),
     }
 }

@@ -1,6 +1,6 @@
 /// What the head of a record says, its fraction in nanoseconds.
 #[derive(Clone, Copy, Debug, PartialEq, Eq)]
-pub struct Entry {
+pub struct HeadFields {
     pub sec: u32,
     pub nsec: u32,
     pub captured: u32,
