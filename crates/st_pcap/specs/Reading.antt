@@ -7,7 +7,7 @@ use Rattle.st_pcap.specs.declared.errors.PcapErr.TheVariants.{ReadFault, NoMemor
 use Rattle.st_pcap.specs.declared.forms.Form.{Form}
 use Rattle.st_pcap.specs.declared.reader.Phase.{Phase}
 use Rattle.st_pcap.specs.declared.reader.Phase.TheVariants.{Fresh, Open, Stopped}
-use Rattle.st_pcap.specs.declared.forms.TheConstants.{MAX_BODY, MAX_INPUT}
+use Rattle.st_pcap.specs.declared.numbers.TheConstants.{FILE_HEAD_SIZE, RECORD_HEAD_SIZE, MAX_BODY, MAX_INPUT}
 use Rattle.st_pcap.specs.Heads.{IsFileHead}
 use Rattle.st_pcap.specs.Input.{Records, AllBegin, Whole, Refused, Input}
 
@@ -24,8 +24,8 @@ fresh = record { phase = Fresh; taken = 0; number = 0 }
 -- a reader takes no more than the last record that may begin, and 16 bytes at least for each that
 -- it gave
 pub record IsInBounds (p : PcapReaderView) : Type 0 where
-  pub taken : p.taken ≤ MAX_INPUT + 16 + MAX_BODY
-  pub number : 16 * p.number ≤ p.taken
+  pub taken : p.taken ≤ MAX_INPUT + RECORD_HEAD_SIZE + MAX_BODY
+  pub number : RECORD_HEAD_SIZE * p.number ≤ p.taken
   pub fresh : p.phase ≡ Fresh → p.taken ≡ 0
 
 -- causes that lie outside the bytes
@@ -44,7 +44,7 @@ abbrev pub HasReadIn : Phase → ℕ → ℕ → List ℕ → List Rec → List 
 HasReadIn Fresh taken number bytes rs rest = (rs ≡ []) × (bytes ≡ rest) × (taken ≡ 0) × (number ≡ 0)
 HasReadIn (Open form) taken number bytes rs rest =
     (head : List ℕ) × (text : List ℕ) × (bytes ≡ head ++ text) × IsFileHead form.order form.unit head
-    × Records form.order form.unit text rs rest × AllBegin 24 rs × (number ≡ length rs) × (taken + length rest ≡ length bytes)
+    × Records form.order form.unit text rs rest × AllBegin FILE_HEAD_SIZE rs × (number ≡ length rs) × (taken + length rest ≡ length bytes)
 HasReadIn (Stopped e) taken number bytes rs rest = IsOutside e ⊎ Input bytes rs (Refused e)
 
 abbrev pub HasRead : PcapReaderView → List ℕ → List Rec → List ℕ → Type 0
@@ -74,8 +74,8 @@ pub record HasReadCause (before now : ℕ) (old : PcapReaderView) (result : Resu
 pub record Counts (left still : Option (List ℕ)) (before now : ℕ) (result : Result (Option Rec) PcapErr) : Type 0 where
   pub taken : Took left still before now
   pub later : before ≤ now
-  pub grows : IfOk result (λ o. OnSome o (before + 16 ≤ now))
-  pub bound : now ≤ MAX_INPUT + 16 + MAX_BODY
+  pub grows : IfOk result (λ o. OnSome o (before + RECORD_HEAD_SIZE ≤ now))
+  pub bound : now ≤ MAX_INPUT + RECORD_HEAD_SIZE + MAX_BODY
 
 -- An open reader that took the most that is read of an input answers so, takes nothing and leaves
 -- its source as it was. So it answers only there, or where it had stopped at that.

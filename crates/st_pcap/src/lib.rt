@@ -41,6 +41,7 @@ mod fill;
 mod forms;
 mod head_fields;
 pub mod laws;
+mod numbers;
 mod reader;
 mod records;
 #[cfg(test)]

@@ -3,7 +3,7 @@ ghost use Rattle.st_base.specs.Faults.{Rose};
 ghost use Rattle.st_base.specs.Records.{Rec};
 
 use crate::errors::PcapErr;
-use crate::forms::{Form, MAX_BODY, MAX_INPUT};
+use crate::forms::Form;
 use crate::records::{read_form, read_record};
 use st_base::{Record, Source};
 use std::alloc::Global;

@@ -11,6 +11,7 @@ use Rattle.st_query.specs.declared.nodes.When.{When}
 use Rattle.st_query.specs.declared.nodes.When.TheVariants.{At, Ago}
 use Rattle.st_query.specs.declared.nodes.Primitive.{Primitive}
 use Rattle.st_query.specs.declared.nodes.Primitive.TheVariants.{Host, Net, Port, Proto, Vlan, Mpls, Before, After}
+use Rattle.st_query.specs.declared.units.TheConstants.{MINUTE, HOUR, SECOND}
 use Rattle.st_query.specs.Words.{network}
 use Rattle.st_query.specs.Trees.{Tree, both, either, one, tree}
 
@@ -19,15 +20,15 @@ abbrev pub addr_key : Addr → Key
 addr_key (V4 a) = key.V4 a
 addr_key (V6 a) = key.V6 a
 
--- so many hours or minutes, in seconds
+-- this many hours or minutes, in seconds
 abbrev pub span_of : ℕ → Bool → ℕ
-span_of count hours = count * (if hours then 3600 else 60)
+span_of count hours = count * (if hours then HOUR else MINUTE)
 
 -- the second of a moment: a relative one counts from the whole second of the clock, and may lie
 -- before 1970
 abbrev pub second_of : When → ℕ → ℤ
 second_of (At second) now = second
-second_of (Ago count hours) now = pos (now / 1000000) -ℤ pos (span_of count hours)
+second_of (Ago count hours) now = pos (now / SECOND) -ℤ pos (span_of count hours)
 
 -- the packet has an address whose first n bits are those of this one
 abbrev pub IsInNet : Addr → ℕ → Rec → Type 0
