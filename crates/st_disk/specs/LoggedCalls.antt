@@ -1,4 +1,4 @@
--- What a call of a shelf adds to its log, and what is said of it where the log is told.
+-- What a call of a shelf adds to its log, and what is said of it where the log is known.
 use Rattle.std.specs.Prelude.{◌≡◌, ◌⊎◌, ℕ, List, [], Option, None, Some, Result, Ok, Err}
 use Rattle.st_base.specs.Faults.{Rose}
 use Rattle.st_disk.specs.declared.naming.Kind.{Kind}
@@ -7,7 +7,8 @@ use Rattle.st_disk.specs.declared.naming.Name.TheVariants.{Block, Index, Parked,
 use Rattle.st_disk.specs.declared.changes.Change.TheVariants.{Remove}
 use Rattle.st_disk.specs.declared.changes.Call.{Call}
 use Rattle.st_disk.specs.declared.changes.Call.TheVariants.{Did, Other}
-use Rattle.st_disk.specs.Folders.{Folder, where_there, published}
+use Rattle.st_disk.specs.Names.{published}
+use Rattle.st_disk.specs.Folders.{Folder, where_there}
 use Rattle.st_disk.specs.Disks.{Log, reads, Leaves, and_then}
 
 -- the log has this call more; a shelf that doesn't tell its log goes on so
@@ -24,11 +25,11 @@ abbrev pub Does : {T E : Type 0} → Option Log → Option Log → Result T E �
 Does old new (Ok v) call = Adds old new (call v)
 Does old new (Err e) call = Looks old new
 
--- where the log is told, this is so of what is read under the name
+-- where the log is known, this is so of what is read under the name
 abbrev pub Reads : Option Log → Name → (Option (List ℕ) → Type 0) → Type 0
-Reads told n P = (log : Log) → told ≡ Some log → P (reads log n)
+Reads known n P = (log : Log) → known ≡ Some log → P (reads log n)
 
--- bytes that are told, else none
+-- bytes that are known, else none
 abbrev pub given : Option (List ℕ) → List ℕ
 given None = []
 given (Some bytes) = bytes
@@ -43,19 +44,8 @@ abbrev pub Abandons : Option Log → Option Log → Name → ℕ → ℕ → Typ
 Abandons old new n before now = Adds old new (removal old n) ⊎ (Looks old new × Rose before now)
 
 -- no crash now leaves a draft of this kind and number
-abbrev pub IsFresh : Option Log → Kind → ℕ → Type 0
-IsFresh told k d = (log : Log) → told ≡ Some log → (c : Folder) → Leaves log c → c (Draft k d) ≡ None
-
--- the stamp of a name, or the number of a draft's
-abbrev pub number_of : Name → ℕ
-number_of (Block s) = s
-number_of (Index s) = s
-number_of (Parked s) = s
-number_of (Draft k d) = d
-
--- the name is one under which a file of this kind is published
-abbrev pub IsPublished : Kind → Name → Type 0
-IsPublished k n = n ≡ published k (number_of n)
+abbrev pub IsUnused : Option Log → Kind → ℕ → Type 0
+IsUnused known k d = (log : Log) → known ≡ Some log → (c : Folder) → Leaves log c → c (Draft k d) ≡ None
 
 -- a file shows what is read under its name; of a draft it may show anything
 abbrev pub Shows : Name → Option (List ℕ) → Option (List ℕ) → Type 0
