@@ -6,8 +6,9 @@ use Rattle.st_disk.specs.declared.naming.Name.{Name}
 use Rattle.st_disk.specs.declared.changes.Change.{Change}
 use Rattle.st_disk.specs.declared.changes.Call.{Call}
 use Rattle.st_disk.specs.declared.changes.Call.TheVariants.{Did, Flush, Other}
-use Rattle.st_disk.specs.Folders.{Folder, by_kind, kind_of, same_kind, join, apply, apply_all, change_kind, folder_of}
-use Rattle.st_disk.specs.Disks.{Log, Side, step, after, fresh_side, side, read_of, reads, SomeOf, Leaves, and_then}
+use Rattle.st_disk.specs.Names.{by_kind, kind_of, same_kind}
+use Rattle.st_disk.specs.Folders.{Folder, join, apply, apply_all, change_kind, folder_of}
+use Rattle.st_disk.specs.Disks.{Log, Side, step, after, flushed_side, side, read_of, reads, SomeOf, Leaves, and_then}
 use Rattle.st_disk.proofs.Joins.{apply_join}
 
 some_snoc : (cs : List Change) (c : Change) (f g : Folder) → SomeOf (cs ++ c ∷ []) f g → (e : Folder) × SomeOf cs f e × ((g ≡ e) ⊎ (g ≡ apply c e))
@@ -29,7 +30,7 @@ after_snoc k s (b ∷ bs) c = after_snoc k (step k s b) bs c
 
 pub side_then : (k : Kind) (log : Log) (call : Call) → side k (and_then log call) ≡ step k (side k log) call
 unfolding side
-side_then k log call = after_snoc k (fresh_side (folder_of (by_kind k log.start_blocks log.start_indexes))) log.calls call
+side_then k log call = after_snoc k (flushed_side (folder_of (by_kind k log.start_blocks log.start_indexes))) log.calls call
 
 -- what a crash may leave of two folders
 abbrev pub LeavesOf : Side → Side → Folder → Type 0

@@ -8,9 +8,8 @@ use Rattle.st_disk.specs.declared.changes.Change.TheVariants.{Remove}
 use Rattle.st_disk.specs.declared.changes.Call.{Call}
 use Rattle.st_disk.specs.declared.changes.Call.TheVariants.{Did, Flush, Other}
 use Rattle.st_disk.specs.Folders.{Folder, apply, where_there}
-use Rattle.st_disk.specs.Disks.{Log, reads, Leaves, and_then, moment, Since}
-use Rattle.st_disk.specs.Calls.{Adds, Looks, Does, removal, Abandons}
-use Rattle.st_disk.specs.Books.{log_of}
+use Rattle.st_disk.specs.Disks.{Log, reads, Leaves, and_then, moment, Since, log_of}
+use Rattle.st_disk.specs.LoggedCalls.{Adds, Looks, Does, removal, Abandons}
 use Rattle.st_disk.specs.Runs.{Each, LeavesOnly}
 use Rattle.st_disk.proofs.Images.{leaves_did, leaves_flush, leaves_other}
 use Rattle.st_disk.proofs.Moments.{since_then}
@@ -38,26 +37,26 @@ weaken old new P S gives only = record {
   before = λ t c le s. ⊎_elim (λ was. inl was) (λ has. inr (gives c has)) (only.before t c le s);
 }
 
--- what a call adds to a log that is told
-pub adds_told : (old new : Option Log) (log : Log) (call : Call) → old ≡ Some log → Adds old new call → new ≡ Some (and_then log call)
-adds_told old new log call told adds = subst (λ (o : Option Log). Adds o new call) told adds
+-- what a call adds to a log that is known
+pub adds_known : (old new : Option Log) (log : Log) (call : Call) → old ≡ Some log → Adds old new call → new ≡ Some (and_then log call)
+adds_known old new log call known adds = subst (λ (o : Option Log). Adds o new call) known adds
 
--- a log that is told now was told before
-pub told_before : (old new : Option Log) (call : Call) (now : Log) → new ≡ Some now → Adds old new call → (log : Log) × (old ≡ Some log) × (now ≡ and_then log call)
-told_before None new call now told adds = absurd (cc)
-told_before (Some log) new call now told adds = (log, refl, cc)
+-- a log that is known now was known before
+pub known_before : (old new : Option Log) (call : Call) (now : Log) → new ≡ Some now → Adds old new call → (log : Log) × (old ≡ Some log) × (now ≡ and_then log call)
+known_before None new call now known adds = absurd (cc)
+known_before (Some log) new call now known adds = (log, refl, cc)
 
 -- P is so at each moment of the run, and Q of each image now
 module _ (first : Log) (P Q : Folder → Type 0) (gives : (c : Folder) → Q c → P c) where
   abbrev pub Run : Option Log → Type 0
-  Run told = (log : Log) × (told ≡ Some log) × LeavesOnly first log P × Each log Q
+  Run known = (log : Log) × (known ≡ Some log) × LeavesOnly first log P × Each log Q
 
-  pub run_start : (told : Option Log) → told ≡ Some first → Each first Q → Run told
-  run_start told is each = (first, is, started first P (λ c h. gives c (each c h)), each)
+  pub run_start : (known : Option Log) → known ≡ Some first → Each first Q → Run known
+  run_start known is each = (first, is, started first P (λ c h. gives c (each c h)), each)
 
   pub run_adds : (old new : Option Log) (call : Call) → ((log : Log) → Each log Q → Each (and_then log call) Q) → Run old → Adds old new call → Run new
   run_adds old new call keeps run adds =
-      let each = keeps run.0 run.3 in (and_then run.0 call, adds_told old new run.0 call run.1 adds, goes_on first run.0 call P run.2 (λ c h. gives c (each c h)), each)
+      let each = keeps run.0 run.3 in (and_then run.0 call, adds_known old new run.0 call run.1 adds, goes_on first run.0 call P run.2 (λ c h. gives c (each c h)), each)
 
   each_other : (log : Log) → Each log Q → Each (and_then log Other) Q
   each_other log each c h = each c (leaves_other log c h)
