@@ -58,11 +58,18 @@ Gives bytes rs new left (Ok None) = Input bytes rs Whole × ((rest : List ℕ) �
 Gives bytes rs new left (Ok (Some r)) = (rest : List ℕ) × (left ≡ Some rest) × HasRead new bytes (rs ++ r ∷ []) rest
 Gives bytes rs new left (Err e) = IsOutside e ⊎ Input bytes rs (Refused e)
 
--- The count never falls, and a read fault comes only if it rose, or if the reader had stopped at
--- one.
-pub record HasReadCause (before now : ℕ) (old : PcapReaderView) (result : Result (Option Rec) PcapErr) : Type 0 where
+-- the count never falls, a read fault comes only if it rose, and no other result changes it
+pub record HasFaultCause {T : Type 0} (before now : ℕ) (result : Result T PcapErr) : Type 0 where
   pub later : before ≤ now
-  pub fault : result ≡ Err ReadFault → Rose before now ⊎ (old.phase ≡ Stopped ReadFault)
+  pub still : (result ≡ Err ReadFault → ⊥) → now ≡ before
+  pub fault : result ≡ Err ReadFault → Rose before now
+
+-- a reader in this phase says that too, but where it had stopped at a read fault it answers that
+-- again without a rise
+pub record HasReadCause {T : Type 0} (before now : ℕ) (phase : Phase) (result : Result T PcapErr) : Type 0 where
+  pub later : before ≤ now
+  pub still : (result ≡ Err ReadFault → ⊥) → now ≡ before
+  pub fault : result ≡ Err ReadFault → Rose before now ⊎ (phase ≡ Stopped ReadFault)
 
 -- How much a call took: what its result says, and where the source's bytes are known, as many of
 -- the first of them; never less than before, the size of a head at least for a record, and no more
@@ -95,5 +102,5 @@ pub record ReadsNext {S B : Type 0} (left : S → Option (List ℕ)) (faults : S
   pub takes : Takes old.phase old.taken new.taken result
   pub limit : KeepsLimit before now old new result
   -- what the source's faults say, and what else of the source stays
-  pub cause : HasReadCause (faults before) (faults now) old result
+  pub cause : HasReadCause (faults before) (faults now) old.phase result
   pub rest : beside now ≡ beside before

@@ -1,6 +1,6 @@
 ghost use Rattle.std.specs.Prelude.{Option, ◌≡◌, ◌+◌, ◌^◌, ◌<◌, ◌≤◌, List, ℕ, length, take, MatchResult, OnOk, IfOk, IfErr};
 ghost use Rattle.std.specs.Io.KnownBytes.{Consumes, IsAtEnd};
-ghost use Rattle.st_base.specs.Faults.{HasCause, Rose};
+ghost use Rattle.st_base.specs.Faults.{HasCause};
 ghost use Rattle.st_pcap.specs.Taking.{Took};
 
 use crate::errors::PcapErr;
@@ -37,12 +37,11 @@ pub fn take_bytes<S: Source>(
     ensures came { IfOk result (λ n. (n ≤ length out.new) × (taken.new ≡ taken.old + n)
         × Consumes (S.left source.old) (S.left source.new) (take n out.new)
         × (n < length out.new → IsAtEnd (S.left source.new))) }
-    ensures fault { IfErr result (λ e. (e ≡ PcapErr.ReadFault)
-        × Rose (S.faults source.old) (S.faults source.new)) }
+    ensures fault { IfErr result (λ e. e ≡ PcapErr.ReadFault) }
+    ensures cause { HasCause (S.faults source.old) (S.faults source.new) result }
     ensures taken { Took (S.left source.old) (S.left source.new) taken.old taken.new }
     ensures bound { taken.new ≤ taken.old + length out.old }
     ensures grows { taken.old ≤ taken.new }
-    ensures later { S.faults source.old ≤ S.faults source.new }
     ensures rest { S.beside source.new ≡ S.beside source.old }
 {
     let (have, end) = fill(source, out);

@@ -1,5 +1,4 @@
 ghost use Rattle.std.specs.Prelude.{◌≡◌, ◌+◌, ◌≤◌, ◌⊎◌, ℕ, List, Some, Err, Result, OnOk, IfOk, IfErr, OnSome};
-ghost use Rattle.st_base.specs.Faults.{Rose};
 ghost use Rattle.st_base.specs.Records.{Rec};
 
 use crate::errors::PcapErr;
@@ -40,7 +39,7 @@ impl Model for PcapReader {
 }
 
 impl PcapReader {
-    ghost use Rattle.st_pcap.specs.Reading.{fresh, HasRead, ReadsNext};
+    ghost use Rattle.st_pcap.specs.Reading.{fresh, HasRead, ReadsNext, HasReadCause};
     ghost use Rattle.st_pcap.specs.Input.{Input, Refused};
     ghost use Rattle.st_pcap.specs.Opening.{Opens, KeepsOpening, OpensOnce, CountsHead};
 
@@ -118,10 +117,7 @@ impl PcapReader {
         ensures count { CountsHead (S.left source.old) (S.left source.new) self.old self.new result }
 
         // What the source's faults say, and what else of the source stays.
-        ensures fault { result ≡ Err PcapErr.ReadFault
-            → Rose (S.faults source.old) (S.faults source.new)
-            ⊎ (self.old.phase ≡ Phase.Stopped PcapErr.ReadFault) }
-        ensures later { S.faults source.old ≤ S.faults source.new }
+        ensures cause { HasReadCause (S.faults source.old) (S.faults source.new) self.old.phase result }
         ensures rest { S.beside source.new ≡ S.beside source.old }
     {
         match self.phase {
