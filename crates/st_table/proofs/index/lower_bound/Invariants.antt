@@ -1,6 +1,6 @@
 use Rattle.std.proofs.Common.{◌-◌}
 use Rattle.st_table.proofs.Finding.{Half}
-use Rattle.st_table.proofs.index.position.Given as goal
+use Rattle.st_table.proofs.index.lower_bound.Given as goal
 
 abbrev pub invariant-halves : goal.invariant-halves
 invariant-halves l = Half l.key l.entries l.low l.high

@@ -1,8 +1,8 @@
 use Rattle.std.proofs.Common.{◌≡◌, ℕ, ◌-◌, suc, ◌+◌, ◌<◌, arith, ap, ◌∙◌, sym}
 use Rattle.std.specs.Prelude.{bit_xor}
 use Rattle.st_crc.specs.Sum.{bits_out, bit_out}
-use Rattle.st_crc.proofs.Eights.{behind_is, bits_one, no_bits}
-use Rattle.st_crc.proofs.plain.behind.Goals as goal
+use Rattle.st_crc.proofs.Eights.{over_byte_is, bits_one, no_bits}
+use Rattle.st_crc.proofs.plain.after_byte.Goals as goal
 
 -- the bit that goes in this turn
 turn : (i x y : ℕ) → i < 8 → bits_out (8 - i) x ≡ y → bits_out (8 - (i + 1)) (bit_out x) ≡ y
@@ -23,4 +23,4 @@ returns c =
     sym (no_bits c.bits.shifted)
     ∙ ap (λ (k : ℕ). bits_out k c.bits.shifted) (sym done)
     ∙ c.bits.invariant
-    ∙ sym (behind_is c.args.remainder c.args.byte)
+    ∙ sym (over_byte_is c.args.remainder c.args.byte)
