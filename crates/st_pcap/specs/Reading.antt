@@ -7,25 +7,25 @@ use Rattle.st_pcap.specs.declared.errors.PcapErr.TheVariants.{ReadFault, NoMemor
 use Rattle.st_pcap.specs.declared.forms.Form.{Form}
 use Rattle.st_pcap.specs.declared.reader.Phase.{Phase}
 use Rattle.st_pcap.specs.declared.reader.Phase.TheVariants.{Fresh, Open, Stopped}
-use Rattle.st_pcap.specs.declared.forms.TheConstants.{MAX_BODY, MAX_INPUT}
+use Rattle.st_pcap.specs.declared.numbers.TheConstants.{FILE_HEAD_SIZE, RECORD_HEAD_SIZE, MAX_BODY, MAX_INPUT}
 use Rattle.st_pcap.specs.Heads.{IsFileHead}
 use Rattle.st_pcap.specs.Input.{Records, AllBegin, Whole, Refused, Input}
 
 -- what a reader has come to, the bytes that it took and the records that it gave
-pub record Progress : Type 0 where
+pub record PcapReaderView : Type 0 where
   pub phase : Phase
   pub taken : ℕ
   pub number : ℕ
 
 -- a reader that took nothing yet
-abbrev pub fresh : Progress
+abbrev pub fresh : PcapReaderView
 fresh = record { phase = Fresh; taken = 0; number = 0 }
 
 -- a reader takes no more than the last record that may begin, and 16 bytes at least for each that
 -- it gave
-pub record IsInBounds (p : Progress) : Type 0 where
-  pub taken : p.taken ≤ MAX_INPUT + 16 + MAX_BODY
-  pub number : 16 * p.number ≤ p.taken
+pub record IsInBounds (p : PcapReaderView) : Type 0 where
+  pub taken : p.taken ≤ MAX_INPUT + RECORD_HEAD_SIZE + MAX_BODY
+  pub number : RECORD_HEAD_SIZE * p.number ≤ p.taken
   pub fresh : p.phase ≡ Fresh → p.taken ≡ 0
 
 -- causes that lie outside the bytes
@@ -40,21 +40,21 @@ IsGoing (Stopped e) = ⊥
 
 -- Of these bytes a reader in this phase, which took so many and gave so many records, gave these
 -- records, and the rest is to come.
-abbrev pub StandsIn : Phase → ℕ → ℕ → List ℕ → List Rec → List ℕ → Type 0
-StandsIn Fresh taken number bytes rs rest = (rs ≡ []) × (bytes ≡ rest) × (taken ≡ 0) × (number ≡ 0)
-StandsIn (Open form) taken number bytes rs rest =
+abbrev pub HasReadIn : Phase → ℕ → ℕ → List ℕ → List Rec → List ℕ → Type 0
+HasReadIn Fresh taken number bytes rs rest = (rs ≡ []) × (bytes ≡ rest) × (taken ≡ 0) × (number ≡ 0)
+HasReadIn (Open form) taken number bytes rs rest =
     (head : List ℕ) × (text : List ℕ) × (bytes ≡ head ++ text) × IsFileHead form.order form.unit head
-    × Records form.order form.unit text rs rest × AllBegin 24 rs × (number ≡ length rs) × (taken + length rest ≡ length bytes)
-StandsIn (Stopped e) taken number bytes rs rest = IsOutside e ⊎ Input bytes rs (Refused e)
+    × Records form.order form.unit text rs rest × AllBegin FILE_HEAD_SIZE rs × (number ≡ length rs) × (taken + length rest ≡ length bytes)
+HasReadIn (Stopped e) taken number bytes rs rest = IsOutside e ⊎ Input bytes rs (Refused e)
 
-abbrev pub Stands : Progress → List ℕ → List Rec → List ℕ → Type 0
-Stands p bytes rs rest = StandsIn p.phase p.taken p.number bytes rs rest
+abbrev pub HasRead : PcapReaderView → List ℕ → List Rec → List ℕ → Type 0
+HasRead p bytes rs rest = HasReadIn p.phase p.taken p.number bytes rs rest
 
 -- What a call gives to a reader that gave these records of the bytes: the next record, the whole
 -- end, or the refusal of the bytes, where nothing outside failed. `left` is what is to come.
-abbrev pub Gives : List ℕ → List Rec → Progress → Option (List ℕ) → Result (Option Rec) PcapErr → Type 0
-Gives bytes rs new left (Ok None) = Input bytes rs Whole × ((rest : List ℕ) × (left ≡ Some rest) × Stands new bytes rs rest)
-Gives bytes rs new left (Ok (Some r)) = (rest : List ℕ) × (left ≡ Some rest) × Stands new bytes (rs ++ r ∷ []) rest
+abbrev pub Gives : List ℕ → List Rec → PcapReaderView → Option (List ℕ) → Result (Option Rec) PcapErr → Type 0
+Gives bytes rs new left (Ok None) = Input bytes rs Whole × ((rest : List ℕ) × (left ≡ Some rest) × HasRead new bytes rs rest)
+Gives bytes rs new left (Ok (Some r)) = (rest : List ℕ) × (left ≡ Some rest) × HasRead new bytes (rs ++ r ∷ []) rest
 Gives bytes rs new left (Err e) = IsOutside e ⊎ Input bytes rs (Refused e)
 
 -- where the source tells its bytes, as many were taken as it lost
@@ -65,7 +65,7 @@ Took (Some xs) (Some ys) before now = before + length xs ≡ now + length ys
 
 -- the count never falls, and a read fault comes only where it rose, or where the reader had
 -- stopped at one
-pub record HasReadCause (before now : ℕ) (old : Progress) (result : Result (Option Rec) PcapErr) : Type 0 where
+pub record HasReadCause (before now : ℕ) (old : PcapReaderView) (result : Result (Option Rec) PcapErr) : Type 0 where
   pub later : before ≤ now
   pub fault : result ≡ Err ReadFault → Rose before now ⊎ (old.phase ≡ Stopped ReadFault)
 
@@ -74,12 +74,12 @@ pub record HasReadCause (before now : ℕ) (old : Progress) (result : Result (Op
 pub record Counts (left still : Option (List ℕ)) (before now : ℕ) (result : Result (Option Rec) PcapErr) : Type 0 where
   pub taken : Took left still before now
   pub later : before ≤ now
-  pub grows : IfOk result (λ o. OnSome o (before + 16 ≤ now))
-  pub bound : now ≤ MAX_INPUT + 16 + MAX_BODY
+  pub grows : IfOk result (λ o. OnSome o (before + RECORD_HEAD_SIZE ≤ now))
+  pub bound : now ≤ MAX_INPUT + RECORD_HEAD_SIZE + MAX_BODY
 
 -- An open reader that took the most that is read of an input answers so, takes nothing and leaves
 -- its source as it was. So it answers only there, or where it had stopped at that.
-pub record KeepsLimit {S : Type 0} (before now : S) (old new : Progress) (result : Result (Option Rec) PcapErr) : Type 0 where
+pub record KeepsLimit {S : Type 0} (before now : S) (old new : PcapReaderView) (result : Result (Option Rec) PcapErr) : Type 0 where
   pub much : (form : Form) → old.phase ≡ Open form → MAX_INPUT ≤ old.taken
       → (result ≡ Err (TooMuch old.taken)) × (new.taken ≡ old.taken) × (now ≡ before)
   pub much_only : (n : ℕ) → result ≡ Err (TooMuch n)

@@ -3,7 +3,7 @@ ghost use Rattle.st_base.specs.Faults.{Rose};
 ghost use Rattle.st_base.specs.Records.{Rec};
 
 use crate::errors::PcapErr;
-use crate::forms::{Form, MAX_BODY, MAX_INPUT};
+use crate::forms::Form;
 use crate::records::{read_form, read_record};
 use st_base::{Record, Source};
 use std::alloc::Global;
@@ -20,7 +20,7 @@ pub enum Phase {
 /// Reads a pcap file from a source that is passed to each call, record by record. It keeps no bytes.
 ///
 /// A contract sees its phase, `taken` and the number of the records that it gave; which records
-/// these are, of which bytes, is said by `Stands` of `specs/Reading.antt`.
+/// these are, of which bytes, is said by `HasRead` of `specs/Reading.antt`.
 /// Source: docs/FORMAT.md, "pcap".
 #[derive(Drop)]
 pub struct PcapReader {
@@ -30,9 +30,9 @@ pub struct PcapReader {
 }
 
 impl Model for PcapReader {
-    ghost use Rattle.st_pcap.specs.Reading.{Progress, IsInBounds};
+    ghost use Rattle.st_pcap.specs.Reading.{PcapReaderView, IsInBounds};
 
-    ghost Value = { Progress };
+    ghost Value = { PcapReaderView };
 
     ghost view = { λ a. record { phase = a.phase; taken = a.taken; number = a.number } };
 
@@ -40,7 +40,7 @@ impl Model for PcapReader {
 }
 
 impl PcapReader {
-    ghost use Rattle.st_pcap.specs.Reading.{fresh, Stands, Gives, Counts, KeepsLimit, HasReadCause, IsGoing};
+    ghost use Rattle.st_pcap.specs.Reading.{fresh, HasRead, Gives, Counts, KeepsLimit, HasReadCause, IsGoing};
     ghost use Rattle.st_pcap.specs.Input.{Input, Refused};
     ghost use Rattle.st_pcap.specs.Opening.{Opens, KeepsOpening, OpensOnce, CountsHead};
 
@@ -78,7 +78,7 @@ impl PcapReader {
     ) -> Result<Option<Record>, PcapErr>
         // What it answers, where the source tells its bytes, and what it has come to then.
         ensures gives { (bytes rest : List ℕ) (rs : List Rec) → S.left source.old ≡ Some rest
-            → Stands self.old bytes rs rest
+            → HasRead self.old bytes rs rest
             → Gives bytes rs self.new (S.left source.new) result }
         ensures goes { OnOk result (IsGoing self.new.phase) }
         ensures stops { IfErr result (λ e. self.new.phase ≡ Phase.Stopped e) }
@@ -105,7 +105,7 @@ impl PcapReader {
     ) -> Result<Option<Record>, PcapErr>
         // What it answers, where the source tells its bytes, and what it has come to then.
         ensures gives { (bytes rest : List ℕ) (rs : List Rec) → S.left source.old ≡ Some rest
-            → Stands self.old bytes rs rest
+            → HasRead self.old bytes rs rest
             → Gives bytes rs self.new (S.left source.new) result }
         ensures goes { OnOk result (IsGoing self.new.phase) }
         ensures stops { IfErr result (λ e. self.new.phase ≡ Phase.Stopped e) }
@@ -141,7 +141,7 @@ impl PcapReader {
     fn open<S: Source>(&mut self, source: &mut S) -> Result<Form, PcapErr>
         // Where it stands then, or why it has stopped.
         ensures opens { (bytes rest : List ℕ) (rs : List Rec) → S.left source.old ≡ Some rest
-            → Stands self.old bytes rs rest
+            → HasRead self.old bytes rs rest
             → Opens bytes rs self.new (S.left source.new) result }
         ensures phase { KeepsOpening self.new result }
         ensures once { OpensOnce source.old source.new self.old self.new result }

@@ -5,8 +5,8 @@ use Rattle.st_block.proofs.record.record_body_at.Goals as goal
 
 pub returns-in-Some-clause-whole : goal.returns-in-Some-clause-whole
 returns-in-Some-clause-whole g c =
-    body_found _ (g.R.Reader.extent c.args.file.now) c.args.position c.args.head.now.len (Err (block_err.Damaged c.in-Some.damage)) (g.met.R.Reader.told c.args.file.now) (search rules)
+    body_found _ (g.R.Reader.extent c.args.file.now) c.args.position c.args.head.now.len (Err (block_err.Damaged c.in-Some.damage)) (g.met.R.Reader.sized c.args.file.now) (search rules)
 
 pub returns-in-None-clause-whole : goal.returns-in-None-clause-whole
 returns-in-None-clause-whole g c =
-    body_found _ (g.R.Reader.extent c.args.file.now) c.args.position c.args.head.now.len c.read_body.result (g.met.R.Reader.told c.args.file.now) c.read_body.ensures.gives
+    body_found _ (g.R.Reader.extent c.args.file.now) c.args.position c.args.head.now.len c.read_body.result (g.met.R.Reader.sized c.args.file.now) c.read_body.ensures.gives

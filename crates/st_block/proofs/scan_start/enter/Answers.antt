@@ -4,12 +4,12 @@ use Rattle.st_block.proofs.scan_start.enter.Goals as goal
 
 pub returns-then-extent-lt8-clause-enters : goal.returns-then-extent-lt8-clause-enters
 returns-then-extent-lt8-clause-enters g c = λ bytes told.
-    let len = g.met.R.Reader.told c.args.file.now bytes told ∙ sym c.size-extent.ensures in
+    let len = g.met.R.Reader.sized c.args.file.now bytes told ∙ sym c.size-extent.ensures in
     enters_short bytes c.size-extent.result len c.if-extent-lt8.true
 
 pub returns-in-Ok-clause-enters : goal.returns-in-Ok-clause-enters
 returns-in-Ok-clause-enters g c = λ bytes told.
-    let len = g.met.R.Reader.told c.args.file.now bytes told ∙ sym c.size-extent.ensures in
+    let len = g.met.R.Reader.sized c.args.file.now bytes told ∙ sym c.size-extent.ensures in
     let part = c.in-Ok.ensures.bytes bytes told in
     let eight : length c.read_whole.new.out ≡ 8 = omega arith in
     enters bytes c.read_whole.new.out c.size-extent.result c.start.result (part ∙ ap (λ (n : ℕ). take n bytes) eight) len c.start.ensures.starts
