@@ -24,6 +24,11 @@ abbrev pub where_there : {A : Type 0} → Option (List ℕ) → (List ℕ → A)
 where_there None there missing = missing
 where_there (Some bytes) there missing = there bytes
 
+-- bytes that are known, else none
+abbrev pub given : Option (List ℕ) → List ℕ
+given None = []
+given (Some bytes) = bytes
+
 -- the folder after one change; a rename of what isn't there is skipped
 abbrev pub apply : Change → Folder → Folder
 apply (Make k d) f = with_file f (Draft k d) (Some [])

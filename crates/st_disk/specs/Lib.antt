@@ -2,6 +2,7 @@ pub mod Names
 pub mod Folders
 pub mod Disks
 pub mod Pairs
+pub mod Events
 pub mod LoggedCalls
 pub mod Runs
 pub mod Book

@@ -5,6 +5,7 @@ pub use Rattle.st_disk.specs.Names
 pub use Rattle.st_disk.specs.Folders
 pub use Rattle.st_disk.specs.Disks
 pub use Rattle.st_disk.specs.Pairs
+pub use Rattle.st_disk.specs.Events
 pub use Rattle.st_disk.specs.LoggedCalls
 pub use Rattle.st_disk.specs.Runs
 pub use Rattle.st_disk.specs.Crashes
