@@ -41,6 +41,7 @@ goes_waiting p bytes given on none =
       last = on.last;
       text = on.text;
       range = on.range;
+      of_bytes = on.of_bytes;
       short = on.short;
       stand = subst (λ (n : ℕ). SoundRecordsFit n (rest_of_block (without_block p))) (sym none) tt;
       records = on.records ∙ ap (λ (rs : List Rec). records_in given ++ rs) here;

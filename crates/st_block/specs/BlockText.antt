@@ -106,6 +106,10 @@ BlockText size rs = blocks_text size 0 (blocks size rs)
 abbrev pub IsShort : ℕ → Rec → Type 0
 IsShort size r = length r.body + (BLOCK_HEAD + RECORD_HEAD) ≤ size
 
+-- a record whose body is of bytes
+abbrev pub HasBytes : Rec → Type 0
+HasBytes r = All (λ b. b < 256) r.body
+
 -- no record has room after these, of those that the blocks to come begin with
 abbrev pub NoRoom : ℕ → List Rec → List (List Rec) → Type 0
 NoRoom size here [] = Unit {0}
@@ -118,11 +122,12 @@ abbrev pub AreFilled : ℕ → List (List Rec) → Type 0
 AreFilled size [] = Unit {0}
 AreFilled size (b ∷ bs) = (1 ≤ length b) × (used_bytes b ≤ size) × NoRoom size b bs × AreFilled size bs
 
--- A file can be made of these records: at least one, each in range and short enough for a block, and
--- no more than fill 4,095 blocks.
+-- A file can be made of these records: at least one, each in range, of bytes and short enough for a
+-- block, and no more than fill 4,095 blocks.
 pub record HasFile (size : ℕ) (rs : List Rec) : Type 0 where
   pub block_size : IsBlockSize size
   pub some : 1 ≤ length rs
   pub range : All InRange rs
+  pub of_bytes : All HasBytes rs
   pub short : All (IsShort size) rs
   pub blocks : length (blocks size rs) ≤ MAX_BLOCKS

@@ -7,7 +7,7 @@ use Rattle.st_base.specs.Records.{Rec, InRange}
 use Rattle.st_base.specs.PlacedReads.{HasPart}
 use Rattle.st_base.specs.Damages.{DamageView, damage_view}
 use Rattle.st_block.specs.Fields.{not_same, above}
-use Rattle.st_block.specs.BlockText.{HasFile, BlockText}
+use Rattle.st_block.specs.BlockText.{HasBytes, HasFile, BlockText}
 use Rattle.st_block.specs.Position.{PositionOf}
 use Rattle.st_block.specs.declared.format.TheConstants.{MAX_NSEC, RECORD_HEAD, SEC_AT, NSEC_AT, LEN_AT, ORIG_AT, RECORD_STATUS_AT, BODY_AT, BODY_AGAIN_AT, RECORD_STATUS}
 use Rattle.st_block.specs.declared.record.Head.{Head}
@@ -107,9 +107,11 @@ GivesBodyOf r (Err block_err.NoMemory) = Unit {0}
 abbrev pub head_of : Rec → Head
 head_of r = record { sec = r.sec; nsec = r.nsec; len = length r.body; orig = r.orig }
 
--- the head and the body of a record in range lie at this position of some bytes
+-- the head and the body of a record, which is in range and of bytes, lie at this position of some
+-- bytes
 pub record HasRecordAt (bytes : List ℕ) (position : ℕ) (r : Rec) : Type 0 where
   pub inside : position + RECORD_HEAD + length r.body ≤ length bytes
   pub range : InRange r
+  pub of_bytes : HasBytes r
   pub head : IsHead (take RECORD_HEAD (drop position bytes)) (head_of r)
   pub body : take (length r.body) (drop (position + RECORD_HEAD) bytes) ≡ r.body

@@ -1,14 +1,14 @@
 -- What a scan stands for: the file's bytes, and the records that it gave.
-use Rattle.std.specs.Prelude.{◌≡◌, ℕ, ◌+◌, ◌-◌, ◌*◌, ◌/◌, ◌^◌, ◌≤◌, List, [], ◌∷◌, ◌++◌, length, take, drop, map, All, Option, None, Some, Result, Ok, Err}
+use Rattle.std.specs.Prelude.{◌≡◌, ℕ, ◌+◌, ◌-◌, ◌*◌, ◌/◌, ◌^◌, ◌≤◌, List, [], ◌∷◌, ◌++◌, length, take, drop, map, All, Option, None, Some, Result, Ok, Err, nat_lt, if◌then◌else◌}
 use Rattle.std.specs.List.{flat_map}
 use Rattle.st_base.specs.Records.{Rec, InRange}
 use Rattle.st_base.specs.Damages.{damage_view}
-use Rattle.st_block.specs.BlockText.{IsBlockSize, IsShort, HasFile, AreFilled, BlockText, blocks_text, used_bytes, room}
+use Rattle.st_block.specs.BlockText.{IsBlockSize, IsShort, HasBytes, HasFile, AreFilled, BlockText, blocks_text, used_bytes, room}
 use Rattle.st_block.specs.Position.{positions_from, positions_in_blocks, positions}
 use Rattle.st_block.specs.Checks.{record_at, records_at, blocks_wrong, size_in, start_wrong, file_wrong}
 use Rattle.st_block.specs.Layout.{SoundRecordsFit}
 use Rattle.st_block.specs.ScanView.{ScanView, start_view, rest_of_block, reached_offset, after_record}
-use Rattle.st_block.specs.declared.format.TheConstants.{MAX_BLOCKS, BLOCK_HEAD}
+use Rattle.st_block.specs.declared.format.TheConstants.{MAX_BLOCKS, START, BLOCK_HEAD}
 use Rattle.st_base.specs.declared.damages.Damage.{Damage}
 use Rattle.st_block.specs.declared.errors.HeadErr.{HeadErr}
 use Rattle.st_block.specs.declared.errors.HeadErr.TheVariants as head_err
@@ -55,6 +55,7 @@ pub record GoesOn (p : ScanView) (bytes : List ℕ) (given : List PositionedReco
   pub last : last_used read ≡ p.before
   pub text : blocks_text p.size 0 read ≡ take (p.size * p.done) bytes
   pub range : All InRange (flat_map (λ b. b) read)
+  pub of_bytes : All HasBytes (flat_map (λ b. b) read)
   pub short : All (IsShort p.size) (flat_map (λ b. b) read)
   pub stand : SoundRecordsFit p.left (rest_of_block p)
   pub records : flat_map (λ b. b) read ≡ records_in given ++ records_at p.left (rest_of_block p)
@@ -91,6 +92,16 @@ PassesRecord old new (Err block_err.NoMemory) = new ≡ old
 -- is at the end of its padded body, which is a 32-bit offset or one past the last
 abbrev pub Follows : ScanView → ScanView → PositionedRecord → Type 0
 Follows old new x = (reached_offset old ≤ x.0) × (BLOCK_HEAD ≤ x.0) × (x.0 + room x.1 ≡ reached_offset new) × (reached_offset new ≤ 2 ^ 32)
+
+-- After damage the scan has stopped; from then on it answers the same, and leaves itself and the
+-- file as they were.
+pub record StaysStopped {F T : Type 0} (old new : ScanView) (file_before file_now : F) (result : Result T BlockErr) : Type 0 where
+  pub stops : (d : Damage) → result ≡ Err (block_err.Damaged d) → new.stopped ≡ Some d
+  pub again : (d : Damage) → old.stopped ≡ Some d → (result ≡ Err (block_err.Damaged d)) × (new ≡ old) × (file_now ≡ file_before)
+
+-- how many reads entering a file of this length takes: one, where it has a beginning
+abbrev pub start_reads : ℕ → ℕ
+start_reads extent = if nat_lt extent START then 0 else 1
 
 -- what entering a file gives: the scan then stands for no records yet; or the first check that fails
 abbrev pub Enters : {T : Type 0} → List ℕ → ScanView → Result T HeadErr → Type 0

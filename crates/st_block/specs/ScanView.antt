@@ -1,5 +1,6 @@
 -- What a scan has come to, and how its steps change that.
-use Rattle.std.specs.Prelude.{◌≡◌, ℕ, ◌+◌, ◌-◌, ◌*◌, ◌%◌, ◌≤◌, List, [], length, drop, Option, None, Some, Result, Ok, Err}
+use Rattle.std.specs.Prelude.{◌≡◌, ℕ, ◌+◌, ◌-◌, ◌*◌, ◌%◌, ◌≤◌, ◌<◌, List, [], length, drop, Option, None, Some, Result, Ok, Err, OnOk}
+use Rattle.st_base.specs.Faults.{CountsOn}
 use Rattle.st_base.specs.PlacedReads.{HasPart}
 use Rattle.st_base.specs.Damages.{damage_view}
 use Rattle.st_block.specs.BlockText.{IsBlockSize, used_bytes}
@@ -77,6 +78,23 @@ LoadsBlock old content new (Err (block_err.Damaged d)) =
     (block : List ℕ) × IsNextBlock old content block × (block_wrong old.size old.done old.before block ≡ Some (damage_view d)) × (new.stopped ≡ Some d)
 LoadsBlock old content new (Err block_err.ReadFault) = new ≡ without_block old
 LoadsBlock old content new (Err block_err.NoMemory) = new ≡ without_block old
+
+-- how many reads a call took that wanted to read a block: one, where there was memory for it
+abbrev pub load_reads : {T : Type 0} → Result T BlockErr → ℕ
+load_reads (Ok x) = 1
+load_reads (Err (block_err.Damaged d)) = 1
+load_reads (Err block_err.ReadFault) = 1
+load_reads (Err block_err.NoMemory) = 0
+
+-- A call reads the next block at most, once, and only where no record of the block at hand is left;
+-- where it succeeds, that block counts as done, and so no block is read again.
+pub record ReadsOnce {T : Type 0} (old new : ScanView) (result : Result T BlockErr) (reads_before reads_now asked_before asked_now : ℕ) : Type 0 where
+  pub times : ℕ
+  pub once : times ≤ 1
+  pub needed : 1 ≤ times → (old.left ≡ 0) × (old.done < old.blocks)
+  pub reads : CountsOn reads_before reads_now times
+  pub asked : CountsOn asked_before asked_now (old.size * times)
+  pub done : OnOk result (new.done ≡ old.done + times)
 
 -- causes that lie outside the bytes
 abbrev pub IsNotDamage : BlockErr → Type 0
