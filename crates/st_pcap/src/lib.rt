@@ -16,7 +16,8 @@
 //!   reads nothing. `next_into` is the same over memory that the caller gives.
 //! - All bytes are an input of exactly one list of records and one end (`laws::some_reading`,
 //!   `laws::one_reading`).
-//! - `file_head` and `record_head` are the heads of a pcap text, `put_header` and `put_record`
+//! - `file_head` and `record_head` are the heads of a pcap text; `append_record` appends a record to
+//!   bytes in memory, or leaves them as they were; `put_header` and `put_record`
 //!   append its parts, or leave a front of them where the sink's count of faults rose.
 //! - The text of records reads back as the same records, their times cut to the unit
 //!   (`laws::reads_back`, `laws::is_whole_input`); the pieces joined are the text
@@ -35,11 +36,12 @@
 #![tactic(auto)]
 
 mod checks;
-mod entries;
 mod errors;
 mod fill;
 mod forms;
+mod head_fields;
 pub mod laws;
+mod numbers;
 mod reader;
 mod records;
 #[cfg(test)]
@@ -49,4 +51,4 @@ mod writer;
 pub use errors::PcapErr;
 pub use forms::Unit;
 pub use reader::PcapReader;
-pub use writer::{file_head, put_header, put_record, record_head};
+pub use writer::{append_record, file_head, put_header, put_record, record_head};

@@ -1,9 +1,8 @@
 ghost use Rattle.std.specs.Prelude.{◌≡◌, ◌+◌, ◌≤◌, ◌⊎◌, ℕ, List, Some, Err, Result, OnOk, IfOk, IfErr, OnSome};
-ghost use Rattle.st_base.specs.Faults.{Rose};
 ghost use Rattle.st_base.specs.Records.{Rec};
 
 use crate::errors::PcapErr;
-use crate::forms::{Form, MAX_BODY, MAX_INPUT};
+use crate::forms::Form;
 use crate::records::{read_form, read_record};
 use st_base::{Record, Source};
 use std::alloc::Global;
@@ -20,7 +19,7 @@ pub enum Phase {
 /// Reads a pcap file from a source that is passed to each call, record by record. It keeps no bytes.
 ///
 /// A contract sees its phase, `taken` and the number of the records that it gave; which records
-/// these are, of which bytes, is said by `Stands` of `specs/Reading.antt`.
+/// these are, of which bytes, is said by `HasRead` of `specs/Reading.antt`.
 /// Source: docs/FORMAT.md, "pcap".
 #[derive(Drop)]
 pub struct PcapReader {
@@ -30,9 +29,9 @@ pub struct PcapReader {
 }
 
 impl Model for PcapReader {
-    ghost use Rattle.st_pcap.specs.Reading.{Progress, IsInBounds};
+    ghost use Rattle.st_pcap.specs.Reading.{PcapReaderView, IsInBounds};
 
-    ghost Value = { Progress };
+    ghost Value = { PcapReaderView };
 
     ghost view = { λ a. record { phase = a.phase; taken = a.taken; number = a.number } };
 
@@ -40,7 +39,7 @@ impl Model for PcapReader {
 }
 
 impl PcapReader {
-    ghost use Rattle.st_pcap.specs.Reading.{fresh, Stands, Gives, Counts, KeepsLimit, HasReadCause, IsGoing};
+    ghost use Rattle.st_pcap.specs.Reading.{fresh, HasRead, ReadsNext, HasReadCause};
     ghost use Rattle.st_pcap.specs.Input.{Input, Refused};
     ghost use Rattle.st_pcap.specs.Opening.{Opens, KeepsOpening, OpensOnce, CountsHead};
 
@@ -76,22 +75,7 @@ impl PcapReader {
         alloc: Global,
         source: &mut S,
     ) -> Result<Option<Record>, PcapErr>
-        // What it answers, where the source tells its bytes, and what it has come to then.
-        ensures gives { (bytes rest : List ℕ) (rs : List Rec) → S.left source.old ≡ Some rest
-            → Stands self.old bytes rs rest
-            → Gives bytes rs self.new (S.left source.new) result }
-        ensures goes { OnOk result (IsGoing self.new.phase) }
-        ensures stops { IfErr result (λ e. self.new.phase ≡ Phase.Stopped e) }
-        ensures again { (e : PcapErr) → self.old.phase ≡ Phase.Stopped e
-            → (result ≡ Err e) × (self.new ≡ self.old) × (source.new ≡ source.old) }
-
-        // How much it took, by which a caller's loop ends, and that nothing is read behind 2^40 bytes.
-        ensures count { Counts (S.left source.old) (S.left source.new) self.old.taken self.new.taken result }
-        ensures limit { KeepsLimit source.old source.new self.old self.new result }
-
-        // What the source's faults say, and what else of the source stays.
-        ensures cause { HasReadCause (S.faults source.old) (S.faults source.new) self.old result }
-        ensures rest { S.beside source.new ≡ S.beside source.old }
+        ensures { ReadsNext S.left S.faults S.beside source.old source.new self.old self.new result }
     {
         self.next_into(source, Vec::new(alloc))
     }
@@ -103,22 +87,7 @@ impl PcapReader {
         source: &mut S,
         body: Vec<u8>,
     ) -> Result<Option<Record>, PcapErr>
-        // What it answers, where the source tells its bytes, and what it has come to then.
-        ensures gives { (bytes rest : List ℕ) (rs : List Rec) → S.left source.old ≡ Some rest
-            → Stands self.old bytes rs rest
-            → Gives bytes rs self.new (S.left source.new) result }
-        ensures goes { OnOk result (IsGoing self.new.phase) }
-        ensures stops { IfErr result (λ e. self.new.phase ≡ Phase.Stopped e) }
-        ensures again { (e : PcapErr) → self.old.phase ≡ Phase.Stopped e
-            → (result ≡ Err e) × (self.new ≡ self.old) × (source.new ≡ source.old) }
-
-        // How much it took, by which a caller's loop ends, and that nothing is read behind 2^40 bytes.
-        ensures count { Counts (S.left source.old) (S.left source.new) self.old.taken self.new.taken result }
-        ensures limit { KeepsLimit source.old source.new self.old self.new result }
-
-        // What the source's faults say, and what else of the source stays.
-        ensures cause { HasReadCause (S.faults source.old) (S.faults source.new) self.old result }
-        ensures rest { S.beside source.new ≡ S.beside source.old }
+        ensures { ReadsNext S.left S.faults S.beside source.old source.new self.old self.new result }
     {
         let form = match self.open(source) {
             Ok(form) => form,
@@ -141,17 +110,14 @@ impl PcapReader {
     fn open<S: Source>(&mut self, source: &mut S) -> Result<Form, PcapErr>
         // Where it stands then, or why it has stopped.
         ensures opens { (bytes rest : List ℕ) (rs : List Rec) → S.left source.old ≡ Some rest
-            → Stands self.old bytes rs rest
+            → HasRead self.old bytes rs rest
             → Opens bytes rs self.new (S.left source.new) result }
         ensures phase { KeepsOpening self.new result }
         ensures once { OpensOnce source.old source.new self.old self.new result }
-        ensures count { CountsHead (S.left source.old) (S.left source.new) self.old self.new }
+        ensures count { CountsHead (S.left source.old) (S.left source.new) self.old self.new result }
 
         // What the source's faults say, and what else of the source stays.
-        ensures fault { result ≡ Err PcapErr.ReadFault
-            → Rose (S.faults source.old) (S.faults source.new)
-            ⊎ (self.old.phase ≡ Phase.Stopped PcapErr.ReadFault) }
-        ensures later { S.faults source.old ≤ S.faults source.new }
+        ensures cause { HasReadCause (S.faults source.old) (S.faults source.new) self.old.phase result }
         ensures rest { S.beside source.new ≡ S.beside source.old }
     {
         match self.phase {

@@ -1,7 +1,7 @@
 -- Each step of the walk that is refused, and by what.
 use Rattle.std.proofs.Common.{◌≡◌, ℕ, Bool, true, false, List, [], ◌∷◌, ◌++◌, Option, Some, None, refl, codes, slice_get}
 use Rattle.std.specs.Str.{bytes_eq, chars}
-use Rattle.clap.specs.Words.{Row, Text, Kinds, damage_view}
+use Rattle.clap.specs.Words.{Row, Text, Kinds, fault_of}
 use Rattle.clap.specs.Walk.{Walk, Waiting, idle, option, positional, walked, settled_rows, has_row, is_pending, walk, nothing_held}
 use Rattle.clap.specs.Faults.{turn_fault, settle_fault, walk_fault}
 use Rattle.clap.specs.Kinds.{or_else}
@@ -82,7 +82,7 @@ unfolding walk_fault
 then_turn w v ws h = either (turn_fault shape [] w v) (walk_fault shape [] (walked rules [] w v) ws) h
 
 -- where nothing fails, no turn does, nor what is pending at the end
-pub by_faults : (words : List Text) → damage_view line_app words ≡ []
+pub by_faults : (words : List Text) → fault_of line_app words ≡ []
     → (walk_fault shape [] (at [] None idle false) words ≡ []) × (settle_fault rules false (walk rules [] nothing_held words).held ≡ [])
 by_faults words none =
     let (walked, more) = either (walk_fault shape [] (at [] None idle false) words) _ none in

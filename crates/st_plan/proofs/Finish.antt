@@ -1,19 +1,19 @@
 -- What is found at the end of a line.
 use Rattle.std.proofs.Common.{◌≡◌, Bool, true, false, List, [], ◌∷◌, Option, Some, None, option_and_then, slice_get, refl, sym, ap, ◌∙◌, subst, codes, cond, IsNone, MatchOption, length, arith, map, get_or}
 use Rattle.std.specs.Str.{bytes_eq}
-use Rattle.clap.specs.Words.{Row, Text, all_of, first_of, damage_view, takes, matches_of, rows_of}
+use Rattle.clap.specs.Words.{Row, Text, all_of, first_of, fault_of, takes, matches_of, rows_of}
 use Rattle.clap.specs.Walk.{has_row, with_default, finished, Held, settled_rows, walk, nothing_held}
 use Rattle.clap.specs.declared.parser.matches.Found.{Found}
 use Rattle.clap.specs.declared.parser.matches.ValueSource.TheVariants.{DefaultValue}
 use Rattle.clap.proofs.WalkLemmas.{first_value-rows, raw_values-rows}
 use Rattle.st_plan.specs.Line.{Options, Line, no_options}
 use Rattle.st_plan.specs.Rules.{line_app}
-use Rattle.st_plan.specs.Found.{IsFound, some_of, IsTaken, IsJobOf, IsNoLine, fraction}
+use Rattle.st_plan.specs.Found.{IsFound, some_of, IsTaken, IsJobOf, IsNoLine, unit_of}
 use Rattle.st_plan.specs.Jobs.{Job}
 use Rattle.st_plan.specs.Plans.{IsPlan, IsJob, IsLimit}
 use Rattle.st_plan.specs.declared.jobs.Plan.{Plan}
 use Rattle.st_plan.specs.declared.jobs.Plan.TheVariants.{Once}
-use Rattle.st_plan.specs.declared.jobs.Precision.TheVariants.{Micro, Nano}
+use Rattle.st_pcap.specs.declared.forms.Unit.TheVariants.{Micro, Nano}
 use Rattle.std.specs.Borrow.{Bor}
 use Rattle.std.proofs.lemmas.Bool.{false≢true}
 use Rattle.std.proofs.lemmas.Slice.Eq.{bytes_eq-Decides}
@@ -100,12 +100,12 @@ line_found words o gs f same line =
     }
 
 -- what has no fault is a line
-pub some_line : (words : List Text) → back.AllText words → damage_view line_app words ≡ [] → (o : Options) × (gs : List Text) × Line no_options [] words o gs
+pub some_line : (words : List Text) → back.AllText words → fault_of line_app words ≡ [] → (o : Options) × (gs : List Text) × Line no_options [] words o gs
 some_line words text none =
     let (turns, settles) = faults.by_faults words none in
     back.back words false [] None no_options [] (back.used_ready no_options [] [] nothing_read) text (record { turns = turns; settles = settles })
 
-pub found : (words : List Text) (f : Found) → back.AllText words → damage_view line_app words ≡ [] → rows_of f ≡ matches_of line_app words → IsTaken words f
+pub found : (words : List Text) (f : Found) → back.AllText words → fault_of line_app words ≡ [] → rows_of f ≡ matches_of line_app words → IsTaken words f
 found words f text none same = record { line = some_line words text none; found = λ o gs line. line_found words o gs f same line }
 
 -- what refuses no line answers none
@@ -130,24 +130,24 @@ some_of_once : (gs : List Text) (q : Text) → some_of gs ≡ Some (codes "once"
 some_of_once [] q h = absurd cc
 some_of_once (g ∷ gs) q h = cc
 
-fraction_of : (b : Bool) → fraction (Some (cond b (codes "true") (codes "false"))) ≡ cond b Nano Micro
-fraction_of true = refl
-fraction_of false = refl
+unit_of_flag : (b : Bool) → unit_of (Some (cond b (codes "true") (codes "false"))) ≡ cond b Nano Micro
+unit_of_flag true = refl
+unit_of_flag false = refl
 
 pub job_by : (o : Options) (gs : List Text) (f : Found) (job : Job) → IsFound o gs f → IsJobOf f job → IsJob o gs job
 job_by o gs f job h j = record {
   words = some_of_once gs job.query (sym h.words ∙ j.words);
-  precision = j.precision ∙ ap fraction h.ns ∙ fraction_of o.ns;
-  packets = subst (λ v. IsLimit v job.packets) h.packets j.packets;
-  bytes = subst (λ v. IsLimit v job.bytes) h.bytes j.bytes;
+  unit = j.unit ∙ ap unit_of h.ns ∙ unit_of_flag o.ns;
+  packets = subst (λ v. IsLimit v job.limits.packets) h.packets j.packets;
+  bytes = subst (λ v. IsLimit v job.limits.bytes) h.bytes j.bytes;
 }
 
 pub by_job : (o : Options) (gs : List Text) (f : Found) (job : Job) → IsFound o gs f → IsJob o gs job → IsJobOf f job
 by_job o gs f job h j = record {
   words = h.words ∙ ap some_of j.words;
-  precision = j.precision ∙ sym (fraction_of o.ns) ∙ sym (ap fraction h.ns);
-  packets = subst (λ v. IsLimit v job.packets) (sym h.packets) j.packets;
-  bytes = subst (λ v. IsLimit v job.bytes) (sym h.bytes) j.bytes;
+  unit = j.unit ∙ sym (unit_of_flag o.ns) ∙ sym (ap unit_of h.ns);
+  packets = subst (λ v. IsLimit v job.limits.packets) (sym h.packets) j.packets;
+  bytes = subst (λ v. IsLimit v job.limits.bytes) (sym h.bytes) j.bytes;
 }
 
 -- the plan of taken words

@@ -9,7 +9,7 @@ use Rattle.st_plan.specs.Found.{some_of}
 use Rattle.st_plan.specs.Plans.{IsPlan, IsJob, IsLimit}
 use Rattle.st_plan.specs.declared.jobs.Plan.{Plan}
 use Rattle.st_plan.specs.declared.jobs.Plan.TheVariants.{Once}
-use Rattle.st_plan.specs.declared.jobs.Precision.TheVariants.{Micro, Nano}
+use Rattle.st_pcap.specs.declared.forms.Unit.TheVariants.{Micro, Nano}
 use Rattle.st_plan.proofs.Steps.{rules}
 use Rattle.st_plan.proofs.Finish.{Said, said, reads}
 
@@ -42,10 +42,10 @@ same_job words o p gs hs j k a b h i =
     let list : gs ≡ hs = same_list gs hs (sym s.words ∙ t.words) in
     let words_same : codes "once" ∷ (j.query ∷ []) ≡ codes "once" ∷ (k.query ∷ []) = sym h.words ∙ list ∙ i.words in
     let query : j.query ≡ k.query = cc in
-    let precision : j.precision ≡ k.precision = h.precision ∙ ap (λ b. cond b Nano Micro) flag ∙ sym i.precision in
-    let most : j.packets ≡ k.packets = same_limit o.packets j.packets k.packets h.packets (subst (λ v. IsLimit v k.packets) (sym packets) i.packets) in
-    let size : j.bytes ≡ k.bytes = same_limit o.bytes j.bytes k.bytes h.bytes (subst (λ v. IsLimit v k.bytes) (sym bytes) i.bytes) in
-    λ x. record { query = query x; precision = precision x; packets = most x; bytes = size x }
+    let unit : j.unit ≡ k.unit = h.unit ∙ ap (λ b. cond b Nano Micro) flag ∙ sym i.unit in
+    let most : j.limits.packets ≡ k.limits.packets = same_limit o.packets j.limits.packets k.limits.packets h.packets (subst (λ v. IsLimit v k.limits.packets) (sym packets) i.packets) in
+    let size : j.limits.bytes ≡ k.limits.bytes = same_limit o.bytes j.limits.bytes k.limits.bytes h.bytes (subst (λ v. IsLimit v k.limits.bytes) (sym bytes) i.bytes) in
+    λ x. record { query = query x; unit = unit x; limits = record { packets = most x; bytes = size x } }
 
 pub one_plan : (words : List Text) (p q : Plan) → IsPlan words p → IsPlan words q → p ≡ q
 one_plan words (Once j) (Once k) (o, gs, a, h) (p, hs, b, i) = ap Once (same_job words o p gs hs j k a b h i)

@@ -3,11 +3,11 @@ use Rattle.std.specs.Prelude.{◌≡◌, List, [], ◌∷◌, Option, Some, None
 use Rattle.std.specs.Str.{bytes_eq}
 use Rattle.clap.specs.Words.{Text, first_value, matched_of, raw_values}
 use Rattle.clap.specs.declared.parser.matches.Found.{Found}
+use Rattle.st_pcap.specs.declared.forms.Unit as unit
+use Rattle.st_pcap.specs.declared.forms.Unit.TheVariants.{Micro, Nano}
 use Rattle.st_plan.specs.Jobs.{Job}
 use Rattle.st_plan.specs.Line.{Options, Line, no_options}
 use Rattle.st_plan.specs.Plans.{IsLimit}
-use Rattle.st_plan.specs.declared.jobs.Precision.{Precision}
-use Rattle.st_plan.specs.declared.jobs.Precision.TheVariants.{Micro, Nano}
 
 -- a list, where it has an element
 abbrev pub some_of : List Text → Option (List Text)
@@ -34,14 +34,14 @@ pub record IsTaken (words : List Text) (f : Found) : Type 0 where
 abbrev pub IsNoLine : List Text → Type 0
 IsNoLine words = (o : Options) (gs : List Text) → Line no_options [] words o gs → ⊥
 
--- the fraction of the times, by the text of the flag for nanoseconds
-abbrev pub fraction : Option Text → Precision
-fraction None = Micro
-fraction (Some text) = if bytes_eq text (codes "true") then Nano else Micro
+-- the unit of the times, by the text of the flag for nanoseconds
+abbrev pub unit_of : Option Text → unit.Unit
+unit_of None = Micro
+unit_of (Some text) = if bytes_eq text (codes "true") then Nano else Micro
 
 -- what was found is this job
 pub record IsJobOf (f : Found) (job : Job) : Type 0 where
   pub words : arguments_of f ≡ Some (codes "once" ∷ (job.query ∷ []))
-  pub precision : job.precision ≡ fraction (first_value f (codes "ns"))
-  pub packets : IsLimit (first_value f (codes "packets")) job.packets
-  pub bytes : IsLimit (first_value f (codes "bytes")) job.bytes
+  pub unit : job.unit ≡ unit_of (first_value f (codes "ns"))
+  pub packets : IsLimit (first_value f (codes "packets")) job.limits.packets
+  pub bytes : IsLimit (first_value f (codes "bytes")) job.limits.bytes

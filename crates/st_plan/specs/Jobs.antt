@@ -1,11 +1,10 @@
 -- The job of a plan.
-use Rattle.std.specs.Prelude.{ℕ}
 use Rattle.clap.specs.Words.{Text}
-use Rattle.st_plan.specs.declared.jobs.Precision.{Precision}
+use Rattle.st_base.specs.declared.limits.Limits.{Limits}
+use Rattle.st_pcap.specs.declared.forms.Unit as unit
 
--- a query over one input
+-- a query over one input, with the unit of its answer's times and the limits of its answer
 pub record Job : Type 0 where
   pub query : Text
-  pub precision : Precision
-  pub packets : ℕ
-  pub bytes : ℕ
+  pub unit : unit.Unit
+  pub limits : Limits

@@ -2,11 +2,11 @@
 use Rattle.std.specs.Prelude.{◌≡◌, ℕ, ◌-◌, ◌^◌, ◌≤◌, List, [], ◌∷◌, Option, Some, None, length, codes, if◌then◌else◌}
 use Rattle.std.specs.Str.Parse.{IsNumeral, digits_value}
 use Rattle.clap.specs.Words.{Text}
+use Rattle.st_pcap.specs.declared.forms.Unit.TheVariants.{Micro, Nano}
 use Rattle.st_plan.specs.Jobs.{Job}
 use Rattle.st_plan.specs.Line.{Options, Line, no_options}
 use Rattle.st_plan.specs.declared.jobs.Plan.{Plan}
 use Rattle.st_plan.specs.declared.jobs.Plan.TheVariants.{Once}
-use Rattle.st_plan.specs.declared.jobs.Precision.TheVariants.{Micro, Nano}
 
 -- one to ten decimal digits write this number, below 2^32
 abbrev pub IsNumber : Text → ℕ → Type 0
@@ -20,9 +20,9 @@ IsLimit (Some word) n = IsNumber word n
 -- these options and arguments are `once` with one query
 pub record IsJob (o : Options) (gs : List Text) (job : Job) : Type 0 where
   pub words : gs ≡ codes "once" ∷ (job.query ∷ [])
-  pub precision : job.precision ≡ (if o.ns then Nano else Micro)
-  pub packets : IsLimit o.packets job.packets
-  pub bytes : IsLimit o.bytes job.bytes
+  pub unit : job.unit ≡ (if o.ns then Nano else Micro)
+  pub packets : IsLimit o.packets job.limits.packets
+  pub bytes : IsLimit o.bytes job.limits.bytes
 
 -- these words have this plan
 abbrev pub IsPlan : List Text → Plan → Type 0

@@ -1,25 +1,18 @@
 //! What a command line asks for.
 
+use st_base::Limits;
+use st_pcap::Unit;
 use std::marker::Model;
 
-/// The fraction of a second in which an answer's times are written.
-#[derive(Clone, Copy, PartialEq, Eq)]
-pub enum Precision {
-    Micro,
-    Nano,
-}
-
-/// The query over one input.
+/// A query over one input, with the form of its answer.
 #[derive(Drop)]
 pub struct Once<'a> {
-    /// The text of the query, as it stands in the words. It may be empty.
+    /// The text of the query, as it stands in the arguments. It may be empty.
     pub query: &'a str,
-    /// The fraction of the answer's times.
-    pub precision: Precision,
-    /// The most packets that the answer may have; 2^64 - 1 where the words give no limit.
-    pub packets: u64,
-    /// The most captured bytes that the answer may have; 2^64 - 1 where the words give no limit.
-    pub bytes: u64,
+    /// The unit of the answer's times.
+    pub unit: Unit,
+    /// How much of the answer is wanted; 2^64 - 1 where an option sets no limit.
+    pub limits: Limits,
 }
 
 impl<'a> Model for Once<'a> {
@@ -27,7 +20,7 @@ impl<'a> Model for Once<'a> {
 
     ghost Value = { Job };
 
-    ghost view = { λ o. record { query = o.query.now; precision = o.precision; packets = o.packets; bytes = o.bytes } };
+    ghost view = { λ o. record { query = o.query.now; unit = o.unit; limits = o.limits } };
 }
 
 /// What a command line asks for.

@@ -23,6 +23,6 @@ mod laws;
 mod limits;
 mod plans;
 
-pub use jobs::{Once, Plan, Precision};
+pub use jobs::{Once, Plan};
 pub use laws::one_plan;
 pub use plans::plan_of;

@@ -4,14 +4,15 @@ ghost use Rattle.std.specs.Prelude.{◌≡◌, List, [], ◌∷◌, Some, IfOk, 
 ghost use Rattle.clap.specs.Words.{found_of, Text};
 ghost use Rattle.st_plan.specs.declared.jobs.Plan.{Plan as Planned};
 ghost use Rattle.st_plan.specs.Jobs.{Job};
-ghost use Rattle.st_plan.specs.Found.{IsJobOf, fraction};
+ghost use Rattle.st_plan.specs.Found.{IsJobOf, unit_of};
 ghost use Rattle.st_plan.specs.Plans.{IsPlan};
 
 use crate::command::matches_of;
-use crate::jobs::{Once, Plan, Precision};
+use crate::jobs::{Once, Plan};
 use crate::limits::limit;
 use clap::ArgMatches;
-use st_base::NoMemory;
+use st_base::{Limits, NoMemory};
+use st_pcap::Unit;
 use std::alloc::Global;
 
 // The query of the arguments `once QUERY`.
@@ -28,19 +29,19 @@ fn query_of<'a>(arguments: &[&'a str]) -> Option<&'a str>
     if command == "once" { Some(query) } else { None }
 }
 
-// The fraction of the times, by the text of the flag for nanoseconds.
-fn precision_of(flag: Option<&str>) -> Precision
-    ensures { result ≡ fraction (option_map (λ s. s.now) flag.entry) }
+// The unit of the times, by the text of the flag for nanoseconds.
+fn unit_of(flag: Option<&str>) -> Unit
+    ensures { result ≡ unit_of (option_map (λ s. s.now) flag.entry) }
 {
     match flag {
         Some(text) => {
             if text == "true" {
-                Precision::Nano
+                Unit::Nano
             } else {
-                Precision::Micro
+                Unit::Micro
             }
         }
-        None => Precision::Micro,
+        None => Unit::Micro,
     }
 }
 
@@ -54,18 +55,18 @@ fn asked<'a>(matches: &ArgMatches<'a>) -> Option<Once<'a>>
     let Some(query) = query_of(arguments) else {
         return None;
     };
-    let precision = precision_of(matches.get_str("ns"));
+    let unit = unit_of(matches.get_str("ns"));
     let Some(packets) = limit(matches.get_str("packets")) else {
         return None;
     };
     let Some(bytes) = limit(matches.get_str("bytes")) else {
         return None;
     };
+    let limits = Limits { packets, bytes };
     Some(Once {
         query,
-        precision,
-        packets,
-        bytes,
+        unit,
+        limits,
     })
 }
 
@@ -118,9 +119,9 @@ mod tests {
         )?;
         if let Ok(Some(Plan::Once(once))) = plan_of(alloc, words.as_slice()) {
             assert_eq!(rt; once.query, "port 53");
-            assert_eq!(rt; once.packets, 2);
-            assert_eq!(rt; once.bytes, 100);
-            assert!(rt; once.precision == Precision::Nano);
+            assert_eq!(rt; once.limits.packets, 2);
+            assert_eq!(rt; once.limits.bytes, 100);
+            assert!(rt; once.unit == Unit::Nano);
             return Ok(());
         }
         Err("these words have a plan")?

@@ -8,7 +8,7 @@ use Rattle.jiff_core.specs.Date.{epoch_day}
 use Rattle.jiff_core.proofs.CalendarLemmas.{days_from_civil-day_count, day_count-lt_year, day_count-lt_month, day_count-day, day_count-day_of_year, day_count-end, day_count-next_year, day_count-last_of_year, day_count-next_month}
 use Rattle.jiff_core.proofs.MarchLemmas.{day_count-early}
 use Rattle.jiff_core.proofs.DateLemmas.{civil}
-use Rattle.st_query.specs.WordText.{year_by, year_of, month_by, month_of, place_of}
+use Rattle.st_query.specs.PrintedWords.{year_by, year_of, month_by, month_of, day_of_month}
 
 -- the year 0000 begins there
 pub year_zero : day_count (pos 0) 1 1 ≡ 3_652_425
@@ -64,9 +64,9 @@ pub month_is : (y m d day : ℕ) → IsCivilDate (pos y) m d → day_count (pos 
 unfolding month_of
 month_is y m d day civil is = ap (λ n. month_by n 12 day) (year_is y m d day civil is) ∙ month_by_is 12 y m d day civil is civil.1.1
 
-pub place_is : (y m d day : ℕ) → IsCivilDate (pos y) m d → day_count (pos y) m d ≡ day → place_of day ≡ d
-unfolding place_of
-place_is y m d day civil is =
+pub day_is : (y m d day : ℕ) → IsCivilDate (pos y) m d → day_count (pos y) m d ≡ day → day_of_month day ≡ d
+unfolding day_of_month
+day_is y m d day civil is =
     let year = year_is y m d day civil is in
     let month = month_is y m d day civil is in
     ap (λ n. day - day_count (pos n) (month_of day) 1 + 1) year ∙ ap (λ n. day - day_count (pos y) n 1 + 1) month
@@ -78,7 +78,7 @@ pub record Parts (date : Date) (day : ℕ) : Type 0 where
   pub is : date.year ≡ pos year
   pub year_found : year ≡ year_of day
   pub month_found : date.month ≡ month_of day
-  pub place_found : date.day ≡ place_of day
+  pub day_found : date.day ≡ day_of_month day
   pub civil : IsCivilDate (pos year) date.month date.day
 
 pub parts : (date : Date) (n : ℕ) → epoch_day date +ℤ pos 4_371_587 ≡ pos n → 3_652_059 ≤ n → Parts date (n + 366)
@@ -92,7 +92,7 @@ parts date n h late =
       is = is;
       year_found = sym (year_is year date.month date.day (n + 366) known at);
       month_found = sym (month_is year date.month date.day (n + 366) known at);
-      place_found = sym (place_is year date.month date.day (n + 366) known at);
+      day_found = sym (day_is year date.month date.day (n + 366) known at);
       civil = known;
     }
 
@@ -184,13 +184,13 @@ found_from day year month place y m early is =
 
 -- the day of the calendar that is found
 pub record IsFound (day : ℕ) : Type 0 where
-  pub civil : IsCivilDate (pos (year_of day)) (month_of day) (place_of day)
-  pub count : day_count (pos (year_of day)) (month_of day) (place_of day) ≡ day
+  pub civil : IsCivilDate (pos (year_of day)) (month_of day) (day_of_month day)
+  pub count : day_count (pos (year_of day)) (month_of day) (day_of_month day) ≡ day
 
 pub found : (day : ℕ) → 3_652_425 ≤ day → day ≤ 7_304_849 → IsFound day
-unfolding year_of month_of place_of
+unfolding year_of month_of day_of_month
 found day late early =
     let y = year_found 9999 day late in
     let m = month_found (year_of day) 11 day y.begins in
-    let (civil, count) = found_from day (year_of day) (month_of day) (place_of day) y m early refl in
+    let (civil, count) = found_from day (year_of day) (month_of day) (day_of_month day) y m early refl in
     record { civil = civil; count = count }

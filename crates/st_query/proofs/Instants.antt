@@ -4,7 +4,7 @@ use Rattle.std.proofs.lemmas.Int.{ints}
 use Rattle.jiff_core.specs.Calendar.{IsCivilDate, days_from_civil}
 use Rattle.jiff_core.proofs.CalendarLemmas.{days_in_month_bounds}
 use Rattle.st_query.specs.Times.{two, minute_text, IsOffset, IsInstant, IsInYears}
-use Rattle.st_query.specs.TimeReading.{fits, two_at, year_at, HasShape, HasDate, HasClock, IsDayOf, IsClockOf}
+use Rattle.st_query.specs.TimeReader.{fits, two_at, year_at, HasShape, HasDate, HasClock, IsDayOf, IsClockOf}
 use Rattle.st_query.proofs.TimeShape.{fits_two, fits_mark, fits_end, two_fits, two_back}
 
 -- `YYYY-MM-DDThh:mm:ss` of pairs of digits, and more

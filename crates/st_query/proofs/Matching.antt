@@ -11,7 +11,7 @@ use Rattle.st_query.specs.declared.addrs.Addr.{Addr}
 use Rattle.st_query.specs.declared.addrs.Addr.TheVariants.{V4, V6}
 use Rattle.st_query.specs.Words.{network}
 use Rattle.st_query.specs.Meaning.{IsInNet}
-use Rattle.st_query.specs.Matching.{KeysAre, KeyIsIn, FrameIsIn}
+use Rattle.st_query.specs.Matcher.{KeysAre, KeyIsIn, FrameIsIn}
 
 -- a key that is no second is the frame's
 pub frame_has : (body : List ℕ) (sec : ℕ) (k : Key) → ((s : ℕ) → k ≡ key.Second s → ⊥) → HasKey body sec k → FrameHas body k

@@ -12,11 +12,11 @@ use Rattle.st_query.specs.declared.nodes.Primitive.{Primitive}
 use Rattle.st_query.specs.declared.nodes.Primitive.TheVariants as prim
 use Rattle.st_query.specs.Words.{IsAddress, IsOnes, FitsAddr, width}
 use Rattle.st_query.specs.Times.{IsInYears, IsSpan}
-use Rattle.st_query.specs.WordText.{address_text, instant_text}
+use Rattle.st_query.specs.PrintedWords.{address_text, instant_text}
 use Rattle.st_query.specs.Tokens.{is_space, is_word_byte, EndsRun, HasMask, IsWord}
 use Rattle.st_query.specs.Spelling.{Starts, IsSpelled}
 use Rattle.st_query.specs.Trees.{Tree, both, either, one, FitsPrimitive, InRange, is_joined, inside, depth, IsSound}
-use Rattle.st_query.specs.Printing.{when_text, primitive_text, wrapped, printed}
+use Rattle.st_query.specs.PrintedForm.{when_text, primitive_text, wrapped, printed}
 use Rattle.st_query.specs.Grammar.{Prim, host, net, port, proto, vlan, mpls, before_at, before_ago, after_at, after_ago, Item, primitive, paren, Query, item, and, or}
 use Rattle.st_query.proofs.WordLaws.{dotted_has, colons_have, net_has}
 use Rattle.st_query.proofs.WordBytes.{OfDigits, decimal_all, span_all}
@@ -25,11 +25,11 @@ use Rattle.st_query.proofs.NotKeywords.{number_is_none, address_is_none, net_is_
 
 -- the text, in front of whatever ends a word, is these tokens
 Firm : List ℕ → List Token → Type 0
-Firm text ts = (behind : List ℕ) → EndsRun is_word_byte behind → Starts (text ++ behind) ts behind
+Firm text ts = (following : List ℕ) → EndsRun is_word_byte following → Starts (text ++ following) ts following
 
 -- the text ends the word in front of it
 Apart : List ℕ → Type 0
-Apart text = (behind : List ℕ) → EndsRun is_word_byte behind → EndsRun is_word_byte (text ++ behind)
+Apart text = (following : List ℕ) → EndsRun is_word_byte following → EndsRun is_word_byte (text ++ following)
 
 starts_append : (ts us : List Token) (text rest end : List ℕ) → Starts text ts rest → Starts rest us end → Starts text (ts ++ us) end
 starts_append [] us text rest end h k = rw h k
@@ -38,8 +38,8 @@ starts_append (t ∷ ts) us text rest end (gap, piece, more, split, blank, is_pi
 
 firm_append : (a c : List ℕ) (ts us : List Token) → Firm a ts → Firm c us → Apart c → Firm (a ++ c) (ts ++ us)
 unfolding Firm Apart
-firm_append a c ts us f g apart behind ends =
-    rw (append_assoc a c behind) (starts_append ts us (a ++ (c ++ behind)) (c ++ behind) behind (f (c ++ behind) (apart behind ends)) (g behind ends))
+firm_append a c ts us f g apart following ends =
+    rw (append_assoc a c following) (starts_append ts us (a ++ (c ++ following)) (c ++ following) following (f (c ++ following) (apart following ends)) (g following ends))
 
 -- a word of the text, with its token
 record TextWord (w : List ℕ) (t : Token) : Type 0 where
@@ -49,30 +49,30 @@ record TextWord (w : List ℕ) (t : Token) : Type 0 where
 
 firm_word : (w : List ℕ) (t : Token) → TextWord w t → Firm w (t ∷ [])
 unfolding Firm
-firm_word w t h behind ends =
-    ([], w, behind, refl, All-nil (λ b. IsTrue (is_space b)), inr (inr (inr (inr (inl (h.word, h.some, h.bytes, ends))))), refl)
+firm_word w t h following ends =
+    ([], w, following, refl, All-nil (λ b. IsTrue (is_space b)), inr (inr (inr (inr (inl (h.word, h.some, h.bytes, ends))))), refl)
 
 -- a space in front of the text
 firm_space : (a : List ℕ) (t : Token) (ts : List Token) → Firm a (t ∷ ts) → Firm (codes " " ++ a) (t ∷ ts)
 unfolding Firm
-firm_space a t ts f behind ends =
-    let (gap, piece, more, split, blank, is_piece, starts) = f behind ends in
+firm_space a t ts f following ends =
+    let (gap, piece, more, split, blank, is_piece, starts) = f following ends in
     (32 ∷ gap, piece, more, ap (λ (xs : List ℕ). 32 ∷ xs) split, All-cons (λ b. IsTrue (is_space b)) 32 gap refl blank, is_piece, starts)
 
 apart_space : (a : List ℕ) → Apart (codes " " ++ a)
 unfolding Apart
-apart_space a behind ends = refl
+apart_space a following ends = refl
 
 firm_open : (a : List ℕ) (ts : List Token) → Firm a ts → Firm (codes "(" ++ (a ++ codes ")")) (token.Open ∷ (ts ++ token.Close ∷ []))
 unfolding Firm Apart
-firm_open a ts f behind ends = (
+firm_open a ts f following ends = (
   [],
   codes "(",
-  (a ++ codes ")") ++ behind,
+  (a ++ codes ")") ++ following,
   refl,
   All-nil (λ b. IsTrue (is_space b)),
   inl (refl, refl),
-  firm_append a (codes ")") ts (token.Close ∷ []) f (λ b e. ([], codes ")", b, refl, All-nil (λ c. IsTrue (is_space c)), inr (inl (refl, refl)), refl)) (λ b e. refl) behind ends,
+  firm_append a (codes ")") ts (token.Close ∷ []) f (λ b e. ([], codes ")", b, refl, All-nil (λ c. IsTrue (is_space c)), inr (inl (refl, refl)), refl)) (λ b e. refl) following ends,
 )
 
 -- the words of the grammar
@@ -277,7 +277,7 @@ make_side d (one p) range h make = let (t, ts, firm, made) = make_prim p range i
 make_side d (both a b) range h make = in_parentheses d (both a b) (omega arith) (make (suc d) (omega arith))
 make_side d (either a b) range h make = in_parentheses d (either a b) (omega arith) (make (suc d) (omega arith))
 
--- a side behind a joiner
+-- a side following a joiner
 joined_firm : (a b word : List ℕ) (joiner t u : Token) (ts us : List Token) → Firm a (t ∷ ts) → TextWord word joiner → Firm b (u ∷ us) → Firm (a ++ (codes " " ++ (word ++ (codes " " ++ b)))) ((t ∷ ts) ++ joiner ∷ (u ∷ us))
 joined_firm a b word joiner t u ts us f w g =
     firm_append a (codes " " ++ (word ++ (codes " " ++ b))) (t ∷ ts) (joiner ∷ (u ∷ us)) f

@@ -10,20 +10,20 @@ use Rattle.st_query.specs.declared.tokens.Keyword.TheVariants as key
 use Rattle.st_query.specs.declared.errors.QueryErr.{QueryErr}
 use Rattle.st_query.specs.declared.errors.QueryErr.TheVariants as err
 use Rattle.st_query.specs.declared.nodes.Node.{Node}
-use Rattle.st_query.specs.declared.grammar.Kind.{Kind}
-use Rattle.st_query.specs.declared.grammar.Kind.TheVariants as kind
-use Rattle.st_query.specs.declared.grammar.Want.TheVariants as want
+use Rattle.st_query.specs.declared.automaton.Kind.{Kind}
+use Rattle.st_query.specs.declared.automaton.Kind.TheVariants as kind
+use Rattle.st_query.specs.declared.automaton.Want.TheVariants as want
 use Rattle.st_query.specs.Trees.{Tree, tree}
 use Rattle.st_query.specs.Tokens.{is_space, EndsRun, IsBlank, IsPiece}
 use Rattle.st_query.specs.Grammar.{Query, CanGoOn, WantsNumber, WantsAddress, WantsTime, WantsItem, HasKind}
 use Rattle.st_query.specs.Spelling.{Starts, IsSpelled, IsRefused, Spells, Refuses}
-use Rattle.st_query.specs.Machine.{Left, Spot, Reading, Joined, State, start, step, run, kind_of}
-use Rattle.st_query.specs.Parsing.{error_at}
+use Rattle.st_query.specs.Automaton.{HalfView, PhaseView, Reading, Joined, ParserState, start, step, run, kind_of}
+use Rattle.st_query.specs.Parser.{error_at}
 use Rattle.st_query.specs.Laws.{OneSpelling, OneRefusal, NotBoth}
 use Rattle.st_query.proofs.NodeTrees.{one_node}
 use Rattle.st_query.proofs.Pieces.{run_len, SamePiece, same_piece, piece_ends}
 use Rattle.st_query.proofs.GrammarKinds.{passes, stops, run_append}
-use Rattle.st_query.proofs.GrammarStands.{goes_before}
+use Rattle.st_query.proofs.GrammarStates.{goes_before}
 
 -- white space in front of a token is of one length
 same_gap : (text gap other more rest : List ℕ) → text ≡ gap ++ more → text ≡ other ++ rest → IsBlank gap → IsBlank other → EndsRun is_space more → EndsRun is_space rest → (gap ≡ other) × (more ≡ rest)
@@ -74,7 +74,7 @@ whole_same text ts us r q h k blank blank2 =
       | inr (vs, e, s) ↦ e ∙ ap (λ (xs : List Token). us ++ xs) (blank_ends q vs r blank2 s).0 ∙ append-nil us
     ]
 
-same_state : (a b : State) → Some a ≡ Some b → a ≡ b
+same_state : (a b : ParserState) → Some a ≡ Some b → a ≡ b
 same_state a b e = cc
 
 same_tree : (a b : Tree) → Joined a ≡ Joined b → a ≡ b
@@ -84,7 +84,7 @@ same_tree a b e = cc
 pub query_unique : (ts : List Token) (a b : Tree) → Query 0 ts a → Query 0 ts b → a ≡ b
 query_unique ts a b h k =
     let states = same_state (Joined a, []) (Joined b, []) (sym (passes ts a h) ∙ passes ts b k) in
-    same_tree a b (ap (λ (s : State). s.0) states)
+    same_tree a b (ap (λ (s : ParserState). s.0) states)
 
 -- a text spells one query at most
 pub one_tree : (text : List ℕ) (a b : Tree) → IsSpelled text a → IsSpelled text b → a ≡ b
@@ -119,77 +119,77 @@ no_longer ts rest l (Some t) v vs q (gap, piece, more, e, b, h, left) bars (gap2
     bars (rw same.tokens (goes_before (ts ++ v ∷ []) vs (rw (append_assoc ts (v ∷ []) vs) more_tokens)))
 
 -- the state of the pass behind tokens that can go on
-has_state : (ts : List Token) → CanGoOn ts → (x : State) × (run [] start ts ≡ Some x)
+has_state : (ts : List Token) → CanGoOn ts → (x : ParserState) × (run [] start ts ≡ Some x)
 has_state ts (more, q, query) =
     let whole = sym (run_append ts more [] start) ∙ passes (ts ++ more) q query in
-    elim (run [] start ts) as (λ o. option_and_then (λ (x : State). run x.1 x.0 more) o ≡ Some (Joined q, []) → (x : State) × (o ≡ Some x)) [
+    elim (run [] start ts) as (λ o. option_and_then (λ (x : ParserState). run x.1 x.0 more) o ≡ Some (Joined q, []) → (x : ParserState) × (o ≡ Some x)) [
       | None ↦ λ e. absurd (cc)
       | Some x ↦ λ e. (x, refl)
     ] whole
 
 -- the kind of what is wanted
-abbrev pub kind_at : Spot → Kind
+abbrev pub kind_at : PhaseView → Kind
 kind_at (Reading w half) = kind_of w
 kind_at (Joined q) = kind.Syntax
 
-number_at : (fs : List (Option Left)) (s : Spot) (n : ℕ) → (step fs s (token.Number n) ≡ None → ⊥) → kind_at s ≡ kind.Number
-number_at fs (Joined q) n h = absurd (h refl)
-number_at fs (Reading want.Port half) n h = refl
-number_at fs (Reading want.Proto half) n h = refl
-number_at fs (Reading want.Vlan half) n h = refl
-number_at fs (Reading want.Mpls half) n h = refl
-number_at fs (Reading (want.MaskOf (V4 a)) half) n h = absurd (h refl)
-number_at fs (Reading (want.MaskOf (V6 a)) half) n h = absurd (h refl)
-number_at fs (Reading w half) n h = absurd (h refl)
+number_at : (hs : List (Option HalfView)) (s : PhaseView) (n : ℕ) → (step hs s (token.Number n) ≡ None → ⊥) → kind_at s ≡ kind.Number
+number_at hs (Joined q) n h = absurd (h refl)
+number_at hs (Reading want.Port half) n h = refl
+number_at hs (Reading want.Proto half) n h = refl
+number_at hs (Reading want.Vlan half) n h = refl
+number_at hs (Reading want.Mpls half) n h = refl
+number_at hs (Reading (want.MaskOf (V4 a)) half) n h = absurd (h refl)
+number_at hs (Reading (want.MaskOf (V6 a)) half) n h = absurd (h refl)
+number_at hs (Reading w half) n h = absurd (h refl)
 
-address_at : (fs : List (Option Left)) (s : Spot) (a : Addr) (m : Option ℕ) → (step fs s (token.Address a m) ≡ None → ⊥) → kind_at s ≡ kind.Address
-address_at fs (Joined q) a m h = absurd (h refl)
-address_at fs (Reading want.Host half) a m h = refl
-address_at fs (Reading want.Net half) a m h = refl
-address_at fs (Reading (want.MaskOf b) half) a m h = refl
-address_at fs (Reading w half) a m h = absurd (h refl)
+address_at : (hs : List (Option HalfView)) (s : PhaseView) (a : Addr) (m : Option ℕ) → (step hs s (token.Address a m) ≡ None → ⊥) → kind_at s ≡ kind.Address
+address_at hs (Joined q) a m h = absurd (h refl)
+address_at hs (Reading want.Host half) a m h = refl
+address_at hs (Reading want.Net half) a m h = refl
+address_at hs (Reading (want.MaskOf b) half) a m h = refl
+address_at hs (Reading w half) a m h = absurd (h refl)
 
-time_at : (fs : List (Option Left)) (s : Spot) (t : ℤ) → (step fs s (token.Instant t) ≡ None → ⊥) → kind_at s ≡ kind.Time
-time_at fs (Joined q) t h = absurd (h refl)
-time_at fs (Reading want.Before half) t h = refl
-time_at fs (Reading want.After half) t h = refl
-time_at fs (Reading (want.MaskOf (V4 a)) half) t h = absurd (h refl)
-time_at fs (Reading (want.MaskOf (V6 a)) half) t h = absurd (h refl)
-time_at fs (Reading w half) t h = absurd (h refl)
+time_at : (hs : List (Option HalfView)) (s : PhaseView) (t : ℤ) → (step hs s (token.Instant t) ≡ None → ⊥) → kind_at s ≡ kind.Time
+time_at hs (Joined q) t h = absurd (h refl)
+time_at hs (Reading want.Before half) t h = refl
+time_at hs (Reading want.After half) t h = refl
+time_at hs (Reading (want.MaskOf (V4 a)) half) t h = absurd (h refl)
+time_at hs (Reading (want.MaskOf (V6 a)) half) t h = absurd (h refl)
+time_at hs (Reading w half) t h = absurd (h refl)
 
-item_at : (fs : List (Option Left)) (s : Spot) → (step fs s (token.Key key.Icmp) ≡ None → ⊥) → kind_at s ≡ kind.Syntax
-item_at fs (Joined q) h = refl
-item_at fs (Reading want.Item half) h = refl
-item_at fs (Reading (want.MaskOf (V4 a)) half) h = absurd (h refl)
-item_at fs (Reading (want.MaskOf (V6 a)) half) h = absurd (h refl)
-item_at fs (Reading w half) h = absurd (h refl)
+item_at : (hs : List (Option HalfView)) (s : PhaseView) → (step hs s (token.Key key.Icmp) ≡ None → ⊥) → kind_at s ≡ kind.Syntax
+item_at hs (Joined q) h = refl
+item_at hs (Reading want.Item half) h = refl
+item_at hs (Reading (want.MaskOf (V4 a)) half) h = absurd (h refl)
+item_at hs (Reading (want.MaskOf (V6 a)) half) h = absurd (h refl)
+item_at hs (Reading w half) h = absurd (h refl)
 
-wants_number : (ts : List Token) (x : State) → run [] start ts ≡ Some x → WantsNumber ts → kind_at x.0 ≡ kind.Number
+wants_number : (ts : List Token) (x : ParserState) → run [] start ts ≡ Some x → WantsNumber ts → kind_at x.0 ≡ kind.Number
 wants_number ts x e (n, more) = number_at x.1 x.0 n (λ none. stops ts (token.Number n) x.1 x.0 e none more)
 
-wants_address : (ts : List Token) (x : State) → run [] start ts ≡ Some x → WantsAddress ts → kind_at x.0 ≡ kind.Address
+wants_address : (ts : List Token) (x : ParserState) → run [] start ts ≡ Some x → WantsAddress ts → kind_at x.0 ≡ kind.Address
 wants_address ts x e (a, m, more) = address_at x.1 x.0 a m (λ none. stops ts (token.Address a m) x.1 x.0 e none more)
 
-wants_time : (ts : List Token) (x : State) → run [] start ts ≡ Some x → WantsTime ts → kind_at x.0 ≡ kind.Time
+wants_time : (ts : List Token) (x : ParserState) → run [] start ts ≡ Some x → WantsTime ts → kind_at x.0 ≡ kind.Time
 wants_time ts x e (t, more) = time_at x.1 x.0 t (λ none. stops ts (token.Instant t) x.1 x.0 e none more)
 
-wants_item : (ts : List Token) (x : State) → run [] start ts ≡ Some x → WantsItem ts → kind_at x.0 ≡ kind.Syntax
+wants_item : (ts : List Token) (x : ParserState) → run [] start ts ≡ Some x → WantsItem ts → kind_at x.0 ≡ kind.Syntax
 wants_item ts x e more = item_at x.1 x.0 (λ none. stops ts (token.Key key.Icmp) x.1 x.0 e none more)
 
-abbrev Told : State → Option Token → Kind → Type 0
-Told x o kind.Number = (kind_at x.0 ≡ kind.Number) × (o ≡ Some token.Stray → ⊥)
-Told x o kind.Address = (kind_at x.0 ≡ kind.Address) × (o ≡ Some token.Stray → ⊥)
-Told x o kind.Time = (kind_at x.0 ≡ kind.Time) × (o ≡ Some token.Stray → ⊥)
-Told x o kind.Deep = (kind_at x.0 ≡ kind.Syntax) × (o ≡ Some token.Open)
-Told x o kind.Syntax = Unit {0}
+abbrev Says : ParserState → Option Token → Kind → Type 0
+Says x o kind.Number = (kind_at x.0 ≡ kind.Number) × (o ≡ Some token.Stray → ⊥)
+Says x o kind.Address = (kind_at x.0 ≡ kind.Address) × (o ≡ Some token.Stray → ⊥)
+Says x o kind.Time = (kind_at x.0 ≡ kind.Time) × (o ≡ Some token.Stray → ⊥)
+Says x o kind.Deep = (kind_at x.0 ≡ kind.Syntax) × (o ≡ Some token.Open)
+Says x o kind.Syntax = Unit {0}
 
 -- a refusal that is no plain syntax says what was wanted
-tells : (ts : List Token) (x : State) (o : Option Token) (k : Kind) → run [] start ts ≡ Some x → HasKind ts o k → Told x o k
-tells ts x o kind.Number e h = (wants_number ts x e h.1, h.0)
-tells ts x o kind.Address e h = (wants_address ts x e h.1, h.0)
-tells ts x o kind.Time e h = (wants_time ts x e h.1, h.0)
-tells ts x o kind.Deep e h = (wants_item ts x e h.1, h.0)
-tells ts x o kind.Syntax e h = tt
+says : (ts : List Token) (x : ParserState) (o : Option Token) (k : Kind) → run [] start ts ≡ Some x → HasKind ts o k → Says x o k
+says ts x o kind.Number e h = (wants_number ts x e h.1, h.0)
+says ts x o kind.Address e h = (wants_address ts x e h.1, h.0)
+says ts x o kind.Time e h = (wants_time ts x e h.1, h.0)
+says ts x o kind.Deep e h = (wants_item ts x e h.1, h.0)
+says ts x o kind.Syntax e h = tt
 
 plain_syntax : (ts : List Token) (o : Option Token) (k : Kind) → HasKind ts o kind.Syntax → HasKind ts o k → k ≡ kind.Syntax
 plain_syntax ts o kind.Number (inl s) h = absurd (h.0 s)
@@ -202,7 +202,7 @@ plain_syntax ts o kind.Time (inr none) h = absurd (none.2 h.1)
 plain_syntax ts o kind.Deep (inr none) h = absurd (none.3 h.0 h.1)
 plain_syntax ts o kind.Syntax s h = refl
 
-kind_unique : (ts : List Token) (x : State) (o : Option Token) (k j : Kind) → run [] start ts ≡ Some x → HasKind ts o k → HasKind ts o j → k ≡ j
+kind_unique : (ts : List Token) (x : ParserState) (o : Option Token) (k j : Kind) → run [] start ts ≡ Some x → HasKind ts o k → HasKind ts o j → k ≡ j
 kind_unique ts x o kind.Syntax j e h i = sym (plain_syntax ts o j h i)
 kind_unique ts x o k kind.Syntax e h i = plain_syntax ts o k i h
 kind_unique ts x o kind.Number kind.Number e h i = refl
@@ -210,8 +210,8 @@ kind_unique ts x o kind.Address kind.Address e h i = refl
 kind_unique ts x o kind.Time kind.Time e h i = refl
 kind_unique ts x o kind.Deep kind.Deep e h i = refl
 kind_unique ts x o k j e h i =
-    let a = (tells ts x o k e h).0 in
-    let b = (tells ts x o j e i).0 in
+    let a = (says ts x o k e h).0 in
+    let b = (says ts x o j e i).0 in
     cc
 
 -- a refusal, whether of a token or of the end

@@ -17,7 +17,7 @@ use Rattle.st_query.specs.declared.addrs.Addr.{Addr}
 use Rattle.st_query.specs.declared.addrs.Addr.TheVariants.{V4, V6}
 use Rattle.st_query.specs.Words.{IsNumber, IsAddress, IsNet, FitsAddr, width}
 use Rattle.st_query.specs.Times.{IsInstant, IsSpan, IsInYears}
-use Rattle.st_query.specs.WordText.{group_text, colon_groups, groups_text, address_text, year_of, month_of, place_of, second_of, instant_text}
+use Rattle.st_query.specs.PrintedWords.{group_text, colon_groups, groups_text, address_text, year_of, month_of, day_of_month, calendar_second, instant_text}
 use Rattle.st_query.proofs.Bits128.{groups_bits, groups_small}
 use Rattle.st_query.proofs.WordBytes.{OfDigits, numeral_all, address_all, net_all, instant_all}
 use Rattle.st_query.proofs.Calendar.{found}
@@ -132,7 +132,7 @@ net_spells a n small fits =
     (address_text a, decimal n, refl, address_spells a small, bits_spell n (omega arith), fits)
 
 -- the second of an instant, counted as the calendar counts its days
-second_is : (t : ℤ) → IsInYears t → (pos (second_of t) ≡ t +ℤ pos 377_736_739_200) × (315_569_520_000 ≤ second_of t) × (second_of t < 631_139_040_000)
+second_is : (t : ℤ) → IsInYears t → (pos (calendar_second t) ≡ t +ℤ pos 377_736_739_200) × (315_569_520_000 ≤ calendar_second t) × (calendar_second t < 631_139_040_000)
 second_is t years = (omega (arith, ints), omega (arith, ints), omega (arith, ints))
 
 clock_is : (n : ℕ) → n % 86400 / 3600 * 3600 + n % 86400 / 60 % 60 * 60 + n % 86400 % 60 ≡ n % 86400
@@ -145,15 +145,15 @@ instant_value t days n clock h e c = omega (arith, ints)
 pub instant_spells : (t : ℤ) → IsInYears t → IsInstant (instant_text t) t
 instant_spells t years =
     let (second, low, high) = second_is t years in
-    let n = second_of t in
+    let n = calendar_second t in
     let day = n / 86400 in
     let f = found day (omega arith) (omega arith) in
-    let count = days_from_civil-day_count (pos (year_of day)) (month_of day) (place_of day) in
-    let days : days_from_civil (pos (year_of day)) (month_of day) (place_of day) +ℤ pos 4_371_953 ≡ pos day = omega (arith, ints, f.count) in
+    let count = days_from_civil-day_count (pos (year_of day)) (month_of day) (day_of_month day) in
+    let days : days_from_civil (pos (year_of day)) (month_of day) (day_of_month day) +ℤ pos 4_371_953 ≡ pos day = omega (arith, ints, f.count) in
     record {
       year = year_of day;
       month = month_of day;
-      day = place_of day;
+      day = day_of_month day;
       hour = n % 86400 / 3600;
       minute = n % 86400 / 60 % 60;
       second = n % 86400 % 60;
@@ -163,7 +163,7 @@ instant_spells t years =
       date = f.civil;
       clock = (omega arith, omega arith, omega arith);
       is_offset = inl (refl, refl);
-      value = instant_value t (days_from_civil (pos (year_of day)) (month_of day) (place_of day)) n _ second days (clock_is n);
+      value = instant_value t (days_from_civil (pos (year_of day)) (month_of day) (day_of_month day)) n _ second days (clock_is n);
       in_years = years;
     }
 

@@ -1,6 +1,8 @@
 -- What one word of a query says of time: an instant after RFC 3339, 5.6, and a span.
 use Rattle.std.specs.Prelude.{◌≡◌, ℕ, ◌+◌, ◌*◌, ◌/◌, ◌%◌, ◌^◌, ◌<◌, ◌⊎◌, Bool, if◌then◌else◌, List, [], ◌∷◌, ◌++◌, codes, ℤ, pos, neg_ℤ, ◌+ℤ◌, ◌-ℤ◌, ◌*ℤ◌}
 use Rattle.jiff_core.specs.Calendar.{IsBetween, IsCivilDate, days_from_civil}
+use Rattle.st_query.specs.declared.limits.TheConstants.{NUMBER_DIGITS}
+use Rattle.st_query.specs.declared.units.TheConstants.{MINUTE, HOUR, DAY}
 use Rattle.st_query.specs.Words.{IsNumber}
 
 -- a number below 100 in two digits
@@ -23,19 +25,19 @@ minute_text hour minute = two hour ++ codes ":" ++ two minute
 abbrev pub clock_text : ℕ → ℕ → ℕ → List ℕ
 clock_text hour minute second = minute_text hour minute ++ codes ":" ++ two second
 
--- `Z`, or the hours and minutes by which local time is ahead of UTC or behind it: so many seconds
+-- `Z`, or the hours and minutes by which local time is ahead of UTC or behind it, in seconds
 abbrev pub IsOffset : List ℕ → ℤ → Type 0
 IsOffset text seconds =
     ((text ≡ codes "Z") × (seconds ≡ pos 0))
     ⊎ ((hour minute : ℕ) × (hour < 24) × (minute < 60)
-    × (((text ≡ codes "+" ++ minute_text hour minute) × (seconds ≡ pos (hour * 3600 + minute * 60)))
-    ⊎ ((text ≡ codes "-" ++ minute_text hour minute) × (seconds ≡ neg_ℤ (pos (hour * 3600 + minute * 60))))))
+    × (((text ≡ codes "+" ++ minute_text hour minute) × (seconds ≡ pos (hour * HOUR + minute * MINUTE)))
+    ⊎ ((text ≡ codes "-" ++ minute_text hour minute) × (seconds ≡ neg_ℤ (pos (hour * HOUR + minute * MINUTE))))))
 
 -- the seconds since 1970 of the years 0000 to 9999 in UTC
 abbrev pub IsInYears : ℤ → Type 0
 IsInYears t = IsBetween (neg_ℤ (pos 62_167_219_200)) (pos 253_402_300_799) t
 
--- `YYYY-MM-DDThh:mm:ss` and an offset, of a date that the calendar has: so many seconds since 1970
+-- `YYYY-MM-DDThh:mm:ss` and an offset, of a date that the calendar has, in seconds since 1970
 pub record IsInstant (word : List ℕ) (t : ℤ) : Type 0 where
   pub year : ℕ
   pub month : ℕ
@@ -49,11 +51,11 @@ pub record IsInstant (word : List ℕ) (t : ℤ) : Type 0 where
   pub date : IsCivilDate (pos year) month day
   pub clock : (hour < 24) × (minute < 60) × (second < 60)
   pub is_offset : IsOffset zone offset
-  pub value : t ≡ ((days_from_civil (pos year) month day *ℤ pos 86400) +ℤ pos (hour * 3600 + minute * 60 + second)) -ℤ offset
+  pub value : t ≡ ((days_from_civil (pos year) month day *ℤ pos DAY) +ℤ pos (hour * HOUR + minute * MINUTE + second)) -ℤ offset
   pub in_years : IsInYears t
 
 -- one to ten digits below 2^32, and the unit, `m` for minutes or `h` for hours
 abbrev pub IsSpan : List ℕ → ℕ → Bool → Type 0
 IsSpan word count hours =
-    (digits : List ℕ) × (word ≡ digits ++ (if hours then codes "h" else codes "m")) × IsNumber 10 digits count
+    (digits : List ℕ) × (word ≡ digits ++ (if hours then codes "h" else codes "m")) × IsNumber NUMBER_DIGITS digits count
     × (count < 2 ^ 32)

@@ -1,6 +1,7 @@
 -- The tokens of a text: marks, words and stray bytes, with white space between them.
 use Rattle.std.specs.Prelude.{◌≡◌, ℕ, ◌<◌, Bool, ◌||◌, ◌&&◌, ◌==◌, nat_le, IsTrue, IsFalse, List, [], ◌∷◌, ◌++◌, length, take, codes, Option, Some, None, MatchOption, if◌then◌else◌, ⊤, ℤ, All, ◌⊎◌}
 use Rattle.std.specs.Str.{bytes_eq}
+use Rattle.st_query.specs.declared.limits.TheConstants.{NUMBER_DIGITS}
 use Rattle.st_query.specs.declared.addrs.Addr.{Addr}
 use Rattle.st_query.specs.declared.tokens.Token.TheVariants as token
 use Rattle.st_query.specs.declared.tokens.Token.{Token}
@@ -18,14 +19,16 @@ is_word_byte b =
     (nat_le 97 b && nat_le b 122) || (nat_le 65 b && nat_le b 90) || (nat_le 48 b && nat_le b 57)
     || b == 46 || b == 58 || b == 47 || b == 45 || b == 43
 
+-- white space alone, or nothing
 abbrev pub IsBlank : List ℕ → Type 0
 IsBlank text = All (λ b. IsTrue (is_space b)) text
 
--- no such byte comes first
+-- the text's first byte, if it has one, is none that passes
 abbrev pub EndsRun : (ℕ → Bool) → List ℕ → Type 0
 EndsRun p [] = ⊤
 EndsRun p (b ∷ bs) = IsFalse (p b)
 
+-- the text begins with the piece
 abbrev pub Begins : List ℕ → List ℕ → Type 0
 Begins text piece = take (length piece) text ≡ piece
 
@@ -55,13 +58,13 @@ keyword w =
     else (if bytes_eq w (codes "mpls") then Some (token.Key key.Mpls)
     else protocol_or_time w)))))))))
 
--- how many ones lead the address where it is ones followed by zeros, else none
+-- how many ones lead the address if it is ones followed by zeros, else none
 abbrev pub HasMask : Addr → Option ℕ → Type 0
 HasMask a m = MatchOption m ((n : ℕ) → IsMask a n → ⊥) (λ n. IsMask a n)
 
 -- the word is no number, address, net or time
 pub record IsNoValue (word : List ℕ) : Type 0 where
-  pub number : (n : ℕ) → IsNumber 10 word n → ⊥
+  pub number : (n : ℕ) → IsNumber NUMBER_DIGITS word n → ⊥
   pub address : (a : Addr) → IsAddress word a → ⊥
   pub net : (a : Addr) (n : ℕ) → IsNet word a n → ⊥
   pub instant : (t : ℤ) → IsInstant word t → ⊥
@@ -69,7 +72,7 @@ pub record IsNoValue (word : List ℕ) : Type 0 where
 
 -- the token of a word that the grammar doesn't name
 abbrev pub IsValue : List ℕ → Token → Type 0
-IsValue word (token.Number n) = IsNumber 10 word n
+IsValue word (token.Number n) = IsNumber NUMBER_DIGITS word n
 IsValue word (token.Address a m) = IsAddress word a × HasMask a m
 IsValue word (token.Net a n) = IsNet word a n
 IsValue word (token.Instant t) = IsInstant word t
@@ -77,6 +80,7 @@ IsValue word (token.Span n hours) = IsSpan word n hours
 IsValue word token.Other = IsNoValue word
 IsValue word _ = ⊥
 
+-- the word's token: the one that the grammar names, or else that of its value
 abbrev pub IsWord : List ℕ → Token → Type 0
 IsWord word t = MatchOption (keyword word) (IsValue word t) (λ k. t ≡ k)
 
@@ -86,7 +90,7 @@ IsStray text =
     (0 < length text) × EndsRun is_space text × EndsRun is_word_byte text × (Begins text (codes "(") → ⊥)
     × (Begins text (codes ")") → ⊥) × (Begins text (codes "&&") → ⊥) × (Begins text (codes "||") → ⊥)
 
--- the piece, before so much more text, is this token: a mark, a longest run of word bytes, or a
+-- the piece, before `more` of the text, is this token: a mark, a longest run of word bytes, or a
 -- single other byte
 abbrev pub IsPiece : Token → List ℕ → List ℕ → Type 0
 IsPiece t piece more =

@@ -21,7 +21,7 @@ pub enum QueryErr {
     /// A parenthesis that would be the 65th open one.
     #[error("depth at {place}")]
     Deep { place: usize },
-    /// The text has more than 4,096 bytes: so many.
+    /// The text has more than 4,096 bytes: this many.
     #[error("{len} bytes are over 4096")]
     Long { len: usize },
     /// There is no memory for the query.

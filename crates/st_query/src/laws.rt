@@ -3,7 +3,7 @@
 ghost use Rattle.st_query.specs.Laws.{OneSpelling, OneRefusal, NotBoth, HasReading, OneAnswer};
 
 use crate::lexer::next_token;
-use crate::parser::MOST_BYTES;
+use crate::limits::MAX_TEXT;
 
 /// No text spells two queries, none has two refusals, and none has both.
 pub fn one_reading()
@@ -17,7 +17,7 @@ pub fn one_reading()
 pub fn some_reading(text: &[u8])
     ensures { HasReading text.now }
 {
-    if text.len() > MOST_BYTES {
+    if text.len() > MAX_TEXT {
         return;
     }
     let mut at = 0;

@@ -2,14 +2,15 @@
 ghost use Rattle.std.specs.Prelude.{◌≡◌, ℕ, ◌+◌, ◌^◌, ◌≤◌, ◌<◌, ◌↔◌, IsTrue, length, drop};
 ghost use Rattle.std.specs.List.{prefix_len};
 ghost use Rattle.st_query.specs.Tokens.{is_space, is_word_byte, keyword, protocol_or_time, Begins, EndsRun, HasMask, IsWord};
-ghost use Rattle.st_query.specs.Lexing.{Next, Front};
+ghost use Rattle.st_query.specs.Lexer.{Next, FirstToken};
 
 use crate::addrs::Addr;
-use crate::times::{instant, span};
+use crate::limits::NUMBER_DIGITS;
+use crate::time_reader::{instant, span};
 use crate::tokens::{Keyword, Token};
-use crate::words::{address, mask_bits, net, number};
+use crate::word_reader::{address, mask_bits, net, number};
 
-/// A token of a text, with the places of its first byte and of the byte behind it.
+/// A token of a text, with the offsets of its first byte and of the byte after its last.
 #[derive(Clone, Copy)]
 pub struct Found {
     pub token: Token,
@@ -17,18 +18,21 @@ pub struct Found {
     pub end: usize,
 }
 
+/// Whether the byte is white space.
 fn is_space(byte: u8) -> bool
     ensures { result ≡ is_space byte }
 {
     byte == b' ' || byte == b'\t' || byte == b'\r' || byte == b'\n'
 }
 
+/// Whether the byte belongs to words.
 fn is_word_byte(byte: u8) -> bool
     ensures { result ≡ is_word_byte byte }
 {
     matches!(byte, b'a'..=b'z' | b'A'..=b'Z' | b'0'..=b'9' | b'.' | b':' | b'/' | b'-' | b'+')
 }
 
+/// How many bytes of white space come first.
 fn space_len(bytes: &[u8]) -> usize
     ensures bound { result ≤ length bytes.now }
     ensures value { result ≡ prefix_len is_space bytes.now }
@@ -40,6 +44,7 @@ fn space_len(bytes: &[u8]) -> usize
     n
 }
 
+/// How many bytes of words come first.
 fn word_len(bytes: &[u8]) -> usize
     ensures bound { result ≤ length bytes.now }
     ensures value { result ≡ prefix_len is_word_byte bytes.now }
@@ -51,6 +56,7 @@ fn word_len(bytes: &[u8]) -> usize
     n
 }
 
+/// Whether `rest` begins with the mark.
 fn begins(rest: &[u8], mark: &[u8]) -> bool
     ensures { IsTrue result ↔ Begins rest.now mark.now }
 {
@@ -126,7 +132,7 @@ fn word_token(word: &[u8]) -> Token
     if let Some(token) = keyword(word) {
         return token;
     }
-    if let Some(number) = number(10, word) {
+    if let Some(number) = number(NUMBER_DIGITS, word) {
         return Token::Number(number);
     }
     if let Some(addr) = address(word) {
@@ -150,7 +156,7 @@ fn word_token(word: &[u8]) -> Token
 /// The token that the text begins with, and how many bytes it has.
 fn token_at(rest: &[u8]) -> Option<(Token, usize)>
     requires { EndsRun is_space rest.now }
-    ensures { Front rest.now result }
+    ensures { FirstToken rest.now result }
 {
     if rest.is_empty() {
         return None;
@@ -174,7 +180,7 @@ fn token_at(rest: &[u8]) -> Option<(Token, usize)>
     Some((Token::Stray, 1))
 }
 
-/// The first token of `rest`, where `rest` begins at place `at` of the text.
+/// The first token of `rest`, which begins at offset `at` of the text.
 fn first_token(rest: &[u8], at: usize) -> Option<Found>
     requires { at + length rest.now < 2 ^ 63 }
     ensures { Next at rest.now result }
@@ -182,15 +188,15 @@ fn first_token(rest: &[u8], at: usize) -> Option<Found>
     let gap = space_len(rest);
     match token_at(&rest[gap..]) {
         None => None,
-        Some(front) => Some(Found {
-            token: front.0,
+        Some(first) => Some(Found {
+            token: first.0,
             start: at + gap,
-            end: at + gap + front.1,
+            end: at + gap + first.1,
         }),
     }
 }
 
-/// The first token of `text` from place `at` on.
+/// The first token of `text` from offset `at` on.
 pub fn next_token(text: &[u8], at: usize) -> Option<Found>
     requires { at ≤ length text.now }
     ensures { Next at (drop at text.now) result }

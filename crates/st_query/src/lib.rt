@@ -1,4 +1,4 @@
-//! The query language: a text is read as a query, printed again, and says which packets it matches.
+//! The query language: a text is read as a query, printed again, and tells which packets match it.
 //!
 //! A text is bytes, at most 4,096 of them, with at most 64 parentheses open at once. The language
 //! follows Stenographer's README, with limits and places of our own: docs/QUERY.md. A refusal has
@@ -17,6 +17,8 @@
 //! - A query's numbers are in their ranges, its nets have no host bits, and its printed form opens
 //!   at most 64 parentheses at once (`Query::node`).
 //! - A list of records has one answer to a query at most (`one_answer`).
+//! - The second of a moment, the net of an address and the key of an address are exact (`second_of`,
+//!   `network`, `addr_key`), for whoever looks a query up in an index.
 //!
 //! # What it leaves to others
 //!
@@ -24,33 +26,37 @@
 //!
 //! # Where to read
 //!
-//! `specs/Words.antt` and `specs/Times.antt` say what one word stands for, `specs/Tokens.antt` what
-//! a text's tokens are, and `specs/Grammar.antt` which tokens make a query. `specs/Spelling.antt`
-//! joins them: what a text spells and how one is refused. `specs/Meaning.antt` says what a query
-//! matches, `specs/Printing.antt` its printed form, and `specs/Answer.antt` what the answer over a
-//! list of records is. Then `parser`, `grammar`, `lexer`, `words`, `times`.
+//! `specs/Words.antt` and `specs/Times.antt` say what one word means, `specs/Tokens.antt` what a
+//! text's tokens are, and `specs/Grammar.antt` which tokens make a query. `specs/Spelling.antt` joins
+//! them: what a text spells and how one is refused. `specs/Meaning.antt` says what a query matches,
+//! `specs/PrintedForm.antt` its printed form, and `specs/Answer.antt` what the answer over a list of
+//! records is. A file of `specs/` with a module's name says what that module's calls ensure. Then
+//! `parser`, `automaton`, `lexer`, `matcher`.
 #![tactic(auto)]
 
 mod addrs;
+mod automaton;
 mod errors;
-mod grammar;
 mod laws;
 mod lexer;
-mod meaning;
+mod limits;
+mod matcher;
 mod nodes;
 mod parser;
 mod printer;
 #[cfg(test)]
 mod tests;
-mod times;
+mod time_reader;
 mod tokens;
-mod word_text;
-mod words;
+mod units;
+mod word_printer;
+mod word_reader;
 
 pub use addrs::Addr;
 pub use errors::QueryErr;
 pub use laws::{one_answer, one_reading, some_reading};
-pub use meaning::matches;
+pub use matcher::{addr_key, matches, second_of};
 pub use nodes::{Node, Query, When};
 pub use parser::parse;
 pub use printer::print;
+pub use word_reader::network;

@@ -7,7 +7,7 @@ use sqlite_items::Boxed;
 use std::alloc::{AllocError, Global};
 use std::marker::Model;
 
-/// A moment: a second since 1970, or so many hours or minutes before the clock's second.
+/// A moment: a second since 1970, or this many hours or minutes before the clock's whole second.
 #[derive(Clone, Copy)]
 pub enum When {
     At(i64),
@@ -29,8 +29,8 @@ pub enum Primitive {
 
 /// A query, or a part of one.
 ///
-/// `Net` has its first `bits` bits in `addr`, and zeros behind them. A `vlan` is below 2^12, an
-/// `mpls` label below 2^20.
+/// `Net` has its first `bits` bits in `addr`, and zeros after them. A `vlan` is below 2^12, an `mpls`
+/// label below 2^20.
 #[derive(Drop)]
 pub enum Node {
     And {

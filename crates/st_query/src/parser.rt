@@ -1,18 +1,17 @@
 //! A text as the query that it spells, or its refusal.
 ghost use Rattle.std.specs.Prelude.{◌≡◌, ◌≢◌, IfOk, IfErr};
 ghost use Rattle.st_query.specs.Spelling.{Spells, Refuses};
-ghost use Rattle.st_query.specs.Parsing.{error_at};
+ghost use Rattle.st_query.specs.Parser.{error_at};
 
 use crate::errors::QueryErr;
-use crate::grammar::{Kind, Place, Want, refusal, step};
+use crate::automaton::{Kind, Phase, Want, refusal, step};
 use crate::lexer::next_token;
+use crate::limits::MAX_TEXT;
 use crate::nodes::Query;
 use sqlite_items::Items;
 use std::alloc::Global;
 
-/// How many bytes a text may have.
-pub const MOST_BYTES: usize = 4096;
-
+/// The refusal of this kind, at this offset in bytes.
 fn error_at(kind: Kind, place: usize) -> QueryErr
     ensures { result ≡ error_at kind place }
 {
@@ -27,42 +26,42 @@ fn error_at(kind: Kind, place: usize) -> QueryErr
 
 /// The query that `text` spells, in time linear in its length.
 ///
-/// `Long` comes exactly where the text has more than 4,096 bytes, and has their number. Every other
-/// refusal but `NoMemory` is that of the first token which no further tokens make a query, or of the
-/// end of the text, by docs/QUERY.md, "Refusals".
+/// `Long` comes if and only if the text has more than `MAX_TEXT` bytes, and has their number. Every
+/// other refusal but `NoMemory` is that of the first token which no further tokens make a query, or
+/// of the end of the text: docs/QUERY.md, "Refusals".
 pub fn parse(alloc: Global, text: &[u8]) -> Result<Query, QueryErr>
     ensures spells { IfOk result (λ q. Spells text.now q) }
     ensures refuses { IfErr result (λ e. e ≢ QueryErr.NoMemory → Refuses text.now e) }
 {
-    if text.len() > MOST_BYTES {
+    if text.len() > MAX_TEXT {
         return Err(QueryErr::Long { len: text.len() });
     }
     let mut stack = Items::new(alloc);
-    let mut place = Place::Reading {
+    let mut phase = Phase::Reading {
         want: Want::Item,
-        left: None,
+        half: None,
     };
     let mut at = 0;
     'tokens: while let Some(found) = next_token(text, at) {
-        let kind = refusal(&place, Some(found.token));
-        match step(alloc, &mut stack, place, found.token) {
-            Ok(Some(next)) => place = next,
+        let kind = refusal(&phase, Some(found.token));
+        match step(alloc, &mut stack, phase, found.token) {
+            Ok(Some(next)) => phase = next,
             Ok(None) => return Err(error_at(kind, found.start)),
             Err(_) => return Err(QueryErr::NoMemory),
         }
         at = found.end;
     }
-    let kind = refusal(&place, None);
-    match place {
-        Place::Joined(node) => {
+    let kind = refusal(&phase, None);
+    match phase {
+        Phase::Joined(node) => {
             if stack.is_empty() {
                 return Ok(Query::of(node));
             }
             Err(error_at(kind, text.len()))
         }
-        Place::Reading {
+        Phase::Reading {
             want: _want,
-            left: _left,
+            half: _half,
         } => Err(error_at(kind, text.len())),
     }
 }

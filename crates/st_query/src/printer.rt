@@ -1,13 +1,14 @@
 //! A query as text.
 ghost use Rattle.std.specs.Prelude.{◌≡◌, ℕ, ◌++◌, ◌≤◌, IsFalse, OnOk, IfOk, List, length, codes, decimal};
-ghost use Rattle.st_query.specs.WordText.{address_text};
-ghost use Rattle.st_query.specs.Printing.{printed, wrapped, when_text};
+ghost use Rattle.st_query.specs.PrintedWords.{address_text};
+ghost use Rattle.st_query.specs.PrintedForm.{printed, wrapped, when_text};
 ghost use Rattle.st_query.specs.Spelling.{Spells};
 ghost use Rattle.st_query.specs.Trees.{tree, is_joined, InRange, FitsWhen};
 
 use crate::addrs::Addr;
+use crate::limits::MAX_TEXT;
 use crate::nodes::{Node, Query, When};
-use crate::word_text::{put_address, put_instant};
+use crate::word_printer::{put_address, put_instant};
 use st_base::{NoMemory, Octets};
 use std::alloc::{AllocError, Global};
 
@@ -144,7 +145,7 @@ fn put_side(alloc: Global, node: &Node, out: &mut Vec<u8>) -> Result<(), AllocEr
 /// Where it has at most 4,096 bytes it spells the query again.
 pub fn print(alloc: Global, query: &Query) -> Result<Octets, NoMemory>
     ensures exact { IfOk result (λ p. p ≡ printed (tree query.now)) }
-    ensures spells { IfOk result (λ p. length p ≤ 4096 → Spells p query.now) }
+    ensures spells { IfOk result (λ p. length p ≤ MAX_TEXT → Spells p query.now) }
 {
     let mut out = Vec::new(alloc);
     match put_node(alloc, query.node(), &mut out) {

@@ -1,6 +1,6 @@
 -- The keys that an iterator has still to give.
 use Rattle.std.proofs.Common.{◌≡◌, ℕ, zero, suc, ◌+◌, List, [], ◌∷◌, drop, Some, None, slice_get, refl, ap, ◌∙◌, add-one}
-use Rattle.st_walk.specs.declared.header.Place.{Place}
+use Rattle.st_walk.specs.declared.header.Spot.{Spot}
 use Rattle.st_walk.specs.declared.text.Key.{Key}
 use Rattle.st_walk.specs.declared.iter.Keys.{Keys}
 use Rattle.st_walk.specs.Layers.{layer_keys}
@@ -19,20 +19,20 @@ drop_none (y ∷ ys) zero e = cc
 drop_none (y ∷ ys) (suc i) e = drop_none ys i e
 
 -- a key of the layer is the first that is left
-pub first_left : (s : Keys) (k : Key) → slice_get (layer_keys s.frame.now s.place.at s.place.layer) s.given ≡ Some k → keys_left s ≡ k ∷ keys_left (record s { given = s.given + 1 })
+pub first_left : (s : Keys) (k : Key) → slice_get (layer_keys s.frame.now s.spot.at s.spot.layer) s.given ≡ Some k → keys_left s ≡ k ∷ keys_left (record s { given = s.given + 1 })
 unfolding keys_left
-first_left s k e = rw (drop_some (layer_keys s.frame.now s.place.at s.place.layer) s.given k e, add-one) refl
+first_left s k e = rw (drop_some (layer_keys s.frame.now s.spot.at s.spot.layer) s.given k e, add-one) refl
 
 -- where the layer has no more, those of what follows are left
-pub passed : (s : Keys) → slice_get (layer_keys s.frame.now s.place.at s.place.layer) s.given ≡ None → keys_left s ≡ walk_keys s.frame.now (following s.frame.now s.place.at s.place.layer)
+pub passed : (s : Keys) → slice_get (layer_keys s.frame.now s.spot.at s.spot.layer) s.given ≡ None → keys_left s ≡ walk_keys s.frame.now (following s.frame.now s.spot.at s.spot.layer)
 unfolding keys_left
-passed s e = rw (drop_none (layer_keys s.frame.now s.place.at s.place.layer) s.given e) refl
+passed s e = rw (drop_none (layer_keys s.frame.now s.spot.at s.spot.layer) s.given e) refl
 
-pub moved : (s : Keys) (q : Place) → slice_get (layer_keys s.frame.now s.place.at s.place.layer) s.given ≡ None → following s.frame.now s.place.at s.place.layer ≡ Some q → keys_left s ≡ keys_left (record s { place = q; given = 0 })
+pub moved : (s : Keys) (q : Spot) → slice_get (layer_keys s.frame.now s.spot.at s.spot.layer) s.given ≡ None → following s.frame.now s.spot.at s.spot.layer ≡ Some q → keys_left s ≡ keys_left (record s { spot = q; given = 0 })
 unfolding keys_left
 moved s q e f = passed s e ∙ (ap (λ x. walk_keys s.frame.now x) f ∙ walk_unroll s.frame.now q)
 
 -- and none are left at the end of the walk
-pub finished : (s : Keys) → slice_get (layer_keys s.frame.now s.place.at s.place.layer) s.given ≡ None → following s.frame.now s.place.at s.place.layer ≡ None → keys_left s ≡ []
+pub finished : (s : Keys) → slice_get (layer_keys s.frame.now s.spot.at s.spot.layer) s.given ≡ None → following s.frame.now s.spot.at s.spot.layer ≡ None → keys_left s ≡ []
 unfolding walk_keys
 finished s e f = passed s e ∙ ap (λ x. walk_keys s.frame.now x) f

@@ -6,17 +6,17 @@ ghost use Rattle.st_walk.specs.Walk.{Carries};
 ghost use Rattle.st_walk.specs.declared.header.Layer.TheVariants.{Next, Label, Ip4, Ip6, Ports};
 
 use crate::fields::{holds, u16_at, u32_at, u128_at};
-use crate::header::{Layer, Place, is_ip4, is_ip6, is_tag};
+use crate::header::{Layer, Spot, is_ip4, is_ip6, is_tag};
 use crate::text::Key;
 
 /// The key of this number, from 0, among those that the layer carries.
 #[inline(always)]
-pub fn key_at(frame: &[u8], place: Place, i: usize) -> Option<Key>
-    ensures key { slice_get (layer_keys frame.now place.at place.layer) i ≡ result }
+pub fn key_at(frame: &[u8], spot: Spot, i: usize) -> Option<Key>
+    ensures key { slice_get (layer_keys frame.now spot.at spot.layer) i ≡ result }
     ensures few { OnSome result (i < 3) }
 {
-    let at = place.at;
-    match place.layer {
+    let at = spot.at;
+    match spot.layer {
         Layer::Ether => None,
         Layer::Next(kind) => tag_key(frame, at, kind, i),
         Layer::Label => label_key(frame, at, i),
@@ -128,11 +128,11 @@ fn label(frame: &[u8], at: usize) -> u32
 
 /// Whether the layer carries the key.
 #[inline(always)]
-pub fn carries(frame: &[u8], place: Place, key: &Key) -> bool
-    ensures { IsTrue result ↔ Carries frame.now place.at place.layer key.now }
+pub fn carries(frame: &[u8], spot: Spot, key: &Key) -> bool
+    ensures { IsTrue result ↔ Carries frame.now spot.at spot.layer key.now }
 {
-    let at = place.at;
-    match place.layer {
+    let at = spot.at;
+    match spot.layer {
         Layer::Ether => false,
         Layer::Next(kind) => tag_carries(frame, at, kind, key),
         Layer::Label => label_carries(frame, at, key),

@@ -3,7 +3,7 @@
 ghost use Rattle.std.specs.Prelude.{◌≡◌, ◌+◌, ◌≤◌, length, IsTrue, IfSome, is_some, if◌then◌else◌};
 ghost use Rattle.st_walk.specs.Layers.{holds, is_tag, is_labelled, is_bottom, is_version, is_ip4, is_ip6, is_first, has_ports, is_extension, extension_size, is_later, field};
 ghost use Rattle.st_walk.specs.declared.header.Layer.TheVariants.{Ether, Next, Label, Ip4, Ip6, Chain, Ports};
-ghost use Rattle.st_walk.specs.Listing.{following, place};
+ghost use Rattle.st_walk.specs.Listing.{following, spot_at};
 
 use crate::fields::{holds, u16_at};
 use crate::numbers::{
@@ -36,18 +36,18 @@ pub enum Layer {
 
 /// A layer and the offset in the frame, in bytes, at which it begins.
 #[derive(Clone, Copy, Debug)]
-pub struct Place {
+pub struct Spot {
     pub at: usize,
     pub layer: Layer,
 }
 
 /// The layer that this one leads to, or `None` where the walk ends.
 #[inline(always)]
-pub fn following(frame: &[u8], place: Place) -> Option<Place>
-    ensures { result ≡ following frame.now place.at place.layer }
+pub fn following(frame: &[u8], spot: Spot) -> Option<Spot>
+    ensures { result ≡ following frame.now spot.at spot.layer }
 {
-    let at = place.at;
-    match place.layer {
+    let at = spot.at;
+    match spot.layer {
         Layer::Ether => after_ether(frame, at),
         Layer::Next(kind) => after_kind(frame, at, kind),
         Layer::Label => after_label(frame, at),
@@ -61,14 +61,14 @@ pub fn following(frame: &[u8], place: Place) -> Option<Place>
 }
 
 #[inline(always)]
-fn leads_to(at: usize, layer: Layer) -> Option<Place>
-    ensures { result ≡ place at layer }
+fn leads_to(at: usize, layer: Layer) -> Option<Spot>
+    ensures { result ≡ spot_at at layer }
 {
-    Some(Place { at, layer })
+    Some(Spot { at, layer })
 }
 
 #[inline]
-fn after_ether(frame: &[u8], at: usize) -> Option<Place>
+fn after_ether(frame: &[u8], at: usize) -> Option<Spot>
     ensures { result ≡ following frame.now at Ether }
 {
     if !holds(frame, at, 14) {
@@ -79,7 +79,7 @@ fn after_ether(frame: &[u8], at: usize) -> Option<Place>
 }
 
 #[inline]
-fn after_kind(frame: &[u8], at: usize, kind: u16) -> Option<Place>
+fn after_kind(frame: &[u8], at: usize, kind: u16) -> Option<Spot>
     ensures { result ≡ following frame.now at (Next kind) }
 {
     if is_tag(kind) {
@@ -96,9 +96,9 @@ fn after_kind(frame: &[u8], at: usize, kind: u16) -> Option<Place>
 }
 
 #[inline]
-fn after_tag(frame: &[u8], at: usize) -> Option<Place>
+fn after_tag(frame: &[u8], at: usize) -> Option<Spot>
     ensures { result ≡ (if holds frame.now at 4
-        then place (at + 4) (Next (field 2 (at + 2) frame.now)) else None) }
+        then spot_at (at + 4) (Next (field 2 (at + 2) frame.now)) else None) }
 {
     if !holds(frame, at, 4) {
         return None;
@@ -108,7 +108,7 @@ fn after_tag(frame: &[u8], at: usize) -> Option<Place>
 }
 
 #[inline]
-fn after_label(frame: &[u8], at: usize) -> Option<Place>
+fn after_label(frame: &[u8], at: usize) -> Option<Spot>
     ensures { result ≡ following frame.now at Label }
 {
     if !holds(frame, at, 4) {
@@ -128,7 +128,7 @@ fn after_label(frame: &[u8], at: usize) -> Option<Place>
 }
 
 #[inline]
-fn after_ip4(frame: &[u8], at: usize) -> Option<Place>
+fn after_ip4(frame: &[u8], at: usize) -> Option<Spot>
     ensures { result ≡ following frame.now at Ip4 }
 {
     if !is_ip4(frame, at) || !is_first(frame, at) || !has_ports(frame[at + 9]) {
@@ -139,7 +139,7 @@ fn after_ip4(frame: &[u8], at: usize) -> Option<Place>
 }
 
 #[inline]
-fn after_ip6(frame: &[u8], at: usize) -> Option<Place>
+fn after_ip6(frame: &[u8], at: usize) -> Option<Spot>
     ensures { result ≡ following frame.now at Ip6 }
 {
     if !is_ip6(frame, at) {
@@ -149,7 +149,7 @@ fn after_ip6(frame: &[u8], at: usize) -> Option<Place>
 }
 
 #[inline]
-fn after_extension(frame: &[u8], at: usize, number: u8) -> Option<Place>
+fn after_extension(frame: &[u8], at: usize, number: u8) -> Option<Spot>
     ensures { result ≡ following frame.now at (Chain number) }
 {
     let Some(end) = extension_end(frame, at, number) else {
@@ -163,8 +163,8 @@ fn after_extension(frame: &[u8], at: usize, number: u8) -> Option<Place>
 }
 
 #[inline]
-fn after_last(at: usize, number: u8) -> Option<Place>
-    ensures { result ≡ (if has_ports number then place at Ports else None) }
+fn after_last(at: usize, number: u8) -> Option<Spot>
+    ensures { result ≡ (if has_ports number then spot_at at Ports else None) }
 {
     if has_ports(number) {
         leads_to(at, Layer::Ports)

@@ -3,14 +3,14 @@
 ghost use Rattle.std.specs.Prelude.{◌≡◌};
 
 use crate::carried::key_at;
-use crate::header::{Layer, Place, following};
+use crate::header::{Layer, Spot, following};
 use crate::text::Key;
 
 /// The keys that a frame's walk has still to give, in walk order.
 #[derive(Drop)]
 pub struct Keys<'a> {
     frame: &'a [u8],
-    place: Place,
+    spot: Spot,
     given: usize,
 }
 
@@ -23,7 +23,7 @@ impl<'a> Keys<'a> {
     {
         Keys {
             frame,
-            place: Place {
+            spot: Spot {
                 at: 0,
                 layer: Layer::Ether,
             },
@@ -44,14 +44,14 @@ impl<'a> Iterator for Keys<'a> {
 
     fn next(&mut self) -> Option<Key> {
         'layers: loop {
-            if let Some(key) = key_at(self.frame, self.place, self.given) {
+            if let Some(key) = key_at(self.frame, self.spot, self.given) {
                 self.given += 1;
                 return Some(key);
             }
-            let Some(next) = following(self.frame, self.place) else {
+            let Some(next) = following(self.frame, self.spot) else {
                 return None;
             };
-            self.place = next;
+            self.spot = next;
             self.given = 0;
         }
     }

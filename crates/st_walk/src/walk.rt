@@ -7,7 +7,7 @@ ghost use Rattle.st_walk.specs.Walk.{FrameHas, InOrder};
 ghost use Rattle.st_walk.specs.Listing.{keys_left};
 
 use crate::carried::carries;
-use crate::header::{Layer, Place, following};
+use crate::header::{Layer, Spot, following};
 use crate::iter::Keys;
 use crate::text::Key;
 
@@ -18,18 +18,18 @@ pub fn has_key(frame: &[u8], key: &Key) -> bool
     ensures held { IsTrue result ↔ FrameHas frame.now key.now }
     ensures second { (s : ℕ) → key.now ≡ Key.Second s → IsFalse result }
 {
-    let mut place = Place {
+    let mut spot = Spot {
         at: 0,
         layer: Layer::Ether,
     };
     'layers: loop {
-        if carries(frame, place, key) {
+        if carries(frame, spot, key) {
             return true;
         }
-        let Some(next) = following(frame, place) else {
+        let Some(next) = following(frame, spot) else {
             return false;
         };
-        place = next;
+        spot = next;
     }
 }
 

@@ -8,12 +8,12 @@ use Rattle.st_pcap.specs.declared.errors.PcapErr.{PcapErr}
 use Rattle.st_pcap.specs.declared.errors.PcapErr.TheVariants.{TooMuch}
 use Rattle.st_pcap.specs.declared.forms.Order.{Order}
 use Rattle.st_pcap.specs.declared.forms.Unit as unit
-use Rattle.st_pcap.specs.declared.forms.TheConstants.{MAX_INPUT}
+use Rattle.st_pcap.specs.declared.numbers.TheConstants.{MAX_INPUT}
 use Rattle.st_pcap.specs.declared.reader.Phase.{Phase}
 use Rattle.st_pcap.specs.declared.reader.Phase.TheVariants.{Fresh, Open, Stopped}
 use Rattle.st_pcap.specs.Heads.{refusal_of_record}
 use Rattle.st_pcap.specs.Input.{Input, Whole, Refused, end_at}
-use Rattle.st_pcap.specs.Reading.{StandsIn, IsGoing}
+use Rattle.st_pcap.specs.Reading.{HasReadIn, IsGoing}
 use Rattle.st_pcap.proofs.Spellings.{length-Records}
 
 no_refusal : (o : Option PcapErr) → option_map Refused o ≡ Some Whole → ⊥
@@ -38,7 +38,7 @@ none_left [] e = refl
 none_left (x ∷ xs) e = absurd (omega (arith, e))
 
 pub at_end : (phase : Phase) (taken number : ℕ) (bytes : List ℕ) (rs : List Rec) (rest : List ℕ)
-    → IsGoing phase → StandsIn phase taken number bytes rs rest → Input bytes rs Whole → rest ≡ []
+    → IsGoing phase → HasReadIn phase taken number bytes rs rest → Input bytes rs Whole → rest ≡ []
 at_end Fresh taken number bytes rs rest going stands input = absurd going
 at_end (Stopped e) taken number bytes rs rest going stands input = absurd going
 at_end (Open form) taken number bytes rs rest going stands (inl (e, refusal, none, end)) = let bad : Whole ≡ Refused e = end in absurd (cc)

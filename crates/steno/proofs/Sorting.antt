@@ -27,13 +27,13 @@ sorted_answer q now rs xs ys h sorted stable =
     let found = ordered ys places.ps (in_order ys sorted) places.climbs same in (
       found.qs,
       record {
-        rises = found.rises;
+        ascending = found.ascending;
         members = λ p. (
           λ c.
               let t = places.there p (found.there p c) in
-              let at : t.0 ≡ p.place = omega (arith, t.1) in
+              let at : t.0 ≡ p.number = omega (arith, t.1) in
               (subst (λ n. slice_get rs n ≡ Some p.packet) at t.2, t.3),
-          λ m. found.back p (places.back p p.place (omega arith) m.0 m.1),
+          λ m. found.back p (places.back p p.number (omega arith) m.0 m.1),
         );
       },
       sym found.same,

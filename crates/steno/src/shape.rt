@@ -1,10 +1,10 @@
 //! The form of an answer, as its plan asks for it.
 
 ghost use Rattle.std.specs.Prelude.{◌≡◌};
-ghost use Rattle.steno.specs.Plans.{unit_of, shape_of};
+ghost use Rattle.steno.specs.Plans.{shape_of};
 
 use st_pcap::Unit;
-use st_plan::{Once, Plan, Precision};
+use st_plan::{Once, Plan};
 
 /// The form of an answer: the unit of its times, and the most packets and captured bytes that it
 /// may have.
@@ -29,9 +29,9 @@ pub fn shape_of(once: &Once<'_>) -> Shape
     ensures { result ≡ shape_of once.now }
 {
     Shape {
-        unit: unit_of(once.precision),
-        packets: once.packets,
-        bytes: once.bytes,
+        unit: once.unit,
+        packets: once.limits.packets,
+        bytes: once.limits.bytes,
     }
 }
 
@@ -40,13 +40,4 @@ pub fn query_of<'a>(once: &Once<'a>) -> &'a str
     ensures { result.now ≡ once.now.query }
 {
     once.query
-}
-
-fn unit_of(precision: Precision) -> Unit
-    ensures { result ≡ unit_of precision }
-{
-    match precision {
-        Precision::Micro => Unit::Micro,
-        Precision::Nano => Unit::Nano,
-    }
 }

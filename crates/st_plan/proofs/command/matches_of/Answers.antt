@@ -1,6 +1,6 @@
 use Rattle.std.proofs.Common.{◌≢◌, ap, sym, ◌∙◌, map, string_bytes}
 use Rattle.std.proofs.lemmas.Result.{IfOk-weaker}
-use Rattle.clap.specs.Words.{App, damage_view, matches_of, takes, is_simple, is_simple_and_free}
+use Rattle.clap.specs.Words.{App, fault_of, matches_of, takes, is_simple, is_simple_and_free}
 use Rattle.clap.specs.declared.error.kind.ErrorKind.TheVariants.{OutOfMemory}
 use Rattle.st_plan.specs.Found.{IsNoLine}
 use Rattle.st_plan.proofs.Finish.{found, line_taken, none_found}
@@ -13,7 +13,7 @@ returns-in-Ok-try_get_matches_from c =
     let words = map string_bytes c.args.words.now in
     let matches = c.in-Ok-try_get_matches_from.ensures.matches (ap is_simple app) in
     let kinds = c.in-Ok-try_get_matches_from.ensures.kinds (ap is_simple_and_free app) in
-    found words _ (all_text c.args.words.now) (ap (λ (a : App). damage_view a words) (sym app) ∙ kinds) (matches.0 ∙ ap (λ (a : App). matches_of a words) app)
+    found words _ (all_text c.args.words.now) (ap (λ (a : App). fault_of a words) (sym app) ∙ kinds) (matches.0 ∙ ap (λ (a : App). matches_of a words) app)
 
 pub returns-in-Err-try_get_matches_from : goal.returns-in-Err-try_get_matches_from
 returns-in-Err-try_get_matches_from c =

@@ -1,4 +1,4 @@
-use Rattle.st_query.proofs.Risen.{one_answer}
+use Rattle.st_query.proofs.AnswerOrder.{one_answer}
 use Rattle.st_query.proofs.laws.one_answer.Goals as goal
 
 pub returns : goal.returns

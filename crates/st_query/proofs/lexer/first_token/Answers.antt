@@ -22,11 +22,11 @@ pub returns-in-Some : goal.returns-in-Some
 returns-in-Some c =
     let text = c.args.rest.now in
     let gap = c.space_len-gap.result in
-    let len = c.in-Some.front.1 in
+    let len = c.in-Some.first.1 in
     let value = c.space_len-gap.ensures.value in
     let fits = c.space_len-gap.ensures.bound in
-    let front = rw (take_rest text gap) at c.in-Some.ensures in
-    let inside = front.1 in (
+    let first = rw (take_rest text gap) at c.in-Some.ensures in
+    let inside = first.1 in (
       take gap text,
       take len (drop gap text),
       drop len (drop gap text),
@@ -34,5 +34,5 @@ returns-in-Some c =
       subst (λ (n : ℕ). All (λ b. IsTrue (is_space b)) (take n text)) (sym value) (run_all is_space text),
       grind (arith, common_steps),
       grind (arith, common_steps),
-      front.2,
+      first.2,
     )

@@ -2,7 +2,7 @@ use Rattle.std.proofs.Common.{◌≡◌, ◌++◌, List, ℕ, ap, sym, ◌∙◌
 use Rattle.st_query.specs.declared.nodes.Node.{Node}
 use Rattle.st_query.specs.Trees.{tree}
 use Rattle.st_query.specs.Spelling.{IsSpelled}
-use Rattle.st_query.specs.Printing.{printed}
+use Rattle.st_query.specs.PrintedForm.{printed}
 use Rattle.st_query.proofs.Printed.{printed_spells}
 use Rattle.st_query.proofs.printer.print.Goals as goal
 

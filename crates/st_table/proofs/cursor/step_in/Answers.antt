@@ -32,7 +32,7 @@ steps-preserved g c =
     let here = c.steps.invariant.same in
     let on = c.in-Ok.ensures.same in
     record {
-      later = let a = c.steps.invariant.later in let b = c.in-Ok.ensures.cause.later in omega arith;
+      still = c.in-Ok.ensures.cause.still ∙ c.steps.invariant.still;
       same = record { content = on.content ∙ here.content; extent = on.extent ∙ here.extent; beside = on.beside ∙ here.beside };
       passes =
           let n = c.in_default.ensures in

@@ -1,6 +1,6 @@
 use Rattle.std.proofs.Common.{◌≡◌, [], ◌∷◌, ◌++◌, Ok, Some, refl, sym, ap, subst, ◌∙◌, inl, inr, arith}
 use Rattle.st_pcap.specs.declared.reader.Phase.TheVariants.{Fresh, Stopped}
-use Rattle.st_pcap.specs.Reading.{Progress, Stands, Gives, IsGoing}
+use Rattle.st_pcap.specs.Reading.{PcapReaderView, HasRead, Gives, IsGoing}
 use Rattle.st_query.specs.Meaning.{Matches}
 use Rattle.steno.proofs.AtEnd.{at_end}
 use Rattle.steno.proofs.Selecting.{selects-more}
@@ -8,8 +8,8 @@ use Rattle.steno.proofs.input.gather.Goals as goal
 
 pub records-init : goal.records-init
 records-init g c = record {
-  kept = λ bytes told. (bytes, [], told, subst (λ p. Stands p bytes [] bytes) (sym c.new-reader.ensures) (refl, refl, refl, refl), c.new-kept.ensures.items);
-  going = λ e h. let bad : Fresh ≡ Stopped e = ap (λ (p : Progress). p.phase) (sym c.new-reader.ensures) ∙ h in cc;
+  kept = λ bytes told. (bytes, [], told, subst (λ p. HasRead p bytes [] bytes) (sym c.new-reader.ensures) (refl, refl, refl, refl), c.new-kept.ensures.items);
+  going = λ e h. let bad : Fresh ≡ Stopped e = ap (λ (p : PcapReaderView). p.phase) (sym c.new-reader.ensures) ∙ h in cc;
   later = omega arith;
   rest = refl;
 }

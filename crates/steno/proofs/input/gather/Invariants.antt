@@ -2,7 +2,7 @@ use Rattle.std.proofs.Common.{◌≡◌, ◌≤◌, ◌-◌, ◌^◌, ℕ, List,
 use Rattle.st_base.specs.Records.{Rec}
 use Rattle.st_pcap.specs.declared.errors.PcapErr.{PcapErr}
 use Rattle.st_pcap.specs.declared.reader.Phase.TheVariants.{Stopped}
-use Rattle.st_pcap.specs.Reading.{Stands}
+use Rattle.st_pcap.specs.Reading.{HasRead}
 use Rattle.st_query.specs.Meaning.{Matches}
 use Rattle.steno.specs.Selects.{Selects}
 use Rattle.steno.proofs.input.gather.Given as goal
@@ -10,7 +10,7 @@ use Rattle.steno.proofs.input.gather.Given as goal
 abbrev pub invariant-records : goal.invariant-records
 invariant-records g l = record {
   kept : (bytes : List ℕ) → g.I.Source.left l.fn.input ≡ Some bytes
-      → (rest : List ℕ) × (rs : List Rec) × (g.I.Source.left l.input ≡ Some rest) × Stands l.reader bytes rs rest × Selects (Matches l.fn.query l.now) rs l.kept.items;
+      → (rest : List ℕ) × (rs : List Rec) × (g.I.Source.left l.input ≡ Some rest) × HasRead l.reader bytes rs rest × Selects (Matches l.fn.query l.now) rs l.kept.items;
   going : (e : PcapErr) → l.reader.phase ≡ Stopped e → ⊥;
   later : g.I.Source.faults l.fn.input ≤ g.I.Source.faults l.input;
   rest : g.I.Source.beside l.input ≡ g.I.Source.beside l.fn.input;

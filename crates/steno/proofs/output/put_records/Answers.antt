@@ -15,6 +15,6 @@ packets-preserved g c = record {
   bytes =
       wrote-more (record_text c.args.unit) c.args.packets.now c.packets.packet-index c.packet-item.result _ _ _ (omega arith) c.packet-item.is
       c.packets.invariant.bytes (subst (λ r. Appends (g.O.Sink.written c.packets.out) (g.O.Sink.written c.put_record.new.sink) (record_text c.args.unit r)) c.lend.ensures.same c.in-Ok.ensures.bytes);
-  later = omega (arith, c.packets.invariant.later, c.in-Ok.ensures.cause.later);
+  still = c.in-Ok.ensures.cause.still ∙ c.packets.invariant.still;
   rest = c.in-Ok.ensures.rest ∙ c.packets.invariant.rest;
 }

@@ -19,7 +19,7 @@ returns-in_default-following-clause-steps c =
     let e : keys_left c.layers.self ≡ [] = finished c.layers.self (cc) (cc) in (sym c.layers.invariant ∙ e, e)
 
 pub layers-smaller : goal.layers-smaller
-layers-smaller c = falls c.layers.self.frame.now c.layers.self.place.at c.layers.self.place.layer c.in-Some-following.next (cc)
+layers-smaller c = falls c.layers.self.frame.now c.layers.self.spot.at c.layers.self.spot.layer c.in-Some-following.next (cc)
 
 pub layers-preserved : goal.layers-preserved
 layers-preserved c = sym (moved c.layers.self c.in-Some-following.next (cc) (cc)) ∙ c.layers.invariant

@@ -7,4 +7,4 @@ abbrev pub invariant-layers : goal.invariant-layers
 invariant-layers l = keys_left l.self ≡ keys_left l.initial.self
 
 abbrev pub decreases-layers : goal.decreases-layers
-decreases-layers l = steps_left l.self.frame.now l.self.place.at l.self.place.layer
+decreases-layers l = steps_left l.self.frame.now l.self.spot.at l.self.spot.layer

@@ -1,6 +1,0 @@
-use Rattle.std.proofs.Common.{◌≡◌, ◌++◌, take}
-use Rattle.st_query.specs.WordText.{colon_groups}
-use Rattle.st_query.proofs.word_text.put_colon_groups.Given as goal
-
-abbrev pub invariant-loop-group : goal.invariant-loop-group
-invariant-loop-group l = l.out.items ≡ l.fn.out.items ++ colon_groups (take l.group-index l.groups)

@@ -1,9 +1,0 @@
-use Rattle.std.proofs.Common.{◌≡◌, take}
-use Rattle.std.specs.Str.Parse.{AllDigits, digits_value}
-use Rattle.st_query.proofs.words.number.Given as goal
-
-abbrev pub invariant-loop-byte : goal.invariant-loop-byte
-invariant-loop-byte l = record {
-  value : l.value ≡ digits_value 10 (take l.byte-index l.word);
-  digits : AllDigits 10 (take l.byte-index l.word);
-}
