@@ -1,5 +1,5 @@
 -- What stepping along the rows of a table between two keys gives, by `cursor`.
-use Rattle.std.specs.Prelude.{ℕ, ◌+◌, List, [], ◌∷◌, ◌++◌, length, ◌≡◌, ◌≤◌, All, Option, Some, None, take, drop, Result, Ok, Err, ◌⊎◌, false}
+use Rattle.std.specs.Prelude.{◌-◌, ◌*◌, ◌<◌, max, IfOk, OnSome, ℕ, ◌+◌, List, [], ◌∷◌, ◌++◌, length, ◌≡◌, ◌≤◌, All, Option, Some, None, take, drop, Result, Ok, Err, ◌⊎◌, false}
 use Rattle.st_tblock.specs.Block.{RowView, is_before}
 use Rattle.st_tblock.specs.Handles.{IsHandle}
 use Rattle.st_tblock.specs.declared.handle.Handle.{Handle}
@@ -17,6 +17,27 @@ pub record CursorView : Type 0 where
   pub high : List ℕ
   pub rows : List RowView
   pub next : ℕ
+
+-- how many rows a reading can still give at most, over an index of this many entries and a file of
+-- this many bytes: no block has more rows than the file has bytes
+abbrev pub most_left : ℕ → ℕ → CursorView → ℕ
+most_left count extent c = (count - c.next) * (extent + 1) + length c.rows
+
+-- how many blocks a step read: one for each index entry that it passed, and the one that was refused
+abbrev pub blocks_read : {T E : Type 0} → CursorView → CursorView → Result T E → ℕ
+blocks_read old new (Ok x) = new.next - old.next
+blocks_read old new (Err e) = new.next - old.next + 1
+
+-- what a step is over any file: a row at hand is given and nothing is read; else the next index entry
+-- goes on, up to their number, with one read for each block, and no more rows are at hand then than
+-- the file has bytes. Each row that is given leaves fewer to come.
+pub record Advances {E : Type 0} (count extent before now : ℕ) (old new : CursorView) (result : Result (Option RowView) E) : Type 0 where
+  pub next : old.next ≤ new.next
+  pub within : new.next ≤ max old.next count
+  pub rows : length new.rows ≤ max (length old.rows) extent
+  pub reads : now ≤ before + blocks_read old new result
+  pub taken : (r : RowView) (rows : List RowView) → old.rows ≡ r ∷ rows → (new.rows ≡ rows) × (new.next ≡ old.next)
+  pub fewer : IfOk result (λ o. OnSome o (most_left count extent new < most_left count extent old))
 
 -- before the first row
 abbrev pub unread : List ℕ → List ℕ → ℕ → CursorView

@@ -169,7 +169,8 @@ fn keep(
     low: &[u8],
     high: &[u8],
 ) -> Result<(), NoMemory>
-    ensures { OnOk result (kept.new.items ≡ kept.old.items ++ in_range low.now high.now ((key.now, value.now) ∷ [])) }
+    ensures rows { OnOk result (kept.new.items ≡ kept.old.items ++ in_range low.now high.now ((key.now, value.now) ∷ [])) }
+    ensures one { OnOk result (length kept.new.items ≤ length kept.old.items + 1) }
 {
     if high.cmp(key).is_lt() || key.cmp(low).is_lt() {
         return Ok(());
@@ -198,6 +199,7 @@ pub fn rows_in(
     requires { base + length block.now < 2 ^ 64 }
     ensures rows { MatchResult result (λ kept. KeepsRange (lies_in bounds.now) block.now low.now high.now kept.items)
         (λ e. RefusesBlock (lies_in bounds.now) base block.now e) }
+    ensures few { IfOk result (λ kept. length kept.items ≤ length block.now) }
     ensures error { IfErr result (λ e. e ≢ TableErr.ReadFault) }
 {
     let mut cursor = match EntryCursor::new(block, base) {

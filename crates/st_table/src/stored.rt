@@ -107,6 +107,7 @@ pub fn read_block<R: Reader>(
     ensures block { (bytes : List ℕ) → R.content file.old ≡ Some bytes
         → ReadsBlock (length bytes - 48) bytes handle block.new.items result }
     ensures fits { OnOk result (handle.offset + vec_len block.new < 2 ^ 64) }
+    ensures within { OnOk result (vec_len block.new ≤ R.extent file.old) }
     ensures cause { HasCauseOf TableErr.ReadFault (R.faults file.old) (R.faults file.new) result }
     ensures reads { R.reads file.new ≤ R.reads file.old + 1 }
     ensures same { IsSameFile (R.content file.old) (R.content file.new) (R.extent file.old) (R.extent file.new) (R.beside file.old) (R.beside file.new) }

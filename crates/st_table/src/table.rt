@@ -5,7 +5,7 @@ ghost use Rattle.st_tblock.specs.Block.{RowView, key_or_empty};
 ghost use Rattle.st_table.specs.TableFile.{IsTable, is_at_most};
 ghost use Rattle.st_table.specs.IndexLookup.{entry_for, found_at};
 ghost use Rattle.st_table.specs.RowOrder.{in_range, KeysRiseAbove, last_key};
-ghost use Rattle.st_table.specs.Cursor.{unread, Steps, Coming, StepsRow, HoldsNamed, GivesNamed};
+ghost use Rattle.st_table.specs.Cursor.{unread, Advances, Steps, Coming, StepsRow, HoldsNamed, GivesNamed};
 ghost use Rattle.st_table.specs.Errors.{NoCheckFailed};
 ghost use Rattle.st_table.specs.Index.{Decodes, Entered};
 ghost use Rattle.st_table.specs.Table.{Enters, Gets, GetsRow};
@@ -226,8 +226,9 @@ impl<'a, R: Reader> Table<'a, R> {
             → (entered : Entered bytes self.old.kept.entries.items)
             → HoldsNamed (length bytes - 48) bytes entered.index cursor.old
             → HoldsNamed (length bytes - 48) bytes entered.index cursor.new × GivesNamed (length bytes - 48) bytes entered.index result }
-        ensures entries { self.new.kept.entries ≡ self.old.kept.entries }
-        ensures marks { self.new.kept.checked ≡ self.old.kept.checked }
+        ensures advances { Advances (length self.old.kept.entries.items) (R.extent self.old.file.now)
+            (R.reads self.old.file.now) (R.reads self.new.file.now) cursor.old cursor.new result }
+        ensures kept { (self.new.kept.entries ≡ self.old.kept.entries) × (self.new.kept.checked ≡ self.old.kept.checked) }
 
         // What becomes of the file.
         ensures same_reference { self.new.file.ghost_name ≡ self.old.file.ghost_name }

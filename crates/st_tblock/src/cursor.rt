@@ -86,7 +86,8 @@ impl<'a> EntryCursor<'a> {
     /// Source: LevelDB, doc/table_format.md; docs/FORMAT.md, "Table file".
     pub fn new(bytes: &'a [u8], place: u64) -> Result<EntryCursor<'a>, Damage>
         requires { place + length bytes.now < 2 ^ 64 }
-        ensures { Begins bytes.now place result }
+        ensures begins { Begins bytes.now place result }
+        ensures within { IfOk result (λ c. length c.reading.rest ≤ length bytes.now) }
     {
         match restarts_at(bytes) {
             Some((rest, left)) => Ok(EntryCursor {
