@@ -1,7 +1,7 @@
 use Rattle.std.proofs.Common.{ap}
 use Rattle.st_base.specs.Records.{Rec}
 use Rattle.st_query.proofs.Matching.{told_by}
-use Rattle.st_query.proofs.matcher.matches.Goals as goal
+use Rattle.st_query.proofs.matcher.matches_plain.Goals as goal
 
 pub matches_part-requires : goal.matches_part-requires
 matches_part-requires c =
