@@ -1,7 +1,7 @@
 #!/usr/bin/env python3
 """Runs the program from the command line and compares what it writes, byte for byte.
 
-The last line is 'N passed, M failed'; the status is 0 where none failed.
+The last line is 'N passed, M failed'; the status is 0 if none failed.
 """
 import fcntl
 import gzip
@@ -338,7 +338,7 @@ def groups(folder):
 
 
 def main():
-    subprocess.run([STENO], capture_output=True)  # builds the program where need be
+    subprocess.run([STENO], capture_output=True)  # builds the program if need be
     with tempfile.TemporaryDirectory() as folder:
         return report(groups(folder))
 
