@@ -100,7 +100,7 @@ next_stands limit bytes index rows n e b (inr (a, h, i, refuses)) =
 -- so each step gives the next of the rows to come
 pub steps_row : (limit : ℕ) (bytes : List ℕ) (index more : List RowView) (old new : CursorView) (r : Result (Option RowView) TableErr) → KeysRiseAbove None index → Coming limit bytes index old more → Steps limit bytes index old new r → StepsRow limit bytes index more new r
 steps_row limit bytes index more old new (Ok (Some q)) u c s =
-    let l = coming_on limit bytes index more (q ∷ []) old new c s in
+    let l = coming_on limit bytes index more (q ∷ []) old new c s.0 in
     (l.later, l.split, l.coming)
 steps_row limit bytes index more old new (Ok None) u c (g, e, d) =
     let l = coming_on limit bytes index more [] old new c g in

@@ -96,20 +96,21 @@ none_left limit bytes index old new rows rise a g = either a.done g.rest (rest_i
   where
     high : new.high ≡ key_or_empty (last_key None index)
     high = g.high ∙ ap (λ (c : CursorView). c.high) a.begins
+
     either : IsDone index new.next new.high → (rest : List RowView) → drop new.next index ≡ rest → rest ≡ []
     either d [] e = refl
     either (inl l) (r ∷ rest) e =
         absurd (let size : length (drop new.next index) ≡ length (r ∷ rest) = ap length e in let left = length-drop new.next index in omega arith)
     either (inr (k, last, b)) (r ∷ rest) e =
         absurd (
-          let tail = subst (λ (x : Option (List ℕ)). KeysRiseAbove x (drop new.next index)) last (rises_rest None index new.next rise) in
-          let above = ends_above k r rest (subst (KeysRiseAbove (Some k)) e tail) in
-          let whole : index ≡ take new.next index ++ (r ∷ rest) = sym (take-append-drop new.next index) ∙ ap (λ (xs : List RowView). take new.next index ++ xs) e in
-          let key : last_key None index ≡ last_key (Some k) (r ∷ rest) =
-          ap (last_key None) whole ∙ last_key-append None (take new.next index) (r ∷ rest) ∙ ap (λ (x : Option (List ℕ)). last_key x (r ∷ rest)) last in
-          let below : is_before k (key_or_empty (last_key (Some k) (r ∷ rest))) ≡ false =
-          ap (λ (x : Option (List ℕ)). is_before k (key_or_empty x)) (sym key) ∙ ap (is_before k) (sym high) ∙ b in
-          cc
+        let tail = subst (λ (x : Option (List ℕ)). KeysRiseAbove x (drop new.next index)) last (rises_rest None index new.next rise) in
+        let above = ends_above k r rest (subst (KeysRiseAbove (Some k)) e tail) in
+        let whole : index ≡ take new.next index ++ (r ∷ rest) = sym (take-append-drop new.next index) ∙ ap (λ (xs : List RowView). take new.next index ++ xs) e in
+        let key : last_key None index ≡ last_key (Some k) (r ∷ rest) =
+        ap (last_key None) whole ∙ last_key-append None (take new.next index) (r ∷ rest) ∙ ap (λ (x : Option (List ℕ)). last_key x (r ∷ rest)) last in
+        let below : is_before k (key_or_empty (last_key (Some k) (r ∷ rest))) ≡ false =
+        ap (λ (x : Option (List ℕ)). is_before k (key_or_empty x)) (sym key) ∙ ap (is_before k) (sym high) ∙ b in
+        cc
         )
 
 -- a reading of all rows says that the bytes are a table of them

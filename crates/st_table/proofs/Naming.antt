@@ -89,7 +89,7 @@ goes_named limit bytes index old new given h s g =
 pub steps_named : (limit : ℕ) (bytes : List ℕ) (index : List RowView) (old new : CursorView) (r : Result (Option RowView) TableErr) → KeysRiseAbove None index → HoldsNamed limit bytes index old → Steps limit bytes index old new r → HoldsNamed limit bytes index new × GivesNamed limit bytes index r
 steps_named limit bytes index old new (Ok (Some q)) h s g =
     let P = λ (r : RowView). Named limit bytes r.0 (Some r.1) (entry_for r.0 None index) in
-    let all = goes_named limit bytes index old new (q ∷ []) h s g in
+    let all = goes_named limit bytes index old new (q ∷ []) h s g.0 in
     (All-tail P q new.rows all, All-head P q new.rows all)
 steps_named limit bytes index old new (Ok None) h s (g, e, d) = (goes_named limit bytes index old new [] h s g, tt)
 steps_named limit bytes index old new (Err e) h s (g, f) = (goes_named limit bytes index old new [] h s g, tt)

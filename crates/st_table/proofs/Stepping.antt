@@ -8,7 +8,7 @@ use Rattle.st_tblock.specs.declared.handle.Handle.{Handle}
 use Rattle.st_table.specs.TableFile.{Between, NamesBlock, Blocks}
 use Rattle.st_table.specs.RowOrder.{in_range, last_key}
 use Rattle.st_table.specs.IndexLookup.{first_after, found_at}
-use Rattle.st_table.specs.Cursor.{CursorView, Goes, IsDone, Fills, ReadsNext}
+use Rattle.st_table.specs.Cursor.{CursorView, Goes, Skips, IsDone, Fills, ReadsNext}
 use Rattle.st_tblock.specs.Block.{IsBlock}
 use Rattle.st_table.specs.Stored.{ReadsBlock}
 use Rattle.st_table.specs.Rows.{BoundsView, lies_in, RefusesBlock, KeepsRange}
@@ -138,6 +138,11 @@ goes_on limit bytes index first old new g n ((low, e, rows, at, block, kept), lo
 -- after a refusal nothing more is passed
 pub goes_still : (limit : ℕ) (bytes : List ℕ) (index : List RowView) (first old new : CursorView) → Goes limit bytes index first old [] → new ≡ old → Goes limit bytes index first new []
 goes_still limit bytes index first old new g e = subst (λ (c : CursorView). Goes limit bytes index first c []) (sym e) g
+
+-- a row at hand passes no block
+pub skips_same : (limit : ℕ) (bytes : List ℕ) (index : List RowView) (first old new : CursorView) → new.next ≡ old.next → Skips limit bytes index first old → Skips limit bytes index first new
+skips_same limit bytes index first old new n (inl e) = inl (n ∙ e)
+skips_same limit bytes index first old new n (inr (last, g, none, e)) = inr (last, g, none, n ∙ e)
 
 -- what is read of a block, or why it is refused
 pub next_read : {V : Type 0} (items : V → List RowView) (r : Result V TableErr) (limit : ℕ) (bytes block text : List ℕ) (index : List RowView) (next : ℕ) (a : BoundsView) (h : Handle) (low high : List ℕ) → limit ≤ length bytes → IsBlockAt index next a h → ReadsBlock {T = Unit {0}} limit bytes h block (Ok (tt {0})) → text ≡ block → MatchResult r (λ v. KeepsRange (lies_in a) text low high (items v)) (λ e. RefusesBlock (lies_in a) h.offset text e) → MatchResult r (λ v. ReadsNext limit bytes index next low high (items v)) (λ e. RefusesNext limit bytes index next e)

@@ -90,9 +90,16 @@ Fills limit bytes index old new (Ok x) =
     × (new.low ≡ old.low) × (new.high ≡ old.high) × (new.next ≡ old.next + 1)
 Fills limit bytes index old new (Err e) = RefusesNext limit bytes index old.next e × (new ≡ old)
 
+-- of the blocks that were passed, all but the last have no row in the range
+abbrev pub Skips : ℕ → List ℕ → List RowView → CursorView → CursorView → Type 0
+Skips limit bytes index old new =
+    (new.next ≡ old.next)
+    ⊎ ((last : CursorView) × Goes limit bytes index old last [] × (last.rows ≡ []) × (new.next ≡ last.next + 1))
+
 -- the next row of a range, by the index
 abbrev pub Steps : ℕ → List ℕ → List RowView → CursorView → CursorView → Result (Option RowView) TableErr → Type 0
-Steps limit bytes index old new (Ok (Some r)) = Goes limit bytes index old new (r ∷ [])
+Steps limit bytes index old new (Ok (Some r)) =
+    Goes limit bytes index old new (r ∷ []) × Skips limit bytes index old new
 Steps limit bytes index old new (Ok None) =
     Goes limit bytes index old new [] × (new.rows ≡ []) × IsDone index new.next new.high
 Steps limit bytes index old new (Err e) =

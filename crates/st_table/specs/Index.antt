@@ -57,7 +57,7 @@ moved at (Err f) = Some (Damaged (record { place = at + f.place; found = f.found
 abbrev pub footer_wrong : List ℕ → Option TableErrView
 footer_wrong bytes =
     if nat_lt (length bytes) FOOTER_SIZE then
-      Some (Damaged (record { place = 0; found = length bytes; want = FOOTER_SIZE }))
+    Some (Damaged (record { place = 0; found = length bytes; want = FOOTER_SIZE }))
     else moved (footer_at bytes) (footer_in (drop (footer_at bytes) bytes))
 
 -- the handle of the index block, from a table's footer

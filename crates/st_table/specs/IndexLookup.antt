@@ -25,7 +25,7 @@ found_at index i = first_after (last_key None (take i index)) (drop i index)
 -- the answer for a key is its value in the block that the index names for it; where the index names
 -- none, there is no value
 abbrev pub Named :
-  ℕ → List ℕ → List ℕ → Option (List ℕ) → Option (Option (List ℕ) × RowView) → Type 0
+    ℕ → List ℕ → List ℕ → Option (List ℕ) → Option (Option (List ℕ) × RowView) → Type 0
 Named limit bytes key answer None = answer ≡ None
 Named limit bytes key answer (Some x) =
     (here : List RowView) × NamesBlock limit bytes x.0 x.1 here × (answer ≡ lookup key here)

@@ -32,7 +32,7 @@ kind_wrong place kind =
 unfoldable pub part_wrong : ℕ → ℕ → List ℕ → Option TableErrView
 part_wrong offset size part =
     if nat_eq (slice_index part size) PLAIN then
-      sum_wrong (offset + size + 1) (stored_sum size part) (sum_of PLAIN (take size part))
+    sum_wrong (offset + size + 1) (stored_sum size part) (sum_of PLAIN (take size part))
     else Some (kind_wrong (offset + size) (slice_index part size))
 
 -- what is wrong with where a block ends with its trailer

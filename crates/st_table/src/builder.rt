@@ -80,7 +80,7 @@ fn close<S: Sink>(
     written
 }
 
-/// Puts the index block, and behind it the footer.
+/// Puts the index block, and then the footer.
 fn put_index<S: Sink>(
     index: &mut EntryBlock,
     meta: Handle,
@@ -104,7 +104,7 @@ fn put_index<S: Sink>(
     }
 }
 
-/// Puts what stands behind the last data block, at the offset `at`, and answers the file's length.
+/// Puts what follows the last data block, at the offset `at`, and returns the file's length.
 fn put_ending<S: Sink>(index: &mut EntryBlock, at: u64, sink: &mut S) -> Result<u64, BuildErr>
     requires at { at < 2 ^ 62 }
     requires room { block_size index.old < 2 ^ 62 }
@@ -131,8 +131,8 @@ fn put_ending<S: Sink>(index: &mut EntryBlock, at: u64, sink: &mut S) -> Result<
     }
 }
 
-/// Puts the data block at hand, if it has rows, and what stands behind the last one, and answers
-/// the file's length. `at` is the offset of the next block in the file.
+/// Puts the data block at hand, if it has rows, and what follows the last one, and returns the
+/// file's length. `at` is the offset of the next block in the file.
 fn put_rest<S: Sink>(
     block: &mut EntryBlock,
     index: &mut EntryBlock,
@@ -164,7 +164,7 @@ fn put_rest<S: Sink>(
 /// or little more.
 ///
 /// It keeps the data block at hand and the index block, and neither the rows nor the bytes that
-/// were written: `Builds` says for which of these it stands. Lengths are in bytes.
+/// were written: `Builds` says which of these it represents. Lengths are in bytes.
 #[derive(Drop)]
 pub struct TableBuilder {
     block: EntryBlock,
@@ -185,7 +185,7 @@ impl Model for TableBuilder {
 }
 
 impl TableBuilder {
-    /// A builder without rows. What it puts is to stand from the file's first byte on.
+    /// A builder without rows. Its sink must be at the file's first byte.
     ///
     /// Source: LevelDB, table/table_builder.cc; docs/FORMAT.md, "Table file".
     pub fn new(alloc: Global) -> Result<TableBuilder, NoMemory>
@@ -227,8 +227,8 @@ impl TableBuilder {
 
     /// Adds a row, and puts the data block where it is full by that: two `put`s.
     ///
-    /// `WriteFault` comes only where the sink's `faults` rose in this call. After an error a front
-    /// of what the row writes stands behind what the sink had, and the builder is only dropped.
+    /// `WriteFault` comes only if the sink's `faults` rose in this call. After an error a prefix of
+    /// what the row writes follows what the sink had, and the builder can only be dropped.
     /// Source: LevelDB, table/table_builder.cc; docs/FORMAT.md, "Table file".
     pub fn add<S: Sink>(&mut self, key: &[u8], value: &[u8], sink: &mut S) -> Result<(), BuildErr>
         requires { MayAdd self.old (key.now, value.now) }
@@ -237,7 +237,7 @@ impl TableBuilder {
         ensures kept { OnOk result (self.new ≡ after_row self.old (key.now, value.now)) }
         ensures last { OnOk result (last_added self.new ≡ Some key.now) }
         ensures spent { OnOk result (self.new.spent ≡ self.old.spent + room_of (key.now, value.now)) }
-        // The rows for which it stands.
+        // The rows that it represents.
         ensures builds { OnOk result ((bytes : List ℕ) (rows : List RowView) → Builds self.old bytes rows
             → Builds self.new (bytes ++ written_by self.old (key.now, value.now)) (rows ++ (key.now, value.now) ∷ [])) }
         // When it fails, and what stays.
@@ -256,11 +256,11 @@ impl TableBuilder {
         close(&mut self.block, &mut self.index, &mut self.at, sink)
     }
 
-    /// Puts the data block at hand, if it has rows, and what stands behind the last one. The answer
-    /// is how long the file is then, in bytes.
+    /// Puts the data block at hand, if it has rows, and what follows the last one, and returns the
+    /// file's length in bytes.
     ///
-    /// Where it answers `WriteFault`, the sink's `faults` rose in this call. After an error a front
-    /// of the table's end stands behind what the sink had.
+    /// `WriteFault` comes only if the sink's `faults` rose in this call. After an error a prefix of
+    /// the table's end follows what the sink had.
     /// Source: LevelDB, table/table_builder.cc; docs/FORMAT.md, "Table file".
     pub fn finish<S: Sink>(self, sink: &mut S) -> Result<u64, BuildErr>
         ensures bytes { Puts (S.written sink.old) (S.written sink.new) (finishing self) result }

@@ -17,7 +17,7 @@ use std::alloc::Global;
 use std::collections::VecDeque;
 use std::marker::Model;
 
-/// Where a reading of the rows between two keys stands.
+/// How far the rows between two keys were read.
 ///
 /// It is seen as `CursorView`: the two keys, the rows of the block at hand that are still to come, and
 /// the number of the index entry that names the next block.

@@ -18,7 +18,7 @@ use st_base::{Damage, NoMemory, Octets, Reader, read_whole};
 use st_tblock::{EntryCursor, FOOTER_SIZE, Handle, get_handle, read_footer};
 use std::alloc::Global;
 
-/// An entry of the index: a key at or above every key of its data block, and where that stands.
+/// An entry of the index: a key at or above every key of its data block, and where that block is.
 #[derive(Drop)]
 pub struct IndexEntry {
     pub key: Octets,
@@ -36,7 +36,7 @@ fn handle_of(value: &[u8]) -> Option<Handle>
     }
 }
 
-/// Goes behind the next entry of the index block, and gives it.
+/// Goes past the next entry of the index block, and gives it.
 fn next_entry(alloc: Global, cursor: &mut EntryCursor<'_>) -> Result<Option<IndexEntry>, TableErr>
     ensures steps { StepsIndex cursor.old cursor.new result }
     ensures shorter { IfOk result (λ o. OnSome o (length cursor.new.reading.rest < length cursor.old.reading.rest)) }
@@ -146,8 +146,8 @@ pub fn read_index<R: Reader>(
     entries_in(alloc, block.as_slice(), handle.offset)
 }
 
-/// The number of the first entry whose key is `key` or behind it, which names the block that may
-/// have `key`; or the number of entries.
+/// The number of the first entry whose key is not below `key`, which names the block that may have
+/// `key`; or the number of entries.
 pub fn lower_bound(entries: &[IndexEntry], key: &[u8]) -> usize
     ensures within { result ≤ length entries.now }
     ensures found { (index : List RowView) → Decodes index entries.now → KeysRiseAbove None index
@@ -180,7 +180,7 @@ pub fn key_before(entries: &[IndexEntry], i: usize) -> Option<&[u8]>
     Some(entries[i - 1].key.bytes())
 }
 
-/// The index keys around the block that the entry of this number names, and where it stands.
+/// The index keys around the block that the entry of this number names, and where the block is.
 pub fn block_at(entries: &[IndexEntry], i: usize) -> (Bounds<'_>, Handle)
     requires { i < length entries.now }
     ensures { (index : List RowView) → Decodes index entries.now → IsBlockAt index i result.0 result.1 }

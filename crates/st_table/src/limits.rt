@@ -11,7 +11,7 @@ pub const INDEX_INTERVAL: u32 = 1;
 /// How many bytes a key has at most.
 pub const MAX_KEY: usize = 64;
 
-/// A value is shorter than this many bytes, as its length stands in a varint32.
+/// A value is shorter than this many bytes, as its length is a varint32.
 pub const VALUE_LIMIT: u64 = 0x1_0000_0000;
 
 /// The room that a row takes beside its own bytes: 19 for its entry and its restart, and 13 for the

@@ -118,7 +118,7 @@ impl<'a, R: Reader> Table<'a, R> {
     /// Damage is that of the first check that fails, in the order of docs/FORMAT.md, "Checks": the
     /// file holds a footer, its magic number, its handles; the index block's end, its type byte,
     /// its sum, its restarts; each entry, its key above the last one, its value one handle.
-    /// `Compressed` comes exactly where the type byte is 1. `ReadFault` comes only where the file
+    /// `Compressed` comes if and only if the type byte is 1. `ReadFault` comes only if the file
     /// failed in this call. Where it succeeds, no data block counts as checked yet. After an error
     /// the table has the entries that it had, and the same data blocks count as checked.
     pub fn enter(&mut self, alloc: Global) -> Result<(), TableErr>
@@ -154,7 +154,7 @@ impl<'a, R: Reader> Table<'a, R> {
     /// The data block that the index names for `key` is read whole. Damage is that of its first
     /// check that fails, in the order of docs/FORMAT.md, "Checks": its end, its type byte, its sum,
     /// its restarts; each entry, its key above the last one and between the index keys around the
-    /// block. `Compressed` comes exactly where the type byte is 1. `ReadFault` comes only where the
+    /// block. `Compressed` comes if and only if the type byte is 1. `ReadFault` comes only if the
     /// file failed in this call. The table's entries stay.
     ///
     /// Restarts and entries are checked until no check fails: from then on the block counts as
@@ -206,14 +206,19 @@ impl<'a, R: Reader> Table<'a, R> {
         Cursor::begin(alloc, low, high, next)
     }
 
-    /// The next row of `cursor`, in the order of the keys, or `None` behind the last one.
+    /// The next row of `cursor`, in the order of the keys, or `None` after the last one.
     ///
-    /// Each data block is read whole, by one read at most, before its first row is given. Damage is
+    /// Each data block is read whole, by one read at most, before its first row is given, and once in
+    /// a reading. Damage is
     /// that of its first check that fails, in the order of docs/FORMAT.md, "Checks": its end, its
     /// type byte, its sum, its restarts; each entry, its key above the last one and between the
-    /// index keys around the block. `Compressed` comes exactly where the type byte is 1.
-    /// `ReadFault` comes only where the file failed in this call. After an error `cursor` stands
-    /// before that block.
+    /// index keys around the block. `Compressed` comes if and only if the type byte is 1.
+    /// `ReadFault` comes only if the file failed in this call. After an error `cursor` is before
+    /// that block.
+    ///
+    /// Over any file a reading ends: each row that is given leaves fewer to come (`most_left`). A row
+    /// at hand is given without a read; a block is passed over only where none of its rows is in
+    /// the range.
     pub fn step(&mut self, alloc: Global, cursor: &mut Cursor) -> Result<Option<Row>, TableErr>
         ensures steps { (bytes : List ℕ) → R.content self.old.file.now ≡ Some bytes
             → (entered : Entered bytes self.old.kept.entries.items)
