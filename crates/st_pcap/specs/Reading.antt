@@ -1,5 +1,5 @@
 -- What a reader of pcap files stands for, and what its calls ensure.
-use Rattle.std.specs.Prelude.{Option, ◌≡◌, ℕ, ◌+◌, ◌*◌, ◌≤◌, ◌⊎◌, List, [], ◌∷◌, ◌++◌, length, None, Some, Result, Ok, Err, IfOk, IfErr, OnOk, OnSome}
+use Rattle.std.specs.Prelude.{Option, ◌≡◌, ℕ, ◌+◌, ◌*◌, ◌<◌, ◌≤◌, ◌⊎◌, List, [], ◌∷◌, ◌++◌, length, None, Some, Result, Ok, Err, IfOk, IfErr, OnOk, OnSome}
 use Rattle.st_base.specs.Faults.{Rose}
 use Rattle.st_base.specs.Records.{Rec}
 use Rattle.st_pcap.specs.declared.errors.PcapErr.{PcapErr}
@@ -88,10 +88,10 @@ pub record KeepsLimit {S : Type 0} (before now : S) (old new : PcapReaderView) (
   pub much_only : (n : ℕ) → result ≡ Err (TooMuch n)
       → ((n ≡ old.taken) × (MAX_INPUT ≤ old.taken)) ⊎ (old.phase ≡ Stopped (TooMuch n))
 
--- What a call ensures that reads the next record: of the reader before and after, and of a source
--- with these members before and after.
+-- What a call ensures that reads the next record into memory with this room: of the reader before
+-- and after, and of a source with these members before and after.
 pub record ReadsNext {S B : Type 0} (left : S → Option (List ℕ)) (faults : S → ℕ) (beside : S → B)
-    (before now : S) (old new : PcapReaderView) (result : Result (Option Rec) PcapErr) : Type 0 where
+    (before now : S) (old new : PcapReaderView) (room : ℕ) (result : Result (Option Rec) PcapErr) : Type 0 where
   -- what it answers, where the source's bytes are known, and what it has come to then
   pub gives : (bytes rest : List ℕ) (rs : List Rec) → left before ≡ Some rest → HasRead old bytes rs rest → Gives bytes rs new (left now) result
   pub goes : OnOk result (IsGoing new.phase)
@@ -101,6 +101,7 @@ pub record ReadsNext {S B : Type 0} (left : S → Option (List ℕ)) (faults : S
   pub count : Counts (left before) (left now) old.taken new.taken result
   pub takes : Takes old.phase old.taken new.taken result
   pub limit : KeepsLimit before now old new result
-  -- what the source's faults say, and what else of the source stays
+  -- when memory may be out, what the source's faults say, and what else of the source stays
+  pub memory : result ≡ Err NoMemory → (room < MAX_BODY) ⊎ (old.phase ≡ Stopped NoMemory)
   pub cause : HasReadCause (faults before) (faults now) old.phase result
   pub rest : beside now ≡ beside before

@@ -1,4 +1,4 @@
-ghost use Rattle.std.specs.Prelude.{◌≡◌, ◌+◌, ◌≤◌, ◌⊎◌, ℕ, List, Some, Err, Result, OnOk, IfOk, IfErr, OnSome};
+ghost use Rattle.std.specs.Prelude.{◌≡◌, ◌+◌, ◌≤◌, ◌⊎◌, ℕ, List, Some, Err, Result, OnOk, IfOk, IfErr, OnSome, vec_capacity};
 ghost use Rattle.st_base.specs.Records.{Rec};
 
 use crate::errors::PcapErr;
@@ -75,7 +75,7 @@ impl PcapReader {
         alloc: Global,
         source: &mut S,
     ) -> Result<Option<Record>, PcapErr>
-        ensures { ReadsNext S.left S.faults S.beside source.old source.new self.old self.new result }
+        ensures { ReadsNext S.left S.faults S.beside source.old source.new self.old self.new 0 result }
     {
         self.next_into(source, Vec::new(alloc))
     }
@@ -87,7 +87,8 @@ impl PcapReader {
         source: &mut S,
         body: Vec<u8>,
     ) -> Result<Option<Record>, PcapErr>
-        ensures { ReadsNext S.left S.faults S.beside source.old source.new self.old self.new result }
+        ensures { ReadsNext S.left S.faults S.beside source.old source.new self.old self.new
+            (vec_capacity body) result }
     {
         let form = match self.open(source) {
             Ok(form) => form,
