@@ -10,8 +10,8 @@ use Rattle.st_pcap.specs.declared.forms.Order.TheVariants.{Little, Big}
 use Rattle.st_pcap.specs.declared.forms.Unit as unit
 use Rattle.st_pcap.specs.declared.forms.Unit.TheVariants.{Micro, Nano}
 use Rattle.byteorder.specs.Endian.{little_number}
-use Rattle.st_pcap.specs.declared.forms.TheConstants.{MAX_INPUT, MAX_BODY}
-use Rattle.st_pcap.specs.Forms.{field, fractions, magic}
+use Rattle.st_pcap.specs.declared.numbers.TheConstants.{NUMBER_SIZE, FILE_HEAD_SIZE, MAJOR_AT, MINOR_AT, LINK_AT, MAJOR, MINOR, LINK_LIMIT, ETHERNET, RECORD_HEAD_SIZE, FRACTION_AT, CAPTURED_AT, MAX_BODY, MAX_INPUT}
+use Rattle.st_pcap.specs.Forms.{short_at, number_at, fractions, magic}
 use Rattle.st_pcap.specs.Heads.{IsOfFileHead, refusal_of_captured, refusal_of_fields, refusal_of_file, refusal_of_link, refusal_of_magic, refusal_of_record, refusal_of_rest, refusal_of_size, refusal_of_version}
 use Rattle.st_pcap.specs.Input.{End, Whole, Refused, Input, end_at}
 use Rattle.st_pcap.proofs.Uniqueness.{pcap_accepted}
@@ -36,13 +36,13 @@ chosen P true x y p q = p
 chosen P false x y p q = q
 
 link_of_head : (link : ℕ) → IsOfHead (refusal_of_link link)
-link_of_head link = chosen IsOfHead (nat_eq link 1) None (Some (LinkType link)) tt tt
+link_of_head link = chosen IsOfHead (nat_eq link ETHERNET) None (Some (LinkType link)) tt tt
 
 rest_of_head : (order : Order) (head : List ℕ) → IsOfHead (refusal_of_rest order head)
 rest_of_head order head =
-    chosen IsOfHead (nat_lt (length head) 24) (Some (Truncated 0 (length head) 24)) (refusal_of_version order head) refl
-    (chosen IsOfHead (nat_eq (field order 2 4 head) 2 && nat_eq (field order 2 6 head) 4) (refusal_of_link (field order 4 20 head % 65536)) (Some (Version (field order 2 4 head) (field order 2 6 head)))
-    (link_of_head (field order 4 20 head % 65536)) tt)
+    chosen IsOfHead (nat_lt (length head) FILE_HEAD_SIZE) (Some (Truncated 0 (length head) FILE_HEAD_SIZE)) (refusal_of_version order head) refl
+    (chosen IsOfHead (nat_eq (short_at order MAJOR_AT head) MAJOR && nat_eq (short_at order MINOR_AT head) MINOR) (refusal_of_link (number_at order LINK_AT head % LINK_LIMIT)) (Some (Version (short_at order MAJOR_AT head) (short_at order MINOR_AT head)))
+    (link_of_head (number_at order LINK_AT head % LINK_LIMIT)) tt)
 
 -- the tails of the chains of tests
 abbrev others_last : ℕ → List ℕ → Option PcapErr
@@ -67,7 +67,7 @@ magic_of_head found head =
 
 file_of_head : (head : List ℕ) → IsOfHead (refusal_of_file head)
 file_of_head head =
-    chosen IsOfHead (nat_lt (length head) 4) (Some (Truncated 0 (length head) 24)) (refusal_of_magic (little_number 4 head) head) refl (magic_of_head (little_number 4 head) head)
+    chosen IsOfHead (nat_lt (length head) NUMBER_SIZE) (Some (Truncated 0 (length head) FILE_HEAD_SIZE)) (refusal_of_magic (little_number NUMBER_SIZE head) head) refl (magic_of_head (little_number NUMBER_SIZE head) head)
 
 first_apart : (a b : Option PcapErr) → IsNotOfHead a → IsNotOfHead b → IsNotOfHead (option_or a b)
 first_apart None b p q = q
@@ -81,15 +81,15 @@ captured_apart number captured = chosen IsNotOfHead (nat_lt MAX_BODY captured) (
 
 fields_apart : (order : Order) (u : unit.Unit) (number : ℕ) (head : List ℕ) → IsNotOfHead (refusal_of_fields order u number head)
 fields_apart order u number head =
-    chosen IsNotOfHead (nat_le (fractions u) (field order 4 4 head)) (Some (BadFraction number (field order 4 4 head))) (refusal_of_captured number (field order 4 8 head)) (λ h. h)
-    (captured_apart number (field order 4 8 head))
+    chosen IsNotOfHead (nat_le (fractions u) (number_at order FRACTION_AT head)) (Some (BadFraction number (number_at order FRACTION_AT head))) (refusal_of_captured number (number_at order CAPTURED_AT head)) (λ h. h)
+    (captured_apart number (number_at order CAPTURED_AT head))
 
 record_apart : (order : Order) (u : unit.Unit) (number : ℕ) (rest : List ℕ) → IsNotOfHead (refusal_of_record order u (number + 1) rest)
 record_apart order u number rest =
-    first_apart (refusal_of_size (number + 1) (length rest) 16) (option_or (refusal_of_fields order u (number + 1) (take 16 rest)) (refusal_of_size (number + 1) (length rest) (16 + field order 4 8 (take 16 rest))))
-    (size_apart number (length rest) 16)
-    (first_apart (refusal_of_fields order u (number + 1) (take 16 rest)) (refusal_of_size (number + 1) (length rest) (16 + field order 4 8 (take 16 rest))) (fields_apart order u (number + 1) (take 16 rest))
-    (size_apart number (length rest) (16 + field order 4 8 (take 16 rest))))
+    first_apart (refusal_of_size (number + 1) (length rest) RECORD_HEAD_SIZE) (option_or (refusal_of_fields order u (number + 1) (take RECORD_HEAD_SIZE rest)) (refusal_of_size (number + 1) (length rest) (RECORD_HEAD_SIZE + number_at order CAPTURED_AT (take RECORD_HEAD_SIZE rest))))
+    (size_apart number (length rest) RECORD_HEAD_SIZE)
+    (first_apart (refusal_of_fields order u (number + 1) (take RECORD_HEAD_SIZE rest)) (refusal_of_size (number + 1) (length rest) (RECORD_HEAD_SIZE + number_at order CAPTURED_AT (take RECORD_HEAD_SIZE rest))) (fields_apart order u (number + 1) (take RECORD_HEAD_SIZE rest))
+    (size_apart number (length rest) (RECORD_HEAD_SIZE + number_at order CAPTURED_AT (take RECORD_HEAD_SIZE rest))))
 
 refused_apart : (o : Option PcapErr) → IsNotOfHead o → EndsApart (option_map Refused o)
 refused_apart None p = tt
@@ -100,10 +100,10 @@ ends_apart order u before number rest =
     chosen EndsApart (nat_le MAX_INPUT before) (Some (Refused (TooMuch before))) (end_below order u number rest) (λ h. h)
     (chosen EndsApart (nat_eq (length rest) 0) (Some Whole) (option_map Refused (refusal_of_record order u (number + 1) rest)) tt (refused_apart (refusal_of_record order u (number + 1) rest) (record_apart order u number rest)))
 
-pub heads_are_apart : (bytes : List ℕ) (rs : List Rec) (e : PcapErr) → Input bytes rs (Refused e) → IsOfFileHead e ↔ (refusal_of_file (take 24 bytes) ≡ Some e)
+pub heads_are_apart : (bytes : List ℕ) (rs : List Rec) (e : PcapErr) → Input bytes rs (Refused e) → IsOfFileHead e ↔ (refusal_of_file (take FILE_HEAD_SIZE bytes) ≡ Some e)
 heads_are_apart bytes rs e (inl (f, refused, none, is)) =
     let same : e ≡ f = cc in
-    (λ h. refused ∙ ap Some (sym same), λ r. subst IsOfHead r (file_of_head (take 24 bytes)))
+    (λ h. refused ∙ ap Some (sym same), λ r. subst IsOfHead r (file_of_head (take FILE_HEAD_SIZE bytes)))
 heads_are_apart bytes rs e (inr (rest, file, begin, ends)) =
     let apart = subst EndsApart ends (ends_apart file.order file.unit (length bytes - length rest) (length rs) rest) in
     let yes = pcap_accepted bytes rs rest file in

@@ -11,8 +11,8 @@ use Rattle.st_base.specs.Records.{Rec, InRange}
 use Rattle.st_pcap.specs.declared.forms.Order.TheVariants.{Little}
 use Rattle.st_pcap.specs.declared.forms.Unit as unit
 use Rattle.st_pcap.specs.declared.forms.Unit.TheVariants.{Micro, Nano}
-use Rattle.st_pcap.specs.declared.forms.TheConstants.{MAX_INPUT}
-use Rattle.st_pcap.specs.Forms.{field, fractions, fraction_of, nanoseconds}
+use Rattle.st_pcap.specs.declared.numbers.TheConstants.{RECORD_HEAD_SIZE, FRACTION_AT, CAPTURED_AT, ORIG_AT, NANOS, MAX_INPUT}
+use Rattle.st_pcap.specs.Forms.{number_at, fractions, fraction_of, nanoseconds}
 use Rattle.st_pcap.specs.Heads.{IsFileHead, IsRecordHead}
 use Rattle.st_pcap.specs.Input.{Records, AllBegin, IsPcap, Whole, Input, end_at}
 use Rattle.st_pcap.specs.Text.{PcapText, file_head, record_head, record_text, cut_to}
@@ -29,11 +29,11 @@ four : (x : ℕ) → length (little_bytes 4 x) ≡ 4
 four x = length-bytes_low_first 0 4 x
 
 -- a number of four bytes is read where it was written, behind so many bytes
-read_back : (front rest : List ℕ) (at x : ℕ) → length front ≡ at → x < 2 ^ 32 → field Little 4 at (front ++ (little_bytes 4 x ++ rest)) ≡ x
+read_back : (front rest : List ℕ) (at x : ℕ) → length front ≡ at → x < 2 ^ 32 → number_at Little at (front ++ (little_bytes 4 x ++ rest)) ≡ x
 read_back front rest at x size fits =
     ap (little_number 4) (drop_at front (little_bytes 4 x ++ rest) at size) ∙ little_number-reads_back 4 x rest fits
 
-fraction_below : (u : unit.Unit) (nanos : ℕ) → nanos < 1000000000 → fraction_of u nanos < fractions u
+fraction_below : (u : unit.Unit) (nanos : ℕ) → nanos < NANOS → fraction_of u nanos < fractions u
 fraction_below Micro nanos h = omega arith
 fraction_below Nano nanos h = h
 
@@ -65,15 +65,15 @@ record_written u r range short =
     let size_c : length c ≡ 4 = four (length r.body) in
     let size_d : length d ≡ 4 = four r.orig in
     let below = fraction_below u r.nsec range.nsec in
-    let fraction : field Little 4 4 (a ++ (b ++ (c ++ d))) ≡ fraction_of u r.nsec = read_back a (c ++ d) 4 (fraction_of u r.nsec) size_a (fractions_fit u (fraction_of u r.nsec) below) in
+    let fraction : number_at Little FRACTION_AT (a ++ (b ++ (c ++ d))) ≡ fraction_of u r.nsec = read_back a (c ++ d) 4 (fraction_of u r.nsec) size_a (fractions_fit u (fraction_of u r.nsec) below) in
     record {
       size = omega arith;
       sec = read_back [] (b ++ (c ++ d)) 0 r.sec refl range.sec;
       fraction = subst (λ n. n < fractions u) (sym fraction) below;
       nsec = ap (nanoseconds u) fraction;
-      captured = ap (field Little 4 8) (second a b c d) ∙ read_back (a ++ b) d 8 (length r.body) (omega arith) range.body;
+      captured = ap (number_at Little CAPTURED_AT) (second a b c d) ∙ read_back (a ++ b) d 8 (length r.body) (omega arith) range.body;
       short = short;
-      orig = ap (field Little 4 12) (third a b c d) ∙ read_back ((a ++ b) ++ c) [] 12 r.orig (omega arith) range.orig;
+      orig = ap (number_at Little ORIG_AT) (third a b c d) ∙ read_back ((a ++ b) ++ c) [] 12 r.orig (omega arith) range.orig;
     }
 
 records_written : (u : unit.Unit) (rs : List Rec) → All InRange rs → All IsShort rs → Records Little u (flat_map (record_text u) rs) (map (cut_to u) rs) []
@@ -92,7 +92,7 @@ text_is_pcap u rs ranges shorts =
 
 all_begin : (before : ℕ) (rs : List Rec) → before + size_of rs < MAX_INPUT → AllBegin before rs
 all_begin before [] below = tt
-all_begin before (r ∷ rs) below = (omega arith, all_begin (before + (16 + length r.body)) rs (omega arith))
+all_begin before (r ∷ rs) below = (omega arith, all_begin (before + (RECORD_HEAD_SIZE + length r.body)) rs (omega arith))
 
 ends_whole : (u : unit.Unit) (before number : ℕ) → before < MAX_INPUT → end_at Little u before number [] ≡ Some Whole
 ends_whole u before number below = grind (arith, nat_tests)

@@ -3,14 +3,14 @@ use Rattle.std.proofs.Common.{◌≡◌, ℕ, ◌+◌, ◌<◌, List, [], ◌∷
 use Rattle.st_base.specs.Records.{Rec}
 use Rattle.st_pcap.specs.declared.forms.Order.{Order}
 use Rattle.st_pcap.specs.declared.forms.Unit as unit
-use Rattle.st_pcap.specs.declared.forms.TheConstants.{MAX_INPUT}
+use Rattle.st_pcap.specs.declared.numbers.TheConstants.{RECORD_HEAD_SIZE, MAX_INPUT}
 use Rattle.st_pcap.specs.Heads.{IsRecordHead}
 use Rattle.st_pcap.specs.Input.{Records, AllBegin}
 
 -- how many bytes records take
 abbrev pub size_of : List Rec → ℕ
 size_of [] = 0
-size_of (r ∷ rs) = 16 + length r.body + size_of rs
+size_of (r ∷ rs) = RECORD_HEAD_SIZE + length r.body + size_of rs
 
 -- the bytes are those of the records and the rest
 pub length-Records : (order : Order) (u : unit.Unit) (bytes : List ℕ) (rs : List Rec) (rest : List ℕ) → Records order u bytes rs rest → length bytes ≡ size_of rs + length rest
@@ -31,4 +31,4 @@ Records-snoc order u bytes (q ∷ rs) r head more (first, others, is_first, whol
 
 pub AllBegin-snoc : (before : ℕ) (rs : List Rec) (r : Rec) → AllBegin before rs → before + size_of rs < MAX_INPUT → AllBegin before (rs ++ r ∷ [])
 AllBegin-snoc before [] r all below = (omega arith, tt)
-AllBegin-snoc before (q ∷ rs) r (first, later) below = (first, AllBegin-snoc (before + (16 + length q.body)) rs r later (omega arith))
+AllBegin-snoc before (q ∷ rs) r (first, later) below = (first, AllBegin-snoc (before + (RECORD_HEAD_SIZE + length q.body)) rs r later (omega arith))

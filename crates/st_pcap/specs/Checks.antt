@@ -5,28 +5,28 @@ use Rattle.st_pcap.specs.declared.errors.PcapErr.{PcapErr}
 use Rattle.st_pcap.specs.declared.errors.PcapErr.TheVariants.{ReadFault, TooMuch}
 use Rattle.st_pcap.specs.declared.head_fields.HeadFields.{HeadFields}
 use Rattle.st_pcap.specs.declared.forms.Form.{Form}
-use Rattle.st_pcap.specs.declared.forms.TheConstants.{MAX_BODY, MAX_INPUT}
-use Rattle.st_pcap.specs.Forms.{field, fractions, nanoseconds}
+use Rattle.st_pcap.specs.declared.numbers.TheConstants.{FILE_HEAD_SIZE, RECORD_HEAD_SIZE, SEC_AT, FRACTION_AT, CAPTURED_AT, ORIG_AT, NANOS, MAX_BODY, MAX_INPUT}
+use Rattle.st_pcap.specs.Forms.{number_at, fractions, nanoseconds}
 use Rattle.st_pcap.specs.Heads.{IsFileHead, IsRecordHead, refusal_of_file, refusal_of_size}
 use Rattle.st_pcap.specs.Input.{Whole, Refused, end_at}
 use Rattle.st_pcap.specs.Reading.{IsOutside}
 
 -- these fields stand in the 16 bytes, and are in range
 pub record HasFields (form : Form) (head : List ℕ) (e : HeadFields) : Type 0 where
-  pub sec : field form.order 4 0 head ≡ e.sec
-  pub fraction : field form.order 4 4 head < fractions form.unit
-  pub nsec : nanoseconds form.unit (field form.order 4 4 head) ≡ e.nsec
-  pub below : e.nsec < 1000000000
-  pub captured : field form.order 4 8 head ≡ e.captured
+  pub sec : number_at form.order SEC_AT head ≡ e.sec
+  pub fraction : number_at form.order FRACTION_AT head < fractions form.unit
+  pub nsec : nanoseconds form.unit (number_at form.order FRACTION_AT head) ≡ e.nsec
+  pub below : e.nsec < NANOS
+  pub captured : number_at form.order CAPTURED_AT head ≡ e.captured
   pub short : e.captured ≤ MAX_BODY
-  pub orig : field form.order 4 12 head ≡ e.orig
+  pub orig : number_at form.order ORIG_AT head ≡ e.orig
 
 -- the bytes begin with a file head of the form, and what stands behind it is to come; or they
 -- begin with none
 abbrev pub GivesForm : List ℕ → Option (List ℕ) → Result Form PcapErr → Type 0
 GivesForm bytes left (Ok form) =
     (head : List ℕ) × (text : List ℕ) × (bytes ≡ head ++ text) × (left ≡ Some text) × IsFileHead form.order form.unit head
-GivesForm bytes left (Err e) = (e ≡ ReadFault) ⊎ (refusal_of_file (take 24 bytes) ≡ Some e)
+GivesForm bytes left (Err e) = (e ≡ ReadFault) ⊎ (refusal_of_file (take FILE_HEAD_SIZE bytes) ≡ Some e)
 
 -- the bytes begin with the body of the record whose head has these fields; or they are too few
 abbrev pub GivesBody : HeadFields → ℕ → List ℕ → Option (List ℕ) → Result Rec PcapErr → Type 0
@@ -34,7 +34,7 @@ GivesBody fields number rest left (Ok r) =
     (more : List ℕ) × (rest ≡ r.body ++ more) × (left ≡ Some more) × (length r.body ≡ fields.captured)
     × (r.sec ≡ fields.sec) × (r.nsec ≡ fields.nsec) × (r.orig ≡ fields.orig)
 GivesBody fields number rest left (Err e) =
-    IsOutside e ⊎ (refusal_of_size number (16 + length rest) (16 + fields.captured) ≡ Some e)
+    IsOutside e ⊎ (refusal_of_size number (RECORD_HEAD_SIZE + length rest) (RECORD_HEAD_SIZE + fields.captured) ≡ Some e)
 
 -- the bytes begin with a record; or what the order of checks finds there
 abbrev pub GivesRecord : Form → ℕ → ℕ → List ℕ → Option (List ℕ) → Result (Option Rec) PcapErr → Type 0

@@ -6,30 +6,36 @@ use Rattle.st_pcap.specs.declared.forms.Order.{Order}
 use Rattle.st_pcap.specs.declared.forms.Order.TheVariants.{Little, Big}
 use Rattle.st_pcap.specs.declared.forms.Unit as unit
 use Rattle.st_pcap.specs.declared.forms.Unit.TheVariants.{Micro, Nano}
+use Rattle.st_pcap.specs.declared.numbers.TheConstants.{NUMBER_SIZE, SHORT_SIZE, LITTLE_MICRO, BIG_MICRO, LITTLE_NANO, BIG_NANO, MICROS, NANOS, NANOS_IN_MICRO}
 
--- the number in the n bytes from this place on
-abbrev pub field : Order → ℕ → ℕ → List ℕ → ℕ
-field Little n at bytes = little_number n (drop at bytes)
-field Big n at bytes = big_number n (drop at bytes)
+-- the number of four bytes from this offset on
+abbrev pub number_at : Order → ℕ → List ℕ → ℕ
+number_at Little at bytes = little_number NUMBER_SIZE (drop at bytes)
+number_at Big at bytes = big_number NUMBER_SIZE (drop at bytes)
+
+-- the number of two bytes from this offset on
+abbrev pub short_at : Order → ℕ → List ℕ → ℕ
+short_at Little at bytes = little_number SHORT_SIZE (drop at bytes)
+short_at Big at bytes = big_number SHORT_SIZE (drop at bytes)
 
 -- the first four bytes of a file of this form, as a little-endian number
 abbrev pub magic : Order → unit.Unit → ℕ
-magic Little Micro = 0xa1b2c3d4
-magic Big Micro = 0xd4c3b2a1
-magic Little Nano = 0xa1b23c4d
-magic Big Nano = 0x4d3cb2a1
+magic Little Micro = LITTLE_MICRO
+magic Big Micro = BIG_MICRO
+magic Little Nano = LITTLE_NANO
+magic Big Nano = BIG_NANO
 
 -- how many fractions a second has
 abbrev pub fractions : unit.Unit → ℕ
-fractions Micro = 1000000
-fractions Nano = 1000000000
+fractions Micro = MICROS
+fractions Nano = NANOS
 
 -- a fraction in nanoseconds
 abbrev pub nanoseconds : unit.Unit → ℕ → ℕ
-nanoseconds Micro fraction = fraction * 1000
+nanoseconds Micro fraction = fraction * NANOS_IN_MICRO
 nanoseconds Nano fraction = fraction
 
 -- the fraction of so many nanoseconds, cut off
 abbrev pub fraction_of : unit.Unit → ℕ → ℕ
-fraction_of Micro nanos = nanos / 1000
+fraction_of Micro nanos = nanos / NANOS_IN_MICRO
 fraction_of Nano nanos = nanos

@@ -10,41 +10,41 @@ use Rattle.st_pcap.specs.declared.forms.Order.{Order}
 use Rattle.st_pcap.specs.declared.forms.Order.TheVariants.{Little, Big}
 use Rattle.st_pcap.specs.declared.forms.Unit as unit
 use Rattle.st_pcap.specs.declared.forms.Unit.TheVariants.{Micro, Nano}
-use Rattle.st_pcap.specs.declared.forms.TheConstants.{MAX_BODY}
-use Rattle.st_pcap.specs.Forms.{field, magic, fractions, nanoseconds}
+use Rattle.st_pcap.specs.declared.numbers.TheConstants.{NUMBER_SIZE, FILE_HEAD_SIZE, MAJOR_AT, MINOR_AT, LINK_AT, MAJOR, MINOR, LINK_LIMIT, ETHERNET, RECORD_HEAD_SIZE, SEC_AT, FRACTION_AT, CAPTURED_AT, ORIG_AT, MAX_BODY}
+use Rattle.st_pcap.specs.Forms.{short_at, number_at, magic, fractions, nanoseconds}
 
 -- these bytes are the head of a file of this form: of version 2.4, over Ethernet
 pub record IsFileHead (order : Order) (u : unit.Unit) (head : List ℕ) : Type 0 where
-  pub size : length head ≡ 24
-  pub magic : little_number 4 head ≡ magic order u
-  pub major : field order 2 4 head ≡ 2
-  pub minor : field order 2 6 head ≡ 4
-  pub link : field order 4 20 head % 65536 ≡ 1
+  pub size : length head ≡ FILE_HEAD_SIZE
+  pub magic : little_number NUMBER_SIZE head ≡ magic order u
+  pub major : short_at order MAJOR_AT head ≡ MAJOR
+  pub minor : short_at order MINOR_AT head ≡ MINOR
+  pub link : number_at order LINK_AT head % LINK_LIMIT ≡ ETHERNET
 
 -- these bytes are the head of the record
 pub record IsRecordHead (order : Order) (u : unit.Unit) (head : List ℕ) (r : Rec) : Type 0 where
-  pub size : length head ≡ 16
-  pub sec : field order 4 0 head ≡ r.sec
-  pub fraction : field order 4 4 head < fractions u
-  pub nsec : nanoseconds u (field order 4 4 head) ≡ r.nsec
-  pub captured : field order 4 8 head ≡ length r.body
+  pub size : length head ≡ RECORD_HEAD_SIZE
+  pub sec : number_at order SEC_AT head ≡ r.sec
+  pub fraction : number_at order FRACTION_AT head < fractions u
+  pub nsec : nanoseconds u (number_at order FRACTION_AT head) ≡ r.nsec
+  pub captured : number_at order CAPTURED_AT head ≡ length r.body
   pub short : length r.body ≤ MAX_BODY
-  pub orig : field order 4 12 head ≡ r.orig
+  pub orig : number_at order ORIG_AT head ≡ r.orig
 
 -- the low 16 bits of the link type are to be 1, Ethernet
 abbrev pub refusal_of_link : ℕ → Option PcapErr
-refusal_of_link link = if link == 1 then None else Some (LinkType link)
+refusal_of_link link = if link == ETHERNET then None else Some (LinkType link)
 
 -- the version is to be 2.4; only then the link type is looked at
 abbrev pub refusal_of_version : Order → List ℕ → Option PcapErr
 refusal_of_version order head =
-    if (field order 2 4 head == 2) && (field order 2 6 head == 4) then refusal_of_link (field order 4 20 head % 65536)
-    else Some (Version (field order 2 4 head) (field order 2 6 head))
+    if (short_at order MAJOR_AT head == MAJOR) && (short_at order MINOR_AT head == MINOR) then refusal_of_link (number_at order LINK_AT head % LINK_LIMIT)
+    else Some (Version (short_at order MAJOR_AT head) (short_at order MINOR_AT head))
 
 -- 24 bytes are to stand there; only then the version is looked at
 abbrev pub refusal_of_rest : Order → List ℕ → Option PcapErr
 refusal_of_rest order head =
-    if nat_lt (length head) 24 then Some (Truncated 0 (length head) 24) else refusal_of_version order head
+    if nat_lt (length head) FILE_HEAD_SIZE then Some (Truncated 0 (length head) FILE_HEAD_SIZE) else refusal_of_version order head
 
 -- the first four bytes are to be the magic of a form; only then the rest is looked at, in its order
 abbrev pub refusal_of_magic : ℕ → List ℕ → Option PcapErr
@@ -59,7 +59,7 @@ refusal_of_magic found head =
 -- one. Four bytes are to stand there; only then the magic is looked at.
 abbrev pub refusal_of_file : List ℕ → Option PcapErr
 refusal_of_file head =
-    if nat_lt (length head) 4 then Some (Truncated 0 (length head) 24) else refusal_of_magic (little_number 4 head) head
+    if nat_lt (length head) NUMBER_SIZE then Some (Truncated 0 (length head) FILE_HEAD_SIZE) else refusal_of_magic (little_number NUMBER_SIZE head) head
 
 -- the captured length is to be no longer than a body may be
 abbrev pub refusal_of_captured : ℕ → ℕ → Option PcapErr
@@ -68,8 +68,8 @@ refusal_of_captured number captured = if nat_lt MAX_BODY captured then Some (Too
 -- the fraction is to be less than a second; only then the captured length is looked at
 abbrev pub refusal_of_fields : Order → unit.Unit → ℕ → List ℕ → Option PcapErr
 refusal_of_fields order u number head =
-    if nat_le (fractions u) (field order 4 4 head) then Some (BadFraction number (field order 4 4 head))
-    else refusal_of_captured number (field order 4 8 head)
+    if nat_le (fractions u) (number_at order FRACTION_AT head) then Some (BadFraction number (number_at order FRACTION_AT head))
+    else refusal_of_captured number (number_at order CAPTURED_AT head)
 
 -- so many bytes of the record are to stand there
 abbrev pub refusal_of_size : ℕ → ℕ → ℕ → Option PcapErr
@@ -79,8 +79,8 @@ refusal_of_size number have want = if nat_lt have want then Some (Truncated numb
 -- with one. First a head that is cut is refused, then what its fields say, then a body that is cut.
 abbrev pub refusal_of_record : Order → unit.Unit → ℕ → List ℕ → Option PcapErr
 refusal_of_record order u number rest =
-    option_or (refusal_of_size number (length rest) 16)
-    (option_or (refusal_of_fields order u number (take 16 rest)) (refusal_of_size number (length rest) (16 + field order 4 8 (take 16 rest))))
+    option_or (refusal_of_size number (length rest) RECORD_HEAD_SIZE)
+    (option_or (refusal_of_fields order u number (take RECORD_HEAD_SIZE rest)) (refusal_of_size number (length rest) (RECORD_HEAD_SIZE + number_at order CAPTURED_AT (take RECORD_HEAD_SIZE rest))))
 
 -- the causes that a file head is refused for, which name no record
 abbrev pub IsOfFileHead : PcapErr → Type 0

@@ -6,7 +6,7 @@ use Rattle.st_pcap.specs.declared.errors.PcapErr.{PcapErr}
 use Rattle.st_pcap.specs.declared.errors.PcapErr.TheVariants.{TooMuch}
 use Rattle.st_pcap.specs.declared.forms.Order.{Order}
 use Rattle.st_pcap.specs.declared.forms.Unit as unit
-use Rattle.st_pcap.specs.declared.forms.TheConstants.{MAX_INPUT}
+use Rattle.st_pcap.specs.declared.numbers.TheConstants.{FILE_HEAD_SIZE, RECORD_HEAD_SIZE, MAX_INPUT}
 use Rattle.st_pcap.specs.Heads.{IsFileHead, IsRecordHead, refusal_of_file, refusal_of_record}
 
 -- these bytes are the records, each its head and then its body, and then go on with the rest
@@ -28,7 +28,7 @@ pub record IsPcap (bytes : List ℕ) (rs : List Rec) (rest : List ℕ) : Type 0 
 -- behind so many bytes each record begins below the most that is read of an input
 abbrev pub AllBegin : ℕ → List Rec → Type 0
 AllBegin before [] = Unit {0}
-AllBegin before (r ∷ rs) = (before < MAX_INPUT) × AllBegin (before + (16 + length r.body)) rs
+AllBegin before (r ∷ rs) = (before < MAX_INPUT) × AllBegin (before + (RECORD_HEAD_SIZE + length r.body)) rs
 
 -- how an input ends: whole, where a record would begin, or refused
 pub data End : Type 0 where
@@ -47,6 +47,6 @@ end_at order u before number rest =
 -- behind the last of them, the numbers of records counted from 1.
 abbrev pub Input : List ℕ → List Rec → End → Type 0
 Input bytes rs end =
-    ((e : PcapErr) × (refusal_of_file (take 24 bytes) ≡ Some e) × (rs ≡ []) × (end ≡ Refused e))
-    ⊎ ((rest : List ℕ) × (file : IsPcap bytes rs rest) × AllBegin 24 rs
+    ((e : PcapErr) × (refusal_of_file (take FILE_HEAD_SIZE bytes) ≡ Some e) × (rs ≡ []) × (end ≡ Refused e))
+    ⊎ ((rest : List ℕ) × (file : IsPcap bytes rs rest) × AllBegin FILE_HEAD_SIZE rs
     × (end_at file.order file.unit (length bytes - length rest) (length rs + 1) rest ≡ Some end))

@@ -4,7 +4,7 @@ use Rattle.std.specs.List.{concat}
 use Rattle.st_base.specs.Records.{Rec, InRange}
 use Rattle.st_pcap.specs.declared.errors.PcapErr.{PcapErr}
 use Rattle.st_pcap.specs.declared.forms.Unit as unit
-use Rattle.st_pcap.specs.declared.forms.TheConstants.{MAX_BODY, MAX_INPUT}
+use Rattle.st_pcap.specs.declared.numbers.TheConstants.{FILE_HEAD_SIZE, MAX_BODY, MAX_INPUT}
 use Rattle.st_pcap.specs.Heads.{IsOfFileHead, refusal_of_file}
 use Rattle.st_pcap.specs.Input.{IsPcap, End, Whole, Refused, Input}
 use Rattle.st_pcap.specs.Text.{PcapText, Pieces, cut_to}
@@ -36,4 +36,4 @@ PiecesJoin = (u : unit.Unit) (rs : List Rec) → concat (Pieces rs u) ≡ PcapTe
 -- an input that is refused for a cause of the file head has a file head that is refused for it, and
 -- no other input has
 abbrev pub HeadsApart : Type 0
-HeadsApart = (bytes : List ℕ) (rs : List Rec) (e : PcapErr) → Input bytes rs (Refused e) → IsOfFileHead e ↔ (refusal_of_file (take 24 bytes) ≡ Some e)
+HeadsApart = (bytes : List ℕ) (rs : List Rec) (e : PcapErr) → Input bytes rs (Refused e) → IsOfFileHead e ↔ (refusal_of_file (take FILE_HEAD_SIZE bytes) ≡ Some e)

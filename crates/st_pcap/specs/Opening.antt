@@ -4,10 +4,11 @@ use Rattle.st_base.specs.Records.{Rec}
 use Rattle.st_pcap.specs.declared.errors.PcapErr.{PcapErr}
 use Rattle.st_pcap.specs.declared.errors.PcapErr.TheVariants.{TooMuch}
 use Rattle.st_pcap.specs.declared.forms.Form.{Form}
-use Rattle.st_pcap.specs.declared.forms.TheConstants.{MAX_BODY, MAX_INPUT}
 use Rattle.st_pcap.specs.declared.reader.Phase.TheVariants.{Fresh, Open, Stopped}
+use Rattle.st_pcap.specs.declared.numbers.TheConstants.{FILE_HEAD_SIZE, RECORD_HEAD_SIZE, MAX_BODY, MAX_INPUT}
 use Rattle.st_pcap.specs.Input.{Input, Refused}
-use Rattle.st_pcap.specs.Reading.{PcapReaderView, IsOutside, HasRead, Took}
+use Rattle.st_pcap.specs.Reading.{PcapReaderView, IsOutside, HasRead}
+use Rattle.st_pcap.specs.Taking.{Took, TakesHead}
 
 -- the reader stands where it stood, behind the file head; or the bytes are refused
 abbrev pub Opens : List ℕ → List Rec → PcapReaderView → Option (List ℕ) → Result Form PcapErr → Type 0
@@ -24,12 +25,13 @@ KeepsOpening new (Err e) = new.phase ≡ Stopped e
 pub record OpensOnce {S : Type 0} (before now : S) (old new : PcapReaderView) (result : Result Form PcapErr) : Type 0 where
   pub known : (form : Form) → old.phase ≡ Open form → (result ≡ Ok form) × (new ≡ old) × (now ≡ before)
   pub again : (e : PcapErr) → old.phase ≡ Stopped e → (result ≡ Err e) × (new ≡ old) × (now ≡ before)
-  pub fresh : old.phase ≡ Fresh → new.taken ≤ 24
+  pub fresh : old.phase ≡ Fresh → new.taken ≤ FILE_HEAD_SIZE
   pub much_only : (n : ℕ) → result ≡ Err (TooMuch n) → old.phase ≡ Stopped (TooMuch n)
 
 -- how much the opening took, where no record is given
-pub record CountsHead (left still : Option (List ℕ)) (old new : PcapReaderView) : Type 0 where
+pub record CountsHead (left still : Option (List ℕ)) (old new : PcapReaderView) (result : Result Form PcapErr) : Type 0 where
   pub taken : Took left still old.taken new.taken
+  pub takes : TakesHead old.phase old.taken new.taken result
   pub number : new.number ≡ old.number
   pub later : old.taken ≤ new.taken
-  pub bound : new.taken ≤ MAX_INPUT + 16 + MAX_BODY
+  pub bound : new.taken ≤ MAX_INPUT + RECORD_HEAD_SIZE + MAX_BODY

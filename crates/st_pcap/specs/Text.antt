@@ -6,19 +6,19 @@ use Rattle.byteorder.specs.Endian.{little_bytes}
 use Rattle.st_base.specs.Records.{Rec}
 use Rattle.st_pcap.specs.declared.forms.Order.TheVariants.{Little}
 use Rattle.st_pcap.specs.declared.forms.Unit as unit
-use Rattle.st_pcap.specs.declared.forms.TheConstants.{MAX_BODY}
+use Rattle.st_pcap.specs.declared.numbers.TheConstants.{NUMBER_SIZE, SHORT_SIZE, OLDER_SIZE, MAJOR, MINOR, ETHERNET, MAX_BODY}
 use Rattle.st_pcap.specs.Forms.{magic, fraction_of, nanoseconds}
 
 -- the 24 bytes of the file head: magic, version, two numbers that are zero, the longest body, and
 -- Ethernet
 unfoldable pub file_head : unit.Unit → List ℕ
 file_head u =
-    little_bytes 4 (magic Little u) ++ (little_bytes 2 2 ++ (little_bytes 2 4 ++ (little_bytes 8 0 ++ (little_bytes 4 MAX_BODY ++ little_bytes 4 1))))
+    little_bytes NUMBER_SIZE (magic Little u) ++ (little_bytes SHORT_SIZE MAJOR ++ (little_bytes SHORT_SIZE MINOR ++ (little_bytes OLDER_SIZE 0 ++ (little_bytes NUMBER_SIZE MAX_BODY ++ little_bytes NUMBER_SIZE ETHERNET))))
 
 -- the 16 bytes before a record's body: seconds, fraction, captured and original length
 unfoldable pub record_head : unit.Unit → Rec → List ℕ
 record_head u r =
-    little_bytes 4 r.sec ++ (little_bytes 4 (fraction_of u r.nsec) ++ (little_bytes 4 (length r.body) ++ little_bytes 4 r.orig))
+    little_bytes NUMBER_SIZE r.sec ++ (little_bytes NUMBER_SIZE (fraction_of u r.nsec) ++ (little_bytes NUMBER_SIZE (length r.body) ++ little_bytes NUMBER_SIZE r.orig))
 
 -- a record's head and body
 abbrev pub record_text : unit.Unit → Rec → List ℕ

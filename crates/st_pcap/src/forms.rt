@@ -1,6 +1,7 @@
 ghost use Rattle.std.specs.Prelude.{◌≡◌, ◌+◌, ◌<◌, ◌≤◌, length};
-ghost use Rattle.st_pcap.specs.Forms.{field, fractions, fraction_of, nanoseconds};
+ghost use Rattle.st_pcap.specs.Forms.{number_at, short_at, fractions, fraction_of, nanoseconds};
 
+use crate::numbers::{MICROS, NANOS, NANOS_IN_MICRO, NUMBER_SIZE, SHORT_SIZE};
 use byteorder::{BigEndian, ByteOrder, LittleEndian};
 
 /// The order of the bytes of each number of a file, as its first four bytes tell it.
@@ -28,17 +29,10 @@ pub struct Form {
     pub unit: Unit,
 }
 
-/// The longest body of a record in bytes, libpcap's own limit (`MAXIMUM_SNAPLEN`), which is also
-/// the snaplen that is written.
-pub const MAX_BODY: u32 = 262_144;
-
-/// No record begins behind so many bytes of an input: 2^40.
-pub const MAX_INPUT: u64 = 1_099_511_627_776;
-
-/// The number in the four bytes from place `at` on.
+/// The number of four bytes from offset `at` on.
 pub fn number_at(order: Order, at: usize, bytes: &[u8]) -> u32
-    requires { at + 4 ≤ length bytes.now }
-    ensures { result ≡ field order 4 at bytes.now }
+    requires { at + NUMBER_SIZE ≤ length bytes.now }
+    ensures { result ≡ number_at order at bytes.now }
 {
     let bytes = bytes.split_at(at).1;
     match order {
@@ -47,10 +41,10 @@ pub fn number_at(order: Order, at: usize, bytes: &[u8]) -> u32
     }
 }
 
-/// The number in the two bytes from place `at` on.
+/// The number of two bytes from offset `at` on.
 pub fn short_at(order: Order, at: usize, bytes: &[u8]) -> u16
-    requires { at + 2 ≤ length bytes.now }
-    ensures { result ≡ field order 2 at bytes.now }
+    requires { at + SHORT_SIZE ≤ length bytes.now }
+    ensures { result ≡ short_at order at bytes.now }
 {
     let bytes = bytes.split_at(at).1;
     match order {
@@ -64,8 +58,8 @@ pub fn fractions(unit: Unit) -> u32
     ensures { result ≡ fractions unit }
 {
     match unit {
-        Unit::Micro => 1_000_000,
-        Unit::Nano => 1_000_000_000,
+        Unit::Micro => MICROS,
+        Unit::Nano => NANOS,
     }
 }
 
@@ -73,20 +67,20 @@ pub fn fractions(unit: Unit) -> u32
 pub fn nanoseconds(unit: Unit, fraction: u32) -> u32
     requires { fraction < fractions unit }
     ensures value { result ≡ nanoseconds unit fraction }
-    ensures below { result < 1000000000 }
+    ensures below { result < NANOS }
 {
     match unit {
-        Unit::Micro => fraction * 1_000,
+        Unit::Micro => fraction * NANOS_IN_MICRO,
         Unit::Nano => fraction,
     }
 }
 
-/// The fraction of so many nanoseconds, cut off.
+/// The fraction that this many nanoseconds are, cut off.
 pub fn fraction_of(unit: Unit, nanos: u32) -> u32
     ensures { result ≡ fraction_of unit nanos }
 {
     match unit {
-        Unit::Micro => nanos / 1_000,
+        Unit::Micro => nanos / NANOS_IN_MICRO,
         Unit::Nano => nanos,
     }
 }

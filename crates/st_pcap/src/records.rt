@@ -1,29 +1,31 @@
-ghost use Rattle.std.specs.Prelude.{◌≡◌, ◌+◌, ◌<◌, ◌≤◌, List, ℕ, Some, Err, IfOk, IfErr, vec_len};
-ghost use Rattle.st_base.specs.Faults.{Rose};
-ghost use Rattle.st_pcap.specs.Reading.{Took, Counts};
+ghost use Rattle.std.specs.Prelude.{◌≡◌, ◌+◌, ◌<◌, ◌≤◌, List, ℕ, Some, Err, IfOk, IfErr, MatchResult, length, vec_len, vec_capacity};
+ghost use Rattle.st_pcap.specs.Reading.{Counts, HasFaultCause};
+ghost use Rattle.st_pcap.specs.Taking.{Took, TakesHead, TakesRecord, RefusesRecord};
+ghost use Rattle.st_pcap.specs.declared.reader.Phase.TheVariants.{Fresh};
 ghost use Rattle.st_pcap.specs.Checks.{GivesForm, GivesBody, GivesRecord, EndsAtLimit, IsNoLimit};
 
 use crate::checks::{fields_in, form_in};
 use crate::errors::PcapErr;
 use crate::fill::take_bytes;
-use crate::forms::{Form, MAX_BODY, MAX_INPUT};
+use crate::forms::Form;
 use crate::head_fields::HeadFields;
+use crate::numbers::{FILE_HEAD_SIZE, MAX_BODY, MAX_INPUT, NANOS, RECORD_HEAD_SIZE};
 use st_base::{Octets, Record, Source};
 
 /// Reads the file head, by one read where the source gives as much as it is asked for, and answers
 /// its form. What came is counted in `taken`, in bytes.
 pub fn read_form<S: Source>(source: &mut S, taken: &mut u64) -> Result<Form, PcapErr>
-    requires { taken.old ≤ MAX_INPUT + 16 + MAX_BODY }
+    requires { taken.old ≤ MAX_INPUT + RECORD_HEAD_SIZE + MAX_BODY }
     ensures gives { (bytes : List ℕ) → S.left source.old ≡ Some bytes
         → GivesForm bytes (S.left source.new) result }
     ensures below { IfErr result IsNoLimit }
-    ensures fault { result ≡ Err PcapErr.ReadFault → Rose (S.faults source.old) (S.faults source.new) }
+    ensures cause { HasFaultCause (S.faults source.old) (S.faults source.new) result }
     ensures taken { Took (S.left source.old) (S.left source.new) taken.old taken.new }
-    ensures bound { taken.new ≤ taken.old + 24 }
-    ensures later { S.faults source.old ≤ S.faults source.new }
+    ensures takes { TakesHead Fresh taken.old taken.new result }
+    ensures bound { taken.new ≤ taken.old + FILE_HEAD_SIZE }
     ensures rest { S.beside source.new ≡ S.beside source.old }
 {
-    let mut head = [0; 24];
+    let mut head = [0; FILE_HEAD_SIZE];
     match take_bytes(source, &mut head, taken) {
         Ok(have) => form_in(&head[..have]),
         Err(error) => Err(error),
@@ -39,29 +41,31 @@ pub fn read_record<S: Source>(
     body: Vec<u8>,
     taken: &mut u64,
 ) -> Result<Option<Record>, PcapErr>
-    requires { taken.old ≤ MAX_INPUT + 16 + MAX_BODY }
+    requires counted { 0 < number }
+    requires room { taken.old ≤ MAX_INPUT + RECORD_HEAD_SIZE + MAX_BODY }
     ensures gives { (rest : List ℕ) → S.left source.old ≡ Some rest
         → GivesRecord form taken.old number rest (S.left source.new) result }
-    ensures fault { result ≡ Err PcapErr.ReadFault → Rose (S.faults source.old) (S.faults source.new) }
+    ensures cause { HasFaultCause (S.faults source.old) (S.faults source.new) result }
     ensures count { Counts (S.left source.old) (S.left source.new) taken.old taken.new result }
+    ensures takes { TakesRecord taken.old taken.new result }
+    ensures memory { result ≡ Err PcapErr.NoMemory → vec_capacity body < MAX_BODY }
     ensures limit { EndsAtLimit source.old source.new taken.old taken.new result }
-    ensures later { S.faults source.old ≤ S.faults source.new }
     ensures rest { S.beside source.new ≡ S.beside source.old }
 {
     if *taken >= MAX_INPUT {
         return Err(PcapErr::TooMuch { taken: *taken });
     }
-    let mut head = [0; 16];
+    let mut head = [0; RECORD_HEAD_SIZE];
     let have = match take_bytes(source, &mut head, taken) {
         Ok(0) => return Ok(None),
         Ok(have) => have,
         Err(error) => return Err(error),
     };
-    if have < 16 {
+    if have < RECORD_HEAD_SIZE {
         return Err(PcapErr::Truncated {
             number,
             have: have as u64,
-            want: 16,
+            want: RECORD_HEAD_SIZE as u64,
         });
     }
     match fields_in(form, number, &head) {
@@ -81,17 +85,20 @@ fn read_body<S: Source>(
     body: Vec<u8>,
     taken: &mut u64,
 ) -> Result<Record, PcapErr>
-    requires room { taken.old ≤ MAX_INPUT + 16 }
+    requires counted { 0 < number }
+    requires room { taken.old ≤ MAX_INPUT + RECORD_HEAD_SIZE }
     requires short { fields.now.captured ≤ MAX_BODY }
-    requires below { fields.now.nsec < 1000000000 }
+    requires below { fields.now.nsec < NANOS }
     ensures gives { (rest : List ℕ) → S.left source.old ≡ Some rest
         → GivesBody fields.now number rest (S.left source.new) result }
     ensures below { IfErr result IsNoLimit }
-    ensures fault { result ≡ Err PcapErr.ReadFault → Rose (S.faults source.old) (S.faults source.new) }
+    ensures memory { result ≡ Err PcapErr.NoMemory → vec_capacity body < fields.now.captured }
+    ensures cause { HasFaultCause (S.faults source.old) (S.faults source.new) result }
     ensures taken { Took (S.left source.old) (S.left source.new) taken.old taken.new }
-    ensures bound { taken.new ≤ MAX_INPUT + 16 + MAX_BODY }
+    ensures takes { (begin : ℕ) → taken.old ≡ begin + RECORD_HEAD_SIZE
+        → MatchResult result (λ r. taken.new ≡ taken.old + length r.body) (RefusesRecord begin taken.new) }
+    ensures bound { taken.new ≤ MAX_INPUT + RECORD_HEAD_SIZE + MAX_BODY }
     ensures grows { taken.old ≤ taken.new }
-    ensures later { S.faults source.old ≤ S.faults source.new }
     ensures rest { S.beside source.new ≡ S.beside source.old }
 {
     let mut body = match sized(body, fields.captured as usize) {
@@ -101,8 +108,8 @@ fn read_body<S: Source>(
     match take_bytes(source, body.as_mut_slice(), taken) {
         Ok(have) if have < fields.captured as usize => Err(PcapErr::Truncated {
             number,
-            have: 16 + have as u64,
-            want: 16 + u64::from(fields.captured),
+            have: RECORD_HEAD_SIZE as u64 + have as u64,
+            want: RECORD_HEAD_SIZE as u64 + u64::from(fields.captured),
         }),
         Ok(_) => Ok(Record {
             sec: fields.sec,
@@ -117,7 +124,7 @@ fn read_body<S: Source>(
 /// `body` with this length in bytes, whatever bytes it has.
 fn sized(mut body: Vec<u8>, len: usize) -> Result<Vec<u8>, PcapErr>
     ensures len { IfOk result (λ v. vec_len v ≡ len) }
-    ensures memory { IfErr result (λ e. e ≡ PcapErr.NoMemory) }
+    ensures memory { IfErr result (λ e. (e ≡ PcapErr.NoMemory) × (vec_capacity body < len)) }
 {
     match body.resize(len, 0) {
         Ok(()) => Ok(body),

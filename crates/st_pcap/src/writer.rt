@@ -3,7 +3,11 @@ ghost use Rattle.st_base.specs.Faults.{HasCause};
 ghost use Rattle.st_base.specs.Pieces.{Puts};
 ghost use Rattle.st_pcap.specs.Text.{file_head, record_head, record_text};
 
-use crate::forms::{MAX_BODY, Unit, fraction_of};
+use crate::forms::{Unit, fraction_of};
+use crate::numbers::{
+    CAPTURED_AT, ETHERNET, FILE_HEAD_SIZE, FRACTION_AT, LINK_AT, LITTLE_MICRO, LITTLE_NANO, MAJOR,
+    MAJOR_AT, MAX_BODY, MINOR, MINOR_AT, ORIG_AT, RECORD_HEAD_SIZE, SEC_AT, SNAPLEN_AT,
+};
 use byteorder::{ByteOrder, LittleEndian};
 use st_base::{Failed, NoMemory, RecordRef, Sink, put};
 
@@ -11,19 +15,19 @@ use st_base::{Failed, NoMemory, RecordRef, Sink, put};
 ///
 /// Source: docs/FORMAT.md, "pcap", written files.
 #[tactic(auto, unfolding(crate::specs::Text::file_head))]
-pub fn file_head(unit: Unit) -> [u8; 24]
+pub fn file_head(unit: Unit) -> [u8; FILE_HEAD_SIZE]
     ensures { result ≡ file_head unit }
 {
-    let mut head = [0; 24];
+    let mut head = [0; FILE_HEAD_SIZE];
     let magic = match unit {
-        Unit::Micro => 0xa1b2_c3d4,
-        Unit::Nano => 0xa1b2_3c4d,
+        Unit::Micro => LITTLE_MICRO,
+        Unit::Nano => LITTLE_NANO,
     };
     LittleEndian::write_u32(&mut head, magic);
-    LittleEndian::write_u16(&mut head[4..], 2);
-    LittleEndian::write_u16(&mut head[6..], 4);
-    LittleEndian::write_u32(&mut head[16..], MAX_BODY);
-    LittleEndian::write_u32(&mut head[20..], 1);
+    LittleEndian::write_u16(&mut head[MAJOR_AT..], MAJOR);
+    LittleEndian::write_u16(&mut head[MINOR_AT..], MINOR);
+    LittleEndian::write_u32(&mut head[SNAPLEN_AT..], MAX_BODY);
+    LittleEndian::write_u32(&mut head[LINK_AT..], ETHERNET);
     head
 }
 
@@ -31,7 +35,7 @@ pub fn file_head(unit: Unit) -> [u8; 24]
 /// and original length in bytes. It takes no memory.
 ///
 /// Source: docs/FORMAT.md, "pcap", written files.
-pub fn record_head(unit: Unit, r: RecordRef<'_>) -> [u8; 16]
+pub fn record_head(unit: Unit, r: RecordRef<'_>) -> [u8; RECORD_HEAD_SIZE]
     ensures { result ≡ record_head unit r.entry }
 {
     head_of(unit, &r)
@@ -39,14 +43,14 @@ pub fn record_head(unit: Unit, r: RecordRef<'_>) -> [u8; 16]
 
 /// The same of a record that is used again.
 #[tactic(auto, unfolding(crate::specs::Text::record_head))]
-fn head_of(unit: Unit, r: &RecordRef<'_>) -> [u8; 16]
+fn head_of(unit: Unit, r: &RecordRef<'_>) -> [u8; RECORD_HEAD_SIZE]
     ensures { result ≡ record_head unit r.now }
 {
-    let mut head = [0; 16];
-    LittleEndian::write_u32(&mut head, r.sec);
-    LittleEndian::write_u32(&mut head[4..], fraction_of(unit, r.nsec));
-    LittleEndian::write_u32(&mut head[8..], r.body.len() as u32);
-    LittleEndian::write_u32(&mut head[12..], r.orig);
+    let mut head = [0; RECORD_HEAD_SIZE];
+    LittleEndian::write_u32(&mut head[SEC_AT..], r.sec);
+    LittleEndian::write_u32(&mut head[FRACTION_AT..], fraction_of(unit, r.nsec));
+    LittleEndian::write_u32(&mut head[CAPTURED_AT..], r.body.len() as u32);
+    LittleEndian::write_u32(&mut head[ORIG_AT..], r.orig);
     head
 }
 
