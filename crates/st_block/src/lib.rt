@@ -31,8 +31,8 @@
 //!
 //! `src/format.rt` has the numbers of the layout. `specs/BlockText.antt` says what a file's bytes
 //! are, from the list of its records, and `specs/Position.antt` where each head lies;
-//! `specs/Fields.antt` says what a field is and when it is wrong, `specs/Checks.antt` in which order
-//! a file is checked. `specs/Builder.antt`, `specs/Record.antt` and `specs/Scan.antt` say what the
+//! `specs/Fields.antt` says what a field is and when it is wrong, `specs/Checks.antt` in which
+//! order a file is checked. `specs/Builder.antt`, `specs/Record.antt` and `specs/Scan.antt` say what the
 //! calls of the modules `builder`, `record` and `scan` give.
 #![tactic(auto)]
 
