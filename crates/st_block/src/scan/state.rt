@@ -127,7 +127,7 @@ impl ScanState {
     ghost use Rattle.st_block.specs.ScanView.{start_view, rest_of_block, reached_offset, after_record, LoadsBlock, ReadsOnce};
     ghost use Rattle.st_block.specs.Scan.{PositionedRecord, HasGiven, GivesNext, PassesRecord, Follows, StaysStopped};
 
-    /// A scan before the first of so many blocks.
+    /// A scan before the first of `blocks` blocks of `size` bytes.
     pub fn new(size: u32, blocks: u32) -> ScanState
         requires size { IsBlockSize size }
         requires blocks { blocks ≤ MAX_BLOCKS }
