@@ -1,4 +1,4 @@
--- A check that fails: where it looked, what it found there, and what it wants.
+-- A check that fails: its place, what it found there, and what it wants there.
 use Rattle.std.specs.Prelude.{ℕ}
 use Rattle.st_base.specs.declared.damages.Damage.{Damage}
 

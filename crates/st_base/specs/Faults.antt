@@ -1,5 +1,5 @@
 -- Counts of faults, by which a caller tells a failure of I/O from one of its own.
-use Rattle.std.specs.Prelude.{ℕ, ◌+◌, ◌-◌, ◌^◌, ◌<◌, ◌≤◌, ◌≡◌, min, max, List, length, Result, OnOk, OnErr, IfOk, IsErrOf}
+use Rattle.std.specs.Prelude.{ℕ, ◌+◌, ◌-◌, ◌^◌, ◌<◌, ◌≤◌, ◌≡◌, min, max, List, length, Result, MatchResult, OnOk, OnErr, IfOk, IsErrOf}
 
 -- the count rose, or it is the greatest number of a u64
 abbrev pub Rose : ℕ → ℕ → Type 0
@@ -26,6 +26,14 @@ pub record HasWriteCause {E : Type 0} (before now : ℕ) (piece : List ℕ) (res
   pub empty : OnOk result (length piece ≡ 0 → now ≡ before)
   pub nothing : IfOk result (λ n. n ≡ 0 → 0 < length piece → Rose before now)
   pub failed : OnErr result (Rose before now)
+
+-- one more, but no more than a u64 holds
+abbrev pub next_count : ℕ → ℕ
+next_count n = min (n + 1) (2 ^ 64 - 1)
+
+-- a call that succeeds leaves the count as it was, and one that fails counts one fault
+abbrev pub CountsOne : {T E : Type 0} → ℕ → ℕ → Result T E → Type 0
+CountsOne before now result = MatchResult result (λ _. now ≡ before) (λ _. now ≡ next_count before)
 
 -- a count rose by this many, but stops at the greatest number of a u64
 abbrev pub CountsOn : ℕ → ℕ → ℕ → Type 0

@@ -4,5 +4,6 @@ pub mod Pieces
 pub mod Outlets
 pub mod Ticks
 pub mod PlacedReads
+pub mod KnownLength
 pub mod MemoryViews
 pub mod Damages

@@ -1,5 +1,6 @@
 -- What the implementations in memory are seen as, and what each call of them does.
 use Rattle.std.specs.Prelude.{ℕ, ◌+◌, ◌-◌, ◌^◌, ◌≡◌, min, List, [], length, drop, ◌++◌, Contains, Result, MatchResult}
+use Rattle.st_base.specs.Faults.{next_count}
 
 -- a source that gives at most this many bytes a call and fails at the calls of these numbers,
 -- counted from 0: the bytes to come, the calls so far and the faults so far
@@ -10,7 +11,8 @@ pub record SourceView : Type 0 where
   pub calls : ℕ
   pub faults : ℕ
 
--- a sink that fails at the calls of these numbers: what was written, the calls and the faults so far
+-- a sink that fails at the calls of these numbers: what was written, the calls so far and the
+-- faults so far
 pub record SinkView : Type 0 where
   pub written : List ℕ
   pub fails : List ℕ
@@ -40,27 +42,23 @@ abbrev pub unread_file : List ℕ → List ℕ → ReaderView
 unread_file bytes fails =
     record { content = bytes; fails = fails; reads = 0; asked = 0; faults = 0 }
 
--- one more, but no more than a u64 holds
-abbrev pub next_count : ℕ → ℕ
-next_count n = min (n + 1) (2 ^ 64 - 1)
-
 -- the call gives as much as piece and room allow, or its number is listed and it fails
 abbrev pub GivesOrFails : {E : Type 0} → SourceView → SourceView → List ℕ → Result ℕ E → Type 0
 GivesOrFails old new out result =
     MatchResult result
     (λ n. (Contains old.fails old.calls → ⊥)
-        × (n ≡ min (length old.left) (min (length out) old.piece))
-        × (new ≡ record old { left = drop n old.left; calls = next_count old.calls }))
+    × (n ≡ min (length old.left) (min (length out) old.piece))
+    × (new ≡ record old { left = drop n old.left; calls = next_count old.calls }))
     (λ _. Contains old.fails old.calls
-        × (new ≡ record old { calls = next_count old.calls; faults = next_count old.faults }))
+    × (new ≡ record old { calls = next_count old.calls; faults = next_count old.faults }))
 
 -- the call takes all, or it fails, as it does if its number is listed or it is out of memory
 abbrev pub TakesOrFails : {E : Type 0} → SinkView → SinkView → List ℕ → Result ℕ E → Type 0
 TakesOrFails old new bytes result =
     MatchResult result
     (λ n. (Contains old.fails old.calls → ⊥)
-        × (n ≡ length bytes)
-        × (new ≡ record old { written = old.written ++ bytes; calls = next_count old.calls }))
+    × (n ≡ length bytes)
+    × (new ≡ record old { written = old.written ++ bytes; calls = next_count old.calls }))
     (λ _. new ≡ record old { calls = next_count old.calls; faults = next_count old.faults })
 
 -- a file after a read that asked for this many bytes
@@ -73,4 +71,4 @@ ReadsOrFails old new out result =
     MatchResult result
     (λ n. (Contains old.fails old.reads → ⊥) × (new ≡ read_once old (length out)))
     (λ _. Contains old.fails old.reads
-        × (new ≡ record (read_once old (length out)) { faults = next_count old.faults }))
+    × (new ≡ record (read_once old (length out)) { faults = next_count old.faults }))

@@ -1,4 +1,4 @@
--- What putting bytes does to the bytes that a sink has, where it tells them.
+-- What putting bytes does to the bytes that a sink has, if they are known.
 use Rattle.std.specs.Prelude.{Option, ℕ, List, take, Result, MatchResult}
 use Rattle.std.specs.Io.KnownBytes.{Appends}
 

@@ -1,8 +1,8 @@
 -- A packet as a pcap file records it: the libpcap savefile format, "Packet Record".
 use Rattle.std.specs.Prelude.{ℕ, ◌<◌, ◌^◌, List, length}
 
--- a captured packet: when it was captured, in seconds since 1970 and nanoseconds, how many bytes
--- it had on the wire, and the bytes that were captured
+-- a captured packet: when it was captured, in seconds since 1970 and nanoseconds, its original
+-- length in bytes, and the bytes that were captured
 pub record Rec : Type 0 where
   pub sec : ℕ
   pub nsec : ℕ

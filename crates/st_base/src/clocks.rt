@@ -1,9 +1,9 @@
 ghost use Rattle.std.specs.Prelude.{Option, ℕ, List};
 ghost use Rattle.st_base.specs.Ticks.{Ticks};
 
-/// What tells the time.
+/// A clock.
 ///
-/// `to_come` is the answers to come, where the clock tells them; the last one stays.
+/// `to_come` is the answers to come, if they are known; the last one stays.
 pub trait Clock {
     ghost to_come: { Self → Option (List ℕ) };
 

@@ -1,10 +1,10 @@
 ghost use Rattle.std.specs.Prelude.{◌≢◌};
 
-/// Bytes that break their format: where a check that fails looked, what it found there, and what
-/// the format wants.
+/// Bytes that break their format: the place of the check that fails, what it found there, and what
+/// the format wants there.
 ///
-/// `place` is an offset in bytes, unless the check that fails says otherwise. A check that can
-/// only hold or fail has `found` 0 and `want` 1.
+/// `place` is an offset in bytes, unless the check says otherwise. A check that can only hold or
+/// fail has `found` 0 and `want` 1.
 /// Source: docs/FORMAT.md, "Checks".
 #[derive(Clone, Copy, Debug, PartialEq, Eq)]
 pub struct Damage {
@@ -18,7 +18,7 @@ impl Damage {
     ghost use Rattle.std.specs.Prelude.{◌≡◌};
     ghost use Rattle.st_base.specs.Damages.{damage_view, unmet};
 
-    /// What a check says that can only hold or fail, where it fails at `place`.
+    /// The damage at `place` of a check that can only hold or fail.
     pub fn broken(place: u64) -> Damage
         ensures { damage_view result ≡ unmet place }
     {

@@ -1,6 +1,6 @@
 use std::alloc::AllocError;
 
-/// Memory was wanting. What the call that answers it leaves is said at that call.
+/// Out of memory. What the call that returns it leaves is said at that call.
 #[derive(Clone, Copy, Debug, PartialEq, Eq)]
 pub struct NoMemory;
 
@@ -10,7 +10,7 @@ impl From<AllocError> for NoMemory {
     }
 }
 
-/// Something outside failed: a source, a sink, a file or a disk. The count of faults of the
-/// object that was called rose in that call.
+/// I/O failed: of a source, a sink, a file or a disk. The count of faults of the object that was
+/// called rose in that call.
 #[derive(Clone, Copy, Debug, PartialEq, Eq)]
 pub struct Failed;

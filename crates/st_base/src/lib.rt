@@ -1,18 +1,21 @@
-//! Packet records, and the traits of the outside that all other crates stand on.
+//! Packet records, and the traits of input and output that all other crates use.
 //!
-//! A `Record` is a captured packet: its time in seconds since 1970 and nanoseconds, its length on
-//! the wire in bytes, and the bytes that were captured (libpcap's savefile format). A `Source`
-//! gives bytes, a `Sink` takes them, a `Reader` is a file read at places, a `Clock` tells
-//! microseconds since 1970. Each may tell its content, and each counts its faults.
+//! A `Record` is a captured packet: its time in seconds since 1970 and nanoseconds, its original
+//! length in bytes, and the bytes that were captured (libpcap's savefile format). A `Source` gives
+//! bytes, a `Sink` takes them, a `Reader` is a file read at places, an `Outlet` sends an answer
+//! piece by piece, a `Clock` gives microseconds since 1970. The content of each may be known to a
+//! proof, and all but a clock count their faults.
 //!
 //! # What it promises
 //!
-//! - `put` writes all of its bytes, or leaves a front of them and a count of faults that rose.
+//! - `put` writes all of its bytes, or leaves a prefix of them and a count of faults that rose.
 //! - `read_whole` fills its buffer with the bytes of that place by one read.
-//! - `MemSource`, `SureSource`, `MemSink`, `MemReader` and `MemClock` meet their traits and tell
-//!   their content; what each is when it is made, its constructor's clause says.
+//! - A call that succeeds leaves the count of faults as it was; one that fails raised it.
+//! - `Plain` sends each piece by one `put`.
+//! - `MemSource`, `SureSource`, `MemSink`, `MemReader`, `SliceReader` and `MemClock` meet their
+//!   traits, and their content is known; the clause of its constructor says what each begins as.
 //! - `StreamSource`, `StreamSink`, `FileReader` and `MachineClock` meet their traits over std's
-//!   readers, writers, files and clock, and tell no more than these do.
+//!   readers, writers, files and clock, and know no more than these do.
 //!
 //! # What it leaves to others
 //!

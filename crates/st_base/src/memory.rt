@@ -7,7 +7,7 @@ mod slice;
 mod source;
 
 pub use clock::MemClock;
-pub use reader::MemReader;
+pub use reader::{MemReader, copy_at};
 pub use sink::MemSink;
 pub use slice::SliceReader;
 pub use source::{MemSource, SureSource};

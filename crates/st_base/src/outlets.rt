@@ -5,7 +5,7 @@ ghost use Rattle.st_base.specs.Outlets.{IsPrefix, Sends};
 use crate::failures::Failed;
 use crate::sinks::{Sink, put};
 
-/// Where an answer goes, piece by piece, in whatever dress it gives each piece.
+/// What an answer is sent through, piece by piece, in whatever form it gives each piece.
 ///
 /// `state` is what the outlet has come to, if it is known; `after` is the state that follows a
 /// piece, and `gone` the bytes that a state has sent out, which a piece only ever adds to. `faults`

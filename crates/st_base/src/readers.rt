@@ -6,7 +6,7 @@ use crate::failures::Failed;
 
 /// A file that is read at places and never changes.
 ///
-/// `content` is its bytes, where it tells them, and `extent` its length in bytes; neither ever
+/// `content` is its bytes, if they are known, and `extent` its length in bytes; neither ever
 /// changes. `faults` counts its failures and never falls, `reads` the calls of `read_at`, and
 /// `asked` the bytes that these asked for; `beside` is whatever else of the object a clause may
 /// speak of, and no read changes it.
@@ -29,10 +29,10 @@ pub trait Reader {
     fn size(&self) -> u64
         ensures { result ≡ extent self.now };
 
-    /// Fills the front of `out` with the bytes from `place`, an offset in bytes, as far as the
-    /// file goes, and answers how many these are.
+    /// Fills the start of `out` with the bytes from `place`, an offset in bytes, as far as the file
+    /// goes, and returns how many these are.
     ///
-    /// `Failed` comes only where `faults` rose; what `out` then has is not said.
+    /// `Failed` comes only if `faults` rose in this call; what `out` then has is not said.
     fn read_at(&mut self, place: u64, out: &mut [u8]) -> Result<usize, Failed>
         ensures bytes { ReadsAt (content self.old) (extent self.old) place result out.new }
         ensures content { content self.new ≡ content self.old }
@@ -48,7 +48,7 @@ pub trait Reader {
 
 /// Fills `out` whole with the bytes from `place`, an offset in bytes, by one read.
 ///
-/// `Failed` comes only where the file's `faults` rose; what `out` then has is not said.
+/// `Failed` comes only if the file's `faults` rose in this call; what `out` then has is not said.
 pub fn read_whole<R: Reader>(file: &mut R, place: u64, out: &mut [u8]) -> Result<(), Failed>
     requires { place + length out.old ≤ R.extent file.old }
     ensures bytes { OnOk result (HasPart (R.content file.old) place out.new) }

@@ -6,8 +6,8 @@ use std::marker::Model;
 /// A captured packet that owns its bytes.
 ///
 /// `sec` is in seconds since 1970 and `nsec` in nanoseconds, below 10^9. `orig` is the packet's
-/// length on the wire in bytes, `body` has the bytes that were captured, fewer than 2^32. A body
-/// may be longer than `orig`.
+/// original length in bytes, `body` the bytes that were captured, fewer than 2^32. A body may be
+/// longer than `orig`.
 /// Source: libpcap's savefile format, "Packet Record".
 #[derive(Drop)]
 pub struct Record {
@@ -24,13 +24,18 @@ impl Model for Record {
 
     ghost view = { λ a. record { sec = a.sec; nsec = a.nsec; orig = a.orig; body = a.body } };
 
-    ghost invariant = { λ a. InRange (record { sec = a.sec; nsec = a.nsec; orig = a.orig; body = a.body }) };
+    ghost invariant = { λ a. InRange (record {
+      sec = a.sec;
+      nsec = a.nsec;
+      orig = a.orig;
+      body = a.body;
+    }) };
 }
 
 impl Record {
     ghost use Rattle.st_base.specs.Records.{InRange};
 
-    /// The same record over its bytes where they lie. It takes no memory.
+    /// This record over its own bytes. It takes no memory.
     pub fn lend(&self) -> RecordRef<'_>
         ensures same { result ≡ self.now }
         ensures range { InRange self.now }
@@ -44,7 +49,7 @@ impl Record {
     }
 }
 
-/// A captured packet over bytes that lie elsewhere, with the fields of [`Record`].
+/// A captured packet over bytes that are somebody else's, with the fields of [`Record`].
 #[derive(Drop)]
 pub struct RecordRef<'a> {
     pub sec: u32,
@@ -60,5 +65,10 @@ impl<'a> Model for RecordRef<'a> {
 
     ghost view = { λ a. record { sec = a.sec; nsec = a.nsec; orig = a.orig; body = a.body.now } };
 
-    ghost invariant = { λ a. InRange (record { sec = a.sec; nsec = a.nsec; orig = a.orig; body = a.body.now }) };
+    ghost invariant = { λ a. InRange (record {
+      sec = a.sec;
+      nsec = a.nsec;
+      orig = a.orig;
+      body = a.body.now;
+    }) };
 }

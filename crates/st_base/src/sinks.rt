@@ -6,7 +6,7 @@ ghost use Rattle.st_base.specs.Pieces.{Puts};
 
 use crate::failures::Failed;
 
-/// Where bytes go.
+/// What bytes are written to.
 ///
 /// `written` is the bytes that the sink has, if they are known; `faults` counts its failures and
 /// never falls; `beside` is whatever else of the object a clause may speak of, and no write changes

@@ -9,9 +9,9 @@ use std::io::{ErrorKind, Read, Write};
 
 /// A reader of std as a source: standard input, or a file.
 ///
-/// It reads nothing ahead of its reader, so that one wants a buffer. Each failure of the reader is
-/// a fault, but a read that a signal broke off is made again. It tells what its reader tells, which
-/// is nothing for a file or a stream.
+/// It makes one call of its reader for each of its own, so give it a reader with a buffer. Each
+/// failure of the reader is a fault, but a read that a signal broke off is made again. Its bytes to
+/// come are known if its reader's are; those of a file or a stream are not.
 #[derive(Drop)]
 pub struct StreamSource<R> {
     reader: R,
@@ -40,7 +40,7 @@ impl<R: Read> Source for StreamSource<R> {
     fn read(&mut self, out: &mut [u8]) -> Result<usize, Failed> {
         'tries: for _ in 0..u64::MAX {
             match self.reader.read(out) {
-                Ok(taken) => return Ok(taken),
+                Ok(count) => return Ok(count),
                 Err(error) => {
                     if error.kind() != ErrorKind::Interrupted {
                         break;
@@ -56,8 +56,8 @@ impl<R: Read> Source for StreamSource<R> {
 /// A writer of std as a sink: standard output, standard error, or a file.
 ///
 /// Each failure to write a piece with bytes or to flush is a fault, and so is a write that takes
-/// nothing of such a piece; a write that a signal broke off is made again. It tells what its writer tells, which is
-/// nothing for a file or a stream.
+/// nothing of such a piece; a write that a signal broke off is made again. What it has is known if
+/// what its writer has is; that of a file or a stream is not.
 #[derive(Drop)]
 pub struct StreamSink<W> {
     writer: W,
@@ -75,7 +75,8 @@ impl<W: Write> StreamSink<W> {
 
     /// Has the writer hand on what it buffered.
     ///
-    /// `Failed` comes only where `faults` rose; how much the writer then handed on is not said.
+    /// `Failed` comes only if `faults` rose in this call; how much the writer then handed on is not
+    /// said.
     pub fn flush(&mut self) -> Result<(), Failed>
         ensures bytes { Keeps (W.contents self.old.writer) (W.contents self.new.writer) }
         ensures cause { HasCause self.old.faults self.new.faults result }

@@ -5,8 +5,8 @@ use crate::failures::NoMemory;
 use std::alloc::Global;
 use std::marker::Model;
 
-/// A clock in memory, which gives its answers in turn and then the last one again and again; without
-/// any it gives 0.
+/// A clock in memory, which gives its answers in turn and then the last one again and again.
+/// Without answers it gives 0.
 #[derive(Drop)]
 pub struct MemClock {
     answers: Vec<u64>,

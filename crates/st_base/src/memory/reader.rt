@@ -1,8 +1,8 @@
 ghost use Rattle.std.specs.Prelude.{◌≡◌, ◌+◌, ◌-◌, ◌^◌, ◌≤◌, ◌<◌, min, List, [], length, take, drop, IfOk, Some};
 
 use crate::failures::{Failed, NoMemory};
-use crate::readers::Reader;
 use crate::memory::schedule::{is_listed, next_count};
+use crate::readers::Reader;
 use std::alloc::Global;
 use std::marker::Model;
 
@@ -77,7 +77,8 @@ impl Reader for MemReader {
     }
 
     fn read_at(&mut self, place: u64, out: &mut [u8]) -> Result<usize, Failed>
-        ensures bytes { ReadsAt (Some self.old.content) (length self.old.content) place result out.new }
+        ensures bytes { ReadsAt (Some self.old.content) (length self.old.content)
+            place result out.new }
         ensures cause { HasCause self.old.faults self.new.faults result }
         ensures reads { CountsOn self.old.reads self.new.reads 1 }
         ensures asked { CountsOn self.old.asked self.new.asked (length out.old) }

@@ -1,5 +1,5 @@
 ghost use Rattle.std.specs.Prelude.{◌≡◌, ◌↔◌, IsTrue, Contains};
-ghost use Rattle.st_base.specs.MemoryViews.{next_count};
+ghost use Rattle.st_base.specs.Faults.{next_count};
 
 // Whether the call of this number is one of those that fail.
 pub fn is_listed(fails: &[u32], call: u64) -> bool

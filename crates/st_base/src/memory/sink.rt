@@ -68,7 +68,8 @@ impl Sink for MemSink {
 
     fn write(&mut self, bytes: &[u8]) -> Result<usize, Failed>
         ensures bound { WritesAtMost result bytes.now }
-        ensures bytes { WriteAppends (Some self.old.written) (Some self.new.written) result bytes.now }
+        ensures bytes { WriteAppends (Some self.old.written) (Some self.new.written)
+            result bytes.now }
         ensures cause { HasWriteCause self.old.faults self.new.faults bytes.now result }
         ensures exact { TakesOrFails self.old self.new bytes.now result }
     {
