@@ -15,7 +15,7 @@ use crate::errors::TableErr;
 use crate::rows::{Bounds, refused_by};
 use crate::stored::read_block;
 use st_base::{Damage, NoMemory, Octets, Reader, read_whole};
-use st_tblock::{EntryCursor, Handle, get_handle, read_footer};
+use st_tblock::{EntryCursor, FOOTER_SIZE, Handle, get_handle, read_footer};
 use std::alloc::Global;
 
 /// An entry of the index: a key at or above every key of its data block, and where that stands.
@@ -79,7 +79,7 @@ fn entries_in(alloc: Global, block: &[u8], base: u64) -> Result<Vec<IndexEntry>,
     }
 }
 
-/// The same check at its place in the file, where the footer stands at the offset `at`.
+/// The damage of a footer with its place in the file, where the footer is at the offset `at`.
 fn placed(damage: Damage, at: u64) -> Damage
     requires { at + damage.place < 2 ^ 64 }
     ensures place { result.place ≡ at + damage.place }
@@ -101,21 +101,22 @@ fn read_handle<R: Reader>(file: &mut R) -> Result<Handle, TableErr>
     ensures same { IsSameFile (R.content file.old) (R.content file.new) (R.extent file.old) (R.extent file.new) (R.beside file.old) (R.beside file.new) }
 {
     let size = file.size();
-    if size < 48 {
+    if size < FOOTER_SIZE as u64 {
         return Err(TableErr::Damaged(Damage {
             place: 0,
             found: size,
-            want: 48,
+            want: FOOTER_SIZE as u64,
         }));
     }
-    let mut footer = [0; 48];
-    match read_whole(file, size - 48, &mut footer) {
+    let at = size - FOOTER_SIZE as u64;
+    let mut footer = [0; FOOTER_SIZE];
+    match read_whole(file, at, &mut footer) {
         Ok(()) => {}
         Err(_) => return Err(TableErr::ReadFault),
     }
     match read_footer(&footer) {
         Ok((_, index)) => Ok(index),
-        Err(damage) => Err(TableErr::Damaged(placed(damage, size - 48))),
+        Err(damage) => Err(TableErr::Damaged(placed(damage, at))),
     }
 }
 

@@ -65,6 +65,6 @@ pub use build_errors::BuildErr;
 pub use builder::TableBuilder;
 pub use cursor::Cursor;
 pub use errors::TableErr;
-pub use laws::{keys_rise, one_list_of_rows};
+pub use laws::{keys_rise, one_list_of_rows, steps_join, whole_range, whole_reading};
 pub use rows::Row;
 pub use table::Table;

@@ -2,7 +2,7 @@ ghost use Rattle.std.specs.Prelude.{◌≡◌, ◌≤◌, ◌+◌, ◌-◌, List
 ghost use Rattle.st_base.specs.Faults.{HasCauseOf};
 ghost use Rattle.st_base.specs.PlacedReads.{IsSameFile};
 ghost use Rattle.st_tblock.specs.Block.{RowView, key_or_empty};
-ghost use Rattle.st_table.specs.TableFile.{IsTable, is_at_most};
+ghost use Rattle.st_table.specs.TableFile.{IsTable, is_at_most, footer_at};
 ghost use Rattle.st_table.specs.IndexLookup.{entry_for, found_at};
 ghost use Rattle.st_table.specs.RowOrder.{in_range, KeysRiseAbove, last_key};
 ghost use Rattle.st_table.specs.Cursor.{unread, Advances, Steps, Coming, StepsRow, HoldsNamed, GivesNamed};
@@ -64,12 +64,12 @@ fn get_in<R: Reader>(
 ) -> Result<Option<Octets>, TableErr>
     ensures gets { (bytes : List ℕ) (index : List RowView) → R.content file.old ≡ Some bytes
         → Decodes index entries.now → KeysRiseAbove None index
-        → Checked (length bytes - 48) bytes None entries.now marks.old
-        → Gets (length bytes - 48) bytes key.now index result }
+        → Checked (footer_at bytes) bytes None entries.now marks.old
+        → Gets (footer_at bytes) bytes key.now index result }
     ensures checked { (bytes : List ℕ) (index : List RowView) → R.content file.old ≡ Some bytes
         → Decodes index entries.now
-        → Checked (length bytes - 48) bytes None entries.now marks.old
-        → Checked (length bytes - 48) bytes None entries.now marks.new }
+        → Checked (footer_at bytes) bytes None entries.now marks.old
+        → Checked (footer_at bytes) bytes None entries.now marks.new }
     ensures cause { HasCauseOf TableErr.ReadFault (R.faults file.old) (R.faults file.new) result }
     ensures reads { R.reads file.new ≤ R.reads file.old + 1 }
     ensures same { IsSameFile (R.content file.old) (R.content file.new) (R.extent file.old) (R.extent file.new) (R.beside file.old) (R.beside file.new) }
@@ -127,7 +127,7 @@ impl<'a, R: Reader> Table<'a, R> {
         ensures table { (bytes : List ℕ) (rows : List RowView) → R.content self.old.file.now ≡ Some bytes
             → IsTable bytes rows → IfErr result NoCheckFailed }
         ensures checked { OnOk result ((bytes : List ℕ)
-            → Checked (length bytes - 48) bytes None self.new.kept.entries.items self.new.kept.checked.items) }
+            → Checked (footer_at bytes) bytes None self.new.kept.entries.items self.new.kept.checked.items) }
         ensures err { OnErr result ((self.new.kept.entries ≡ self.old.kept.entries) × (self.new.kept.checked ≡ self.old.kept.checked)) }
 
         // What becomes of the file.
@@ -162,16 +162,16 @@ impl<'a, R: Reader> Table<'a, R> {
     pub fn get(&mut self, alloc: Global, key: &[u8]) -> Result<Option<Octets>, TableErr>
         ensures gets { (bytes : List ℕ) → R.content self.old.file.now ≡ Some bytes
             → (entered : Entered bytes self.old.kept.entries.items)
-            → Checked (length bytes - 48) bytes None self.old.kept.entries.items self.old.kept.checked.items
-            → Gets (length bytes - 48) bytes key.now entered.index result }
+            → Checked (footer_at bytes) bytes None self.old.kept.entries.items self.old.kept.checked.items
+            → Gets (footer_at bytes) bytes key.now entered.index result }
         ensures table { (bytes : List ℕ) (rows : List RowView) → R.content self.old.file.now ≡ Some bytes
             → Entered bytes self.old.kept.entries.items
-            → Checked (length bytes - 48) bytes None self.old.kept.entries.items self.old.kept.checked.items
+            → Checked (footer_at bytes) bytes None self.old.kept.entries.items self.old.kept.checked.items
             → IsTable bytes rows → GetsRow key.now rows result }
         ensures checked { (bytes : List ℕ) → R.content self.old.file.now ≡ Some bytes
             → Entered bytes self.old.kept.entries.items
-            → Checked (length bytes - 48) bytes None self.old.kept.entries.items self.old.kept.checked.items
-            → Checked (length bytes - 48) bytes None self.new.kept.entries.items self.new.kept.checked.items }
+            → Checked (footer_at bytes) bytes None self.old.kept.entries.items self.old.kept.checked.items
+            → Checked (footer_at bytes) bytes None self.new.kept.entries.items self.new.kept.checked.items }
         ensures entries { self.new.kept.entries ≡ self.old.kept.entries }
 
         // What becomes of the file.
@@ -200,7 +200,7 @@ impl<'a, R: Reader> Table<'a, R> {
             → IfOk result (λ c. entry_for low.now None entered.index ≡ found_at entered.index c.next) }
         ensures table { (bytes : List ℕ) (rows : List RowView) (entered : Entered bytes self.now.kept.entries.items)
             → IsTable bytes rows
-            → IfOk result (λ c. Coming (length bytes - 48) bytes entered.index c (in_range low.now high.now rows)) }
+            → IfOk result (λ c. Coming (footer_at bytes) bytes entered.index c (in_range low.now high.now rows)) }
     {
         let next = lower_bound(self.kept.entries.as_slice(), low);
         Cursor::begin(alloc, low, high, next)
@@ -217,15 +217,15 @@ impl<'a, R: Reader> Table<'a, R> {
     pub fn step(&mut self, alloc: Global, cursor: &mut Cursor) -> Result<Option<Row>, TableErr>
         ensures steps { (bytes : List ℕ) → R.content self.old.file.now ≡ Some bytes
             → (entered : Entered bytes self.old.kept.entries.items)
-            → Steps (length bytes - 48) bytes entered.index cursor.old cursor.new result }
+            → Steps (footer_at bytes) bytes entered.index cursor.old cursor.new result }
         ensures table { (bytes : List ℕ) (more : List RowView) → R.content self.old.file.now ≡ Some bytes
             → (entered : Entered bytes self.old.kept.entries.items)
-            → Coming (length bytes - 48) bytes entered.index cursor.old more
-            → StepsRow (length bytes - 48) bytes entered.index more cursor.new result }
+            → Coming (footer_at bytes) bytes entered.index cursor.old more
+            → StepsRow (footer_at bytes) bytes entered.index more cursor.new result }
         ensures sound { (bytes : List ℕ) → R.content self.old.file.now ≡ Some bytes
             → (entered : Entered bytes self.old.kept.entries.items)
-            → HoldsNamed (length bytes - 48) bytes entered.index cursor.old
-            → HoldsNamed (length bytes - 48) bytes entered.index cursor.new × GivesNamed (length bytes - 48) bytes entered.index result }
+            → HoldsNamed (footer_at bytes) bytes entered.index cursor.old
+            → HoldsNamed (footer_at bytes) bytes entered.index cursor.new × GivesNamed (footer_at bytes) bytes entered.index result }
         ensures advances { Advances (length self.old.kept.entries.items) (R.extent self.old.file.now)
             (R.reads self.old.file.now) (R.reads self.new.file.now) cursor.old cursor.new result }
         ensures kept { (self.new.kept.entries ≡ self.old.kept.entries) × (self.new.kept.checked ≡ self.old.kept.checked) }
