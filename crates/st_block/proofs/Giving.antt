@@ -1,4 +1,4 @@
--- What a scan's calls give, from what it stands for.
+-- What the calls of a scan give, from the records that it has given.
 use Rattle.std.proofs.Common.{◌≡◌, ℕ, ◌*◌, ◌<◌, ◌≤◌, List, [], ◌∷◌, ◌++◌, take, drop, Option, None, Some, refl, sym, ap, ◌∙◌, subst, arith, Ok, Err, Result}
 use Rattle.std.specs.Prelude.{IfOk, IfSome}
 use Rattle.st_base.specs.Records.{Rec}

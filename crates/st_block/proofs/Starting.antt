@@ -104,7 +104,7 @@ starts_well head extent none =
     same_length : (n m : ℕ) → nat_eq n m ≡ true → n ≡ m
     same_length n m e = grind (arith, nat_tests)
 
--- a scan before the first block stands for the file
+-- a scan before the first block has given no records of the file
 pub starts_stand : (bytes : List ℕ) → start_wrong (take 8 bytes) (length bytes) ≡ None → HasGiven (start_view (little_number 4 (drop 4 (take 8 bytes))) (length bytes / little_number 4 (drop 4 (take 8 bytes)))) bytes []
 unfolding file_wrong
 starts_stand bytes none =

@@ -19,7 +19,7 @@ use crate::scan::state::ScanState;
 use st_base::{Reader, Record};
 use std::alloc::Global;
 
-/// What a scan has come to, in a file that reaches at least so far.
+/// How far a scan has come, in a file that is at least `end` bytes long.
 pub trait Reaching {
     ghost end: { Self → ℕ };
 }
@@ -31,10 +31,10 @@ impl Reaching for ScanState {
 /// A scan of a block file: gives its records in their order, each with its position, and finds the
 /// first check that fails.
 ///
-/// It holds the file, and one block of it at a time. A contract sees what it has come to, its
-/// `state`; of which bytes it then gave which records is said by `HasGiven` of `specs/Scan.antt`.
-/// What it has come to has a parameter's type, which is always `ScanState`: so a drop says what
-/// becomes of the file, which it could not of a struct whose own fields hold memory.
+/// It holds the file, and one block of it at a time. Contracts see how far it has come, its `state`,
+/// as a `ScanView`; which records of which bytes it has given is said by `HasGiven` of
+/// `specs/Scan.antt`. The type of the state is a parameter, which is always `ScanState`: so the
+/// drop can say that the file stays, which it can't of a struct whose own fields hold memory.
 /// Source: docs/FORMAT.md, "Block file" and "Checks".
 pub struct Scan<'a, R: Reader, C: Reaching = ScanState> {
     file: &'a mut R,

@@ -74,7 +74,8 @@ pub fn enter<R: Reader>(file: &mut R) -> Result<ScanState, HeadErr>
     ensures inside { IfOk result (λ p. p.size * p.blocks ≤ R.extent file.old) }
     ensures cause { HasCauseOf HeadErr.ReadFault (R.faults file.old) (R.faults file.new) result }
     // what the file was asked
-    ensures reads { CountsOn (R.reads file.old) (R.reads file.new) (start_reads (R.extent file.old)) }
+    ensures reads { CountsOn (R.reads file.old) (R.reads file.new)
+        (start_reads (R.extent file.old)) }
     ensures asked { CountsOn (R.asked file.old) (R.asked file.new)
         (START * start_reads (R.extent file.old)) }
     // what stays

@@ -33,9 +33,27 @@ impl Model for ScanState {
 
     ghost Value = { ScanView };
 
-    ghost view = { λ a. record { size = a.size; blocks = a.blocks; done = a.done; before = a.before; block = bytes_of (option_map (λ v. v.items) a.block); at = a.at; left = a.left; stopped = a.stopped } };
+    ghost view = { λ a. record {
+      size = a.size;
+      blocks = a.blocks;
+      done = a.done;
+      before = a.before;
+      block = bytes_of (option_map (λ v. v.items) a.block);
+      at = a.at;
+      left = a.left;
+      stopped = a.stopped;
+    } };
 
-    ghost invariant = { λ a. IsSoundScan (record { size = a.size; blocks = a.blocks; done = a.done; before = a.before; block = bytes_of (option_map (λ v. v.items) a.block); at = a.at; left = a.left; stopped = a.stopped }) };
+    ghost invariant = { λ a. IsSoundScan (record {
+      size = a.size;
+      blocks = a.blocks;
+      done = a.done;
+      before = a.before;
+      block = bytes_of (option_map (λ v. v.items) a.block);
+      at = a.at;
+      left = a.left;
+      stopped = a.stopped;
+    }) };
 }
 
 /// The bytes of a block that may not be there yet.
@@ -68,7 +86,8 @@ fn record_of(alloc: Global, bytes: &[u8]) -> Result<Record, NoMemory>
     })
 }
 
-/// The `size` bytes of the file from `place` on, in memory that was had before or in one allocation.
+/// The `size` bytes of the file from `place` on, in memory that was taken before or in one
+/// allocation.
 fn read_block<R: Reader>(
     alloc: Global,
     memory: Option<Vec<u8>>,
@@ -108,7 +127,7 @@ impl ScanState {
     ghost use Rattle.st_block.specs.ScanView.{start_view, rest_of_block, reached_offset, after_record, LoadsBlock, ReadsOnce};
     ghost use Rattle.st_block.specs.Scan.{PositionedRecord, HasGiven, GivesNext, PassesRecord, Follows, StaysStopped};
 
-    /// A scan before the first of so many blocks.
+    /// A scan before the first of `blocks` blocks of `size` bytes.
     pub fn new(size: u32, blocks: u32) -> ScanState
         requires size { IsBlockSize size }
         requires blocks { blocks ≤ MAX_BLOCKS }
@@ -156,7 +175,8 @@ impl ScanState {
         ensures loads { LoadsBlock self.old (R.content file.old) self.new result }
         ensures on { OnOk result (reached_offset self.old ≤ reached_offset self.new) }
         ensures file { (self.new.size ≡ self.old.size) × (self.new.blocks ≡ self.old.blocks) }
-        ensures cause { HasCauseOf BlockErr.ReadFault (R.faults file.old) (R.faults file.new) result }
+        ensures cause { HasCauseOf BlockErr.ReadFault
+            (R.faults file.old) (R.faults file.new) result }
         // what the file was asked
         ensures reads { CountsOn (R.reads file.old) (R.reads file.new) (load_reads result) }
         ensures asked { CountsOn (R.asked file.old) (R.asked file.new)
@@ -201,7 +221,8 @@ impl ScanState {
         ensures stopped { StaysStopped self.old self.new file.old file.new result }
         ensures follows { IfOk result (λ o. IfSome o (Follows self.old self.new)) }
         ensures file { (self.new.size ≡ self.old.size) × (self.new.blocks ≡ self.old.blocks) }
-        ensures cause { HasCauseOf BlockErr.ReadFault (R.faults file.old) (R.faults file.new) result }
+        ensures cause { HasCauseOf BlockErr.ReadFault
+            (R.faults file.old) (R.faults file.new) result }
         // what the file was asked
         ensures reads { ReadsOnce self.old self.new result
             (R.reads file.old) (R.reads file.new) (R.asked file.old) (R.asked file.new) }
