@@ -87,7 +87,8 @@ def keeps_the_order(probe):
     yield "a put writes, syncs and renames, in this order", first[-3:] == wanted, first
     made = first[-4]
     flags = os.O_WRONLY | os.O_CREAT | os.O_EXCL
-    good = made[:2] == ["open", f"{spool}/PKT0/.draft-0"] and int(made[3], 8) & (flags | os.O_TRUNC) == flags and made[4] == "600"
+    looked_at = flags | os.O_RDWR | os.O_TRUNC | os.O_APPEND
+    good = made[:2] == ["open", f"{spool}/PKT0/.draft-0"] and int(made[3], 8) & looked_at == flags and made[4] == "600"
     yield "a draft is a file that was not there", good, made
     yield "a flush syncs its folder", changes(parts[1]) == [["fsync", f"{spool}/PKT0", "0"]], parts[1]
     second = [line[:2] for line in changes(parts[2])]
@@ -183,7 +184,7 @@ def meets_each_fault(probe):
                 continue
             good = [where for where, _ in failed] == [place] and (wrong, faults) == ([], "1") and answers == ANSWERS
             if good and place > 0 and CALLS[place].startswith("put"):
-                good = failed[0][1] == PUT_FAILS[kind]
+                good = failed[0][1] == PUT_FAILS.get(kind)
             yield name, good, (failed, wrong, faults, answers)
 
 
@@ -217,7 +218,9 @@ def meets_two_faults(probe):
         answers, _ = probe.calls(calls, f"{kind}:1:{errno.EIO},unlink:1:{errno.EIO}")
         if kind == "write":
             answers, _ = probe.calls(calls, f"write:1:{errno.ENOSPC},unlink:1:{errno.EIO}")
-        good = answers[:2] == [step, "draft block 0, ok"] and int(answers[2]) in (1, 2)
+        # A failed rename is counted by the shelf at once, and the draft's own faults as it is given up.
+        counts = ("2",) if kind == "rename" else ("1", "2")
+        good = answers[:2] == [step, "draft block 0, ok"] and answers[2] in counts
         good = good and answers[3:7] == ["ok", "block 1, draft block 0, ok", "ok", "block 1, ok"] and answers[7] == answers[2]
         yield f"{kind} fails and the draft can't be removed", good, answers
 

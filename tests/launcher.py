@@ -149,6 +149,27 @@ def passes_arguments(repository):
     yield "all of them at the start that builds", ran(seen, "first", ARGUMENTS, bytes(range(256))), seen
 
 
+def source(repository, line):
+    """Runs a line of bash that may call the launcher's functions."""
+    done = subprocess.run(["bash", "-c", f". ./steno; {line}"], cwd=repository.root, env=repository.surroundings(),
+                          capture_output=True, timeout=SECONDS)
+    return done.stdout, done.stderr
+
+
+def takes_a_program_that_was_built(repository):
+    """As the gate does, which proves and builds the program itself."""
+    seen = source(repository, 'cd crates/steno && rt run')
+    yield "sourcing the launcher runs nothing", seen == (b"", b""), seen
+    seen = source(repository, 'keep_built "$(listing)"')
+    yield "a built program is kept as such", seen == (b"", b""), seen
+    seen = repository.start()
+    yield "and starts", started(seen, "first") and seen[3] == [], seen
+    repository.write("crates/steno/src/main.rt", "second")
+    source(repository, 'listed=$(listing); printf third >crates/steno/src/main.rt; keep_built "$listed"')
+    seen = repository.start()
+    yield "but not over sources that changed since", built(seen, "third"), seen
+
+
 def set_back(path):
     os.utime(path, (LONG_AGO, LONG_AGO))
 
@@ -291,8 +312,8 @@ def says_how_far_it_is(repository):
     yield "elsewhere it says once that it builds", built(seen, "second") and seen[1].count(b"\n") == 1 and b"\r" not in seen[1], seen
 
 
-GROUPS = [starts, passes_arguments, builds_by_content, builds_by_toolchain, refuses_what_is_not_proved, builds_again_after_a_break,
-          proves_side_by_side, says_how_far_it_is]
+GROUPS = [starts, passes_arguments, takes_a_program_that_was_built, builds_by_content, builds_by_toolchain,
+          refuses_what_is_not_proved, builds_again_after_a_break, proves_side_by_side, says_how_far_it_is]
 
 
 def main():

@@ -158,6 +158,8 @@ def keeps_parked_files(program, folder):
     yield "a parked index is read under its name", got == ["ok", "ok", "ok", "9000 bytes", "failed", "5 bytes"], got
     got = ask(program, spool, ["list", "read parked 10", "faults"])
     yield "another program reads it", got == ["block 10", "parked 10", "ok", "9000 bytes", "0"], got
+    got = ask(program, spool, ["remove block 99", "remove index 99", "remove parked 99", "remove draft block 99", "list", "faults"])
+    yield "to remove what is not there is no fault", got == ["ok"] * 4 + ["block 10", "parked 10", "ok", "0"], got
     got = ask(program, spool, ["put index 11 70000", "age 11", "list", "faults"])
     yield "an index that left the disk is read while it is lent", got == ["ok", "70000 bytes", "block 10", "parked 10", "ok", "0"], got
 
@@ -208,7 +210,15 @@ def makes_new_drafts(program, folder):
     got = [session.ask(call) for call in ("put block 2 5", "put block 2 5", "faults")]
     session.end()
     yield "a draft is never written over another file", got == ["failed: create", "ok", "1"], got
-    yield "that file is left", foreign.read_bytes() == b"mine", foreign.read_bytes()
+    left = foreign.read_bytes() if foreign.exists() else None
+    yield "that file is left", left == b"mine", left
+    for folder, number in (("PKT0", 0), ("IDX0", 1), ("PKT0", 6)):
+        pathlib.Path(spool, folder, f".draft-{number}").write_bytes(b"left")
+    foreign.unlink(missing_ok=True)
+    got = ask(program, spool, ["put block 3 5", "put index 3 5", "list", "faults"])
+    there = ["block 1", "block 2", "block 3", "draft block 0", "draft block 6", "draft index 1", "index 3"]
+    good = got[:2] == ["ok", "ok"] and sorted(got[2:-2]) == there and got[-2:] == ["ok", "0"]
+    yield "drafts that another program left are in no draft's way", good, got
 
 
 def keeps_its_lock_after_a_fault(program, folder):

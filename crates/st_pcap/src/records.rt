@@ -96,7 +96,8 @@ fn read_body<S: Source>(
     ensures cause { HasFaultCause (S.faults source.old) (S.faults source.new) result }
     ensures taken { Took (S.left source.old) (S.left source.new) taken.old taken.new }
     ensures takes { (begin : ℕ) → taken.old ≡ begin + RECORD_HEAD_SIZE
-        → MatchResult result (λ r. taken.new ≡ taken.old + length r.body) (RefusesRecord begin taken.new) }
+        → MatchResult result (λ r. taken.new ≡ taken.old + length r.body)
+        (RefusesRecord begin taken.new) }
     ensures bound { taken.new ≤ MAX_INPUT + RECORD_HEAD_SIZE + MAX_BODY }
     ensures grows { taken.old ≤ taken.new }
     ensures rest { S.beside source.new ≡ S.beside source.old }

@@ -57,6 +57,6 @@ found_by frame P false ks are h = (
 )
 
 -- what was gathered are the frame's keys
-pub told_by : (o : Option ℕ) (frame body : List ℕ) (room : List Key) (n : ℕ) (whole : Bool) → MatchOption o ⊤ (λ m. (m ≤ length room) × KeysAre frame (take m room)) → n ≡ unwrap_or o 0 → whole ≡ is_some o → frame ≡ body → IsTrue whole → KeysAre body (take n room)
-told_by None frame body room n whole h e some same t = let never : false ≡ true = sym some ∙ t in cc
-told_by (Some m) frame body room n whole h e some same t = rw (e, ← same) h.1
+pub keys_by : (o : Option ℕ) (frame body : List ℕ) (room : List Key) (n : ℕ) (whole : Bool) → MatchOption o ⊤ (λ m. (m ≤ length room) × KeysAre frame (take m room)) → n ≡ unwrap_or o 0 → whole ≡ is_some o → frame ≡ body → IsTrue whole → KeysAre body (take n room)
+keys_by None frame body room n whole h e some same t = let never : false ≡ true = sym some ∙ t in cc
+keys_by (Some m) frame body room n whole h e some same t = rw (e, ← same) h.1

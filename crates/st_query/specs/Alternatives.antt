@@ -1,5 +1,5 @@
--- What the calls of the module `alternatives` ensure: the alternatives of a chain joined by `or`, and
--- the keys that they ask for, as groups of numbers in ascending order.
+-- What the calls of the module `alternatives` ensure: the alternatives of a chain joined by `or`,
+-- and the keys that they ask for, as groups of numbers in ascending order.
 use Rattle.std.specs.Prelude.{◌≡◌, ℕ, zero, suc, ◌-◌, ◌/◌, ◌^◌, ◌↔◌, List, Contains, Option, Some, None, ⊤}
 use Rattle.st_base.specs.Records.{Rec}
 use Rattle.st_walk.specs.Walk.{FrameHas}
@@ -13,10 +13,11 @@ use Rattle.st_query.specs.declared.patterns.KeyKind.TheVariants as kind
 use Rattle.st_query.specs.declared.patterns.Pattern.{Pattern}
 use Rattle.st_query.specs.declared.patterns.Group.{Group}
 use Rattle.st_query.specs.declared.patterns.Chain.{Chain}
+use Rattle.st_query.specs.declared.nodes.Node.{Node}
 use Rattle.st_query.specs.declared.nodes.Primitive.{Primitive}
 use Rattle.st_query.specs.declared.nodes.Primitive.TheVariants as prim
 use Rattle.st_query.specs.Meaning.{addr_key, MatchesTree}
-use Rattle.st_query.specs.Trees.{Tree, both, either, one}
+use Rattle.st_query.specs.Trees.{Tree, both, either, one, tree}
 
 -- the kind of a key
 abbrev pub kind_of : Key → KeyKind
@@ -80,6 +81,14 @@ left_part (both a b) (suc n) = left_part a n
 left_part (either a b) zero = either a b
 left_part (either a b) (suc n) = left_part a n
 
+-- the query is not joined, so it has no last part that could be left out
+abbrev pub IsAlone : Node → Type 0
+IsAlone q = (n : ℕ) → left_part (tree q) n ≡ tree q
+
+-- the query's left part
+abbrev pub IsLeft : Node → Node → Type 0
+IsLeft q l = (n : ℕ) → left_part (tree q) (suc n) ≡ left_part (tree l) n
+
 -- a key of the packet's frame fits the pattern
 abbrev pub HasFitting : Pattern → Rec → Type 0
 HasFitting p r = (k : Key) × Fits p k × FrameHas r.body k
@@ -88,13 +97,21 @@ HasFitting p r = (k : Key) × Fits p k × FrameHas r.body k
 abbrev pub AnyFits : List Pattern → Rec → Type 0
 AnyFits ps r = (p : Pattern) × Contains ps p × HasFitting p r
 
+-- the query matches a packet if and only if a key of its frame fits one of the patterns
+abbrev pub ArePatternsOf : Tree → List Pattern → Type 0
+ArePatternsOf q ps = (now : ℕ) (r : Rec) → MatchesTree q now r ↔ AnyFits ps r
+
+-- the numbers of the patterns of one kind that drop this many bits
+abbrev pub AreNumbers : KeyKind → ℕ → List Pattern → List ℕ → Type 0
+AreNumbers k dropped ps ns = (n : ℕ) → Contains ns n ↔ Contains ps (with_number k dropped n)
+
 -- there is a group of this kind that drops this many bits
 abbrev pub HasGroup : List Group → KeyKind → ℕ → Type 0
 HasGroup gs k dropped = (g : Group) × ((g.kind ≡ k) × (g.dropped ≡ dropped)) × Contains gs g
 
 -- the groups have exactly the patterns
 pub record IsGrouped (ps : List Pattern) (gs : List Group) : Type 0 where
-  pub members : (g : Group) → Contains gs g → (n : ℕ) → Contains g.numbers.items n ↔ Contains ps (with_number g.kind g.dropped n)
+  pub members : (g : Group) → Contains gs g → AreNumbers g.kind g.dropped ps g.numbers.items
   pub whole : (p : Pattern) → Contains ps p → HasGroup gs p.kind p.dropped
 
 -- the group has a pattern that this number of this kind fits
@@ -109,10 +126,11 @@ Included gs k = (g : Group) × GroupIncludes g (kind_of k) (number_of k) × Cont
 abbrev pub AnyIncluded : List Group → List ℕ → Type 0
 AnyIncluded gs frame = (k : Key) × Included gs k × FrameHas frame k
 
--- the chain is the query's: without the parts that follow, the query matches a packet if and only if
--- one of the groups has a pattern that a key of its frame fits
+-- the chain is the query's: without the parts that follow, the query matches a packet if and only
+-- if one of the groups has a pattern that a key of its frame fits
 abbrev pub IsChainOf : Tree → Chain → Type 0
-IsChainOf q c = (now : ℕ) (r : Rec) → MatchesTree (left_part q c.following) now r ↔ AnyIncluded c.groups.items r.body
+IsChainOf q c = (now : ℕ) (r : Rec) →
+    MatchesTree (left_part q c.following) now r ↔ AnyIncluded c.groups.items r.body
 
 -- a chain that is kept is the query's
 abbrev pub HasChain : Tree → Option Chain → Type 0

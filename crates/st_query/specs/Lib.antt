@@ -1,4 +1,5 @@
 pub mod Words
+pub mod WordReader
 pub mod Times
 pub mod TimeReader
 pub mod PrintedWords

@@ -1,5 +1,5 @@
-//! The alternatives of a chain joined by `or`, sorted by kind and number, so that each key of a frame
-//! is looked up once and not once for each alternative.
+//! The alternatives of a chain joined by `or`, sorted by kind and number, so that each key of a
+//! frame is looked up once and not once for each alternative.
 ghost use Rattle.std.specs.Prelude.{◌≡◌, ℕ, suc, ◌/◌, ◌^◌, ◌↔◌, IfOk, IfSome, IsTrue, MatchOption, Contains};
 ghost use Rattle.std.specs.List.Sorted.{IsNonDecreasing};
 ghost use Rattle.st_base.specs.Records.{Rec};
@@ -7,7 +7,7 @@ ghost use Rattle.st_walk.specs.Walk.{FrameHas};
 ghost use Rattle.st_walk.specs.declared.text.Key.{Key};
 ghost use Rattle.st_query.specs.Meaning.{MatchesTree};
 ghost use Rattle.st_query.specs.Trees.{tree};
-ghost use Rattle.st_query.specs.Alternatives.{kind_of, number_of, exact, net_pattern, pattern_in, left_part, with_number, HasGroup, AnyFits, IsGrouped, GroupIncludes, Included, AnyIncluded, HasChain};
+ghost use Rattle.st_query.specs.Alternatives.{kind_of, number_of, exact, net_pattern, pattern_in, left_part, IsAlone, IsLeft, ArePatternsOf, AreNumbers, HasGroup, IsGrouped, GroupIncludes, Included, AnyIncluded, HasChain};
 
 use crate::addrs::Addr;
 use crate::limits::{V4_BITS, V6_BITS};
@@ -17,10 +17,11 @@ use crate::patterns::{Chain, Group, KeyKind, Pattern};
 use st_walk::{Key, keys};
 use std::alloc::{AllocError, Global};
 
-/// The alternatives of a chain are sorted only if they are at least this many: of fewer, one after
+/// The alternatives of a chain are sorted only if they are at least this many. Of fewer, one after
 /// the other is looked up as fast.
 const MIN_ALTERNATIVES: usize = 4;
 
+/// The kind of a key.
 fn kind_of(key: Key) -> KeyKind
     ensures { result ≡ kind_of key }
 {
@@ -35,6 +36,7 @@ fn kind_of(key: Key) -> KeyKind
     }
 }
 
+/// The number of a key.
 fn number_of(key: Key) -> u128
     ensures { result ≡ number_of key }
 {
@@ -142,9 +144,9 @@ fn chain_start(node: &Node) -> Option<usize> {
     Some(following)
 }
 
-/// What is left of a query without its last part, if it is joined.
+/// The query's left part, or None if it is not joined.
 fn without_last(node: &Node) -> Option<&Node>
-    ensures { MatchOption result ((n : ℕ) → left_part (tree node.now) n ≡ tree node.now) (λ l. (n : ℕ) → left_part (tree node.now) (suc n) ≡ left_part (tree l.now) n) }
+    ensures { MatchOption result (IsAlone node.now) (λ l. IsLeft node.now l.now) }
 {
     match node {
         Node::And { left, .. } | Node::Or { left, .. } => Some(left.get()),
@@ -159,7 +161,7 @@ fn without_last(node: &Node) -> Option<&Node>
     }
 }
 
-/// What is left of a query without its last parts, this many.
+/// The query without its last parts, this many.
 fn left_part(node: &Node, following: usize) -> &Node
     ensures { tree result.now ≡ left_part (tree node.now) following }
 {
@@ -175,7 +177,7 @@ fn left_part(node: &Node, following: usize) -> &Node
 
 /// The patterns of a query that is nothing but alternatives, or None.
 fn patterns_of(alloc: Global, node: &Node) -> Result<Option<Vec<Pattern>>, AllocError>
-    ensures { IfOk result (λ o. IfSome o (λ v. (now : ℕ) (r : Rec) → MatchesTree (tree node.now) now r ↔ AnyFits v.items r)) }
+    ensures { IfOk result (λ o. IfSome o (λ v. ArePatternsOf (tree node.now) v.items)) }
 {
     let mut patterns = Vec::new(alloc);
     let mut rest = node;
@@ -199,13 +201,14 @@ fn patterns_of(alloc: Global, node: &Node) -> Result<Option<Vec<Pattern>>, Alloc
     }
 }
 
+/// Whether the pattern is of this kind and drops this many bits.
 fn is_of(pattern: Pattern, kind: KeyKind, dropped: u8) -> bool
     ensures { IsTrue result ↔ ((pattern.kind ≡ kind) × (pattern.dropped ≡ dropped)) }
 {
     pattern.kind == kind && pattern.dropped == dropped
 }
 
-/// The numbers of the patterns of a kind that drop so many bits, in ascending order.
+/// The numbers of the patterns of one kind that drop this many bits, in ascending order.
 fn numbers_of(
     alloc: Global,
     patterns: &[Pattern],
@@ -213,7 +216,7 @@ fn numbers_of(
     dropped: u8,
 ) -> Result<Vec<u128>, AllocError>
     ensures sorted { IfOk result (λ v. IsNonDecreasing v.items) }
-    ensures members { IfOk result (λ v. (n : ℕ) → Contains v.items n ↔ Contains patterns.now (with_number kind dropped n)) }
+    ensures members { IfOk result (λ v. AreNumbers kind dropped patterns.now v.items) }
 {
     let mut numbers = Vec::new(alloc);
     for pattern in patterns {
@@ -225,13 +228,14 @@ fn numbers_of(
     Ok(numbers)
 }
 
+/// Whether the group is of this kind and drops this many bits.
 fn is_group(group: &Group, kind: KeyKind, dropped: u8) -> bool
     ensures { IsTrue result ↔ ((group.now.kind ≡ kind) × (group.now.dropped ≡ dropped)) }
 {
     group.kind == kind && group.dropped == dropped
 }
 
-/// Whether there is a group of this kind that drops so many bits.
+/// Whether there is a group of this kind that drops this many bits.
 fn has_group(groups: &[Group], kind: KeyKind, dropped: u8) -> bool
     ensures { IsTrue result ↔ HasGroup groups.now kind dropped }
 {
@@ -276,6 +280,7 @@ pub fn chain_of(alloc: Global, node: &Node) -> Result<Option<Chain>, AllocError>
     Ok(Some(Chain { groups, following }))
 }
 
+/// Whether the number is one of these, which are in ascending order.
 fn has_number(numbers: &[u128], number: u128) -> bool
     requires { IsNonDecreasing numbers.now }
     ensures { IsTrue result ↔ Contains numbers.now number }
@@ -283,6 +288,7 @@ fn has_number(numbers: &[u128], number: u128) -> bool
     numbers.binary_search(&number).is_ok()
 }
 
+/// Whether the group has a pattern that a key of this kind and number fits.
 fn group_includes(group: &Group, kind: KeyKind, number: u128) -> bool
     ensures { IsTrue result ↔ GroupIncludes group.now kind number }
 {
@@ -292,7 +298,7 @@ fn group_includes(group: &Group, kind: KeyKind, number: u128) -> bool
     has_number(&group.numbers, shifted(number, group.dropped))
 }
 
-/// One of the groups includes the key.
+/// Whether one of the groups has a pattern that the key fits.
 fn includes(groups: &[Group], key: Key) -> bool
     ensures { IsTrue result ↔ Included groups.now key }
 {
@@ -306,7 +312,7 @@ fn includes(groups: &[Group], key: Key) -> bool
     false
 }
 
-/// One of the groups includes a key of the frame.
+/// Whether one of the groups has a pattern that a key of the frame fits.
 pub fn includes_any(groups: &[Group], frame: &[u8]) -> bool
     ensures { IsTrue result ↔ AnyIncluded groups.now frame.now }
 {

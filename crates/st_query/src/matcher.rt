@@ -3,7 +3,7 @@ ghost use Rattle.std.specs.Prelude.{◌≡◌, ℕ, ◌≤◌, ◌↔◌, ⊤, �
 ghost use Rattle.st_walk.specs.Walk.{FrameHas, HasKey};
 ghost use Rattle.st_walk.specs.declared.text.Key.{Key};
 ghost use Rattle.st_query.specs.Meaning.{Matches, MatchesTree, MatchesPrimitive, IsInNet, addr_key, second_of, span_of};
-ghost use Rattle.st_query.specs.Matcher.{KeysAre, KeyIsIn, FrameIsIn, IsTold};
+ghost use Rattle.st_query.specs.Matcher.{KeyIsIn, FrameIsIn, AnyIsIn, Gathers, HasItsKeys};
 ghost use Rattle.st_query.specs.Words.{network};
 ghost use Rattle.st_query.specs.Trees.{tree, is_joined};
 ghost use Rattle.st_query.specs.Alternatives.{IsChainOf};
@@ -17,7 +17,8 @@ use crate::word_reader::network;
 use st_base::RecordRef;
 use st_walk::{Key, has_key, keys};
 
-/// How many keys of a frame are kept: more than a frame of IPv4 under two tags has.
+/// A frame's keys are gathered if they are at most this many. A frame of IPv4 under two tags has
+/// seven.
 const MOST_KEYS: usize = 12;
 
 /// The key of an address.
@@ -30,8 +31,8 @@ pub fn addr_key(addr: Addr) -> Key
     }
 }
 
-/// The second of a moment, in seconds since 1970, where the clock stands at `now` microseconds since
-/// 1970: a relative one counts back from the clock's whole second, and may lie before 1970.
+/// The second of a moment, in seconds since 1970, where the clock stands at `now` microseconds
+/// since 1970: a relative one counts back from the clock's whole second, and may lie before 1970.
 pub fn second_of(when: When, now: u64) -> i64
     ensures { result ≡ second_of when now }
 {
@@ -58,15 +59,16 @@ fn seconds_before(second: u64, span: u64) -> i64
     second as i64 - span as i64
 }
 
+/// Whether the second lies before the moment's second.
 fn is_before(second: u32, moment: i64) -> bool
     ensures { IsTrue result ↔ (pos second <ℤ moment) }
 {
     i64::from(second) < moment
 }
 
-/// The keys of a frame in the front of `room`, where there is room for them.
+/// The keys of a frame, as the first ones in `room`, or None if there is too little room.
 fn gather(frame: &[u8], room: &mut [Key]) -> Option<usize>
-    ensures { MatchOption result ⊤ (λ n. (n ≤ length room.new) × KeysAre frame.now (take n room.new)) }
+    ensures { Gathers frame.now room.new result }
 {
     let mut len = 0;
     for key in keys(frame) {
@@ -79,7 +81,7 @@ fn gather(frame: &[u8], room: &mut [Key]) -> Option<usize>
     Some(len)
 }
 
-/// The query has three primitives or more, so that it pays to gather a frame's keys for it.
+/// Whether the query's left part is joined too, so that it pays to gather a frame's keys for it.
 fn is_long(node: &Node) -> bool {
     let (Node::And { left, .. } | Node::Or { left, .. }) = node else {
         return false;
@@ -87,9 +89,10 @@ fn is_long(node: &Node) -> bool {
     matches!(left.get(), Node::And { .. } | Node::Or { .. })
 }
 
-/// The keys of a frame for this query, where there is room for them and it pays.
+/// The keys of a frame, as the first ones in `room`, or None if there is too little room or it does
+/// not pay to gather them for this query.
 fn gather_for(node: &Node, frame: &[u8], room: &mut [Key]) -> Option<usize>
-    ensures { MatchOption result ⊤ (λ n. (n ≤ length room.new) × KeysAre frame.now (take n room.new)) }
+    ensures { Gathers frame.now room.new result }
 {
     if is_long(node) {
         return gather(frame, room);
@@ -97,7 +100,7 @@ fn gather_for(node: &Node, frame: &[u8], room: &mut [Key]) -> Option<usize>
     None
 }
 
-/// A key is of an address in this net.
+/// Whether the key is of an address in this net.
 fn is_in(key: Key, net: Addr, bits: u8) -> bool
     ensures { IsTrue result ↔ KeyIsIn (network net bits) bits key }
 {
@@ -108,7 +111,7 @@ fn is_in(key: Key, net: Addr, bits: u8) -> bool
     }
 }
 
-/// What is known of a packet: its record, and its frame's keys where they are whole.
+/// A packet's record, and its frame's keys if they are `whole`.
 #[derive(Clone, Copy)]
 struct Packet<'a> {
     record: &'a RecordRef<'a>,
@@ -116,9 +119,9 @@ struct Packet<'a> {
     whole: bool,
 }
 
-/// The packet has this key, which is no second.
+/// Whether the packet has this key, which is no second.
 fn has(packet: &Packet<'_>, key: Key) -> bool
-    requires told { IsTold packet.now }
+    requires keys { HasItsKeys packet.now }
     requires lasting { (s : ℕ) → key ≡ Key.Second s → ⊥ }
     ensures { IsTrue result ↔ HasKey packet.now.record.now.body packet.now.record.now.sec key }
 {
@@ -130,15 +133,16 @@ fn has(packet: &Packet<'_>, key: Key) -> bool
     }
 }
 
+/// Whether the key is one of these.
 fn contains(keys: &[Key], key: Key) -> bool
     ensures { IsTrue result ↔ Contains keys.now key }
 {
     keys.iter().any(|own| *own == key)
 }
 
-/// The packet has an address in this net.
+/// Whether the packet has an address in this net.
 fn is_in_net(packet: &Packet<'_>, net: Addr, bits: u8) -> bool
-    requires { IsTold packet.now }
+    requires { HasItsKeys packet.now }
     ensures { IsTrue result ↔ IsInNet net bits packet.now.record.now }
 {
     let record = packet.record;
@@ -149,21 +153,23 @@ fn is_in_net(packet: &Packet<'_>, net: Addr, bits: u8) -> bool
     }
 }
 
+/// Whether one of the keys is of an address in this net.
 fn any_in(keys: &[Key], net: Addr, bits: u8) -> bool
-    ensures { IsTrue result ↔ ((k : Key) × KeyIsIn (network net bits) bits k × Contains keys.now k) }
+    ensures { IsTrue result ↔ AnyIsIn (network net bits) bits keys.now }
 {
     keys.iter().any(|key| is_in(*key, net, bits))
 }
 
+/// Whether the frame has an address in this net.
 fn walks_into(frame: &[u8], net: Addr, bits: u8) -> bool
     ensures { IsTrue result ↔ FrameIsIn frame.now (network net bits) bits }
 {
     keys(frame).any(|key| is_in(key, net, bits))
 }
 
-/// The packet matches a primitive, where the clock stands at `now` microseconds.
+/// Whether the packet matches a primitive, where the clock stands at `now` microseconds since 1970.
 fn matches_primitive(node: &Node, now: u64, packet: &Packet<'_>) -> bool
-    requires told { IsTold packet.now }
+    requires keys { HasItsKeys packet.now }
     requires alone { IsFalse (is_joined (tree node.now)) }
     ensures { IsTrue result ↔ MatchesTree (tree node.now) now packet.now.record.now }
 {
@@ -181,12 +187,13 @@ fn matches_primitive(node: &Node, now: u64, packet: &Packet<'_>) -> bool
     }
 }
 
-/// The packet matches the part of a query, where the clock stands at `now` microseconds.
+/// Whether the packet matches the part of a query, where the clock stands at `now` microseconds
+/// since 1970.
 ///
-/// A chain of joined parts is a loop from its last part on, so that no call goes deeper than the
-/// parentheses.
+/// A chain of joined parts is matched by a loop from its last part on, so that no call goes deeper
+/// than the parentheses.
 fn matches_part(node: &Node, now: u64, packet: &Packet<'_>) -> bool
-    requires { IsTold packet.now }
+    requires { HasItsKeys packet.now }
     ensures { IsTrue result ↔ MatchesTree (tree node.now) now packet.now.record.now }
 {
     let mut rest = node;
@@ -209,13 +216,13 @@ fn matches_part(node: &Node, now: u64, packet: &Packet<'_>) -> bool
     }
 }
 
-/// The packet matches a query that begins with these alternatives, where the clock stands at `now`
-/// microseconds.
+/// Whether the packet matches a query that begins with these alternatives, where the clock stands
+/// at `now` microseconds since 1970.
 ///
 /// What follows the alternatives is asked first, from the last part on, since it may decide without
 /// them.
 fn matches_chain(node: &Node, chain: &Chain, now: u64, packet: &Packet<'_>) -> bool
-    requires known { IsTold packet.now }
+    requires keys { HasItsKeys packet.now }
     requires chain { IsChainOf (tree node.now) chain.now }
     ensures { IsTrue result ↔ MatchesTree (tree node.now) now packet.now.record.now }
 {
@@ -241,8 +248,8 @@ fn matches_chain(node: &Node, chain: &Chain, now: u64, packet: &Packet<'_>) -> b
     includes_any(&chain.groups, record.body)
 }
 
-/// The packet matches the query, where the clock stands at `now` microseconds since 1970. It takes
-/// no memory.
+/// Whether the packet matches the query, where the clock stands at `now` microseconds since 1970. It
+/// takes no memory.
 pub fn matches(query: &Query, now: u64, r: RecordRef<'_>) -> bool
     ensures { IsTrue result ↔ Matches query.now now r.entry }
 {
@@ -260,7 +267,8 @@ pub fn matches(query: &Query, now: u64, r: RecordRef<'_>) -> bool
     }
 }
 
-/// The packet matches the query of this node, where the clock stands at `now` microseconds.
+/// Whether the packet matches the query of this node, where the clock stands at `now` microseconds
+/// since 1970.
 fn matches_plain(node: &Node, now: u64, r: RecordRef<'_>) -> bool
     ensures { IsTrue result ↔ MatchesTree (tree node.now) now r.entry }
 {

@@ -1,6 +1,6 @@
 //! A query as its tree.
-ghost use Rattle.std.specs.Prelude.{◌≡◌, IfOk, if◌then◌else◌};
-ghost use Rattle.st_query.specs.Trees.{tree, both, either, one};
+ghost use Rattle.std.specs.Prelude.{◌≡◌, IfOk};
+ghost use Rattle.st_query.specs.Trees.{tree, joined_by, one};
 
 use crate::addrs::Addr;
 use crate::alternatives::chain_of;
@@ -31,7 +31,7 @@ pub enum Primitive {
 
 /// A query, or a part of one.
 ///
-/// `Net` has its first `bits` bits in `addr`, and zeros after them. A `vlan` is below 2^12, an `mpls`
+/// `Net` has its first `bits` bits in `addr`, and zeros after them. A VLAN number is below 2^12, a
 /// label below 2^20.
 #[derive(Drop)]
 pub enum Node {
@@ -74,7 +74,7 @@ pub fn node_of(primitive: Primitive) -> Node
 
 /// Two queries, joined by `and` or by `or`.
 pub fn joined(alloc: Global, left: Node, and: bool, right: Node) -> Result<Node, AllocError>
-    ensures { IfOk result (λ q. tree q ≡ (if and then both (tree left) (tree right) else either (tree left) (tree right))) }
+    ensures { IfOk result (λ q. tree q ≡ joined_by and (tree left) (tree right)) }
 {
     let left = Boxed::new(alloc, left)?;
     let right = Boxed::new(alloc, right)?;
@@ -85,8 +85,8 @@ pub fn joined(alloc: Global, left: Node, and: bool, right: Node) -> Result<Node,
     }
 }
 
-/// A query that can be asked. Contracts see it as its node; the alternatives that it begins with are
-/// kept sorted beside that, for `matches` alone.
+/// A query that can be asked. Contracts see it as its node. For `matches` alone, the alternatives
+/// that it begins with are kept a second time, sorted.
 #[derive(Drop)]
 pub struct Query {
     node: Node,

@@ -1,4 +1,4 @@
-//! The keys that alternatives ask for, as patterns and in groups.
+//! The keys that the alternatives of a chain ask for: one by one, and in groups.
 ghost use Rattle.std.specs.List.Sorted.{IsNonDecreasing};
 ghost use Rattle.std.proofs.Props.{props};
 
@@ -14,8 +14,8 @@ pub enum KeyKind {
     Second,
 }
 
-/// The keys that an alternative asks for: those of this kind whose number, without its last `dropped`
-/// bits, is this one.
+/// The keys that an alternative asks for: those of this kind whose number, without its last
+/// `dropped` bits, is this one.
 #[derive(Clone, Copy)]
 pub struct Pattern {
     pub kind: KeyKind,

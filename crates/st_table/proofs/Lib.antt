@@ -22,3 +22,4 @@ pub mod Advancing
 pub mod Stepping
 pub mod Coming
 pub mod Naming
+pub mod Joining

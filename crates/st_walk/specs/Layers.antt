@@ -1,4 +1,4 @@
--- What stands in a frame at an offset: which headers count there, and which keys they carry.
+-- What is in a frame at an offset: which headers count there, and which keys they carry.
 -- A frame is its captured bytes, and each number in it has its highest byte first.
 use Rattle.std.specs.Prelude.{ℕ, ◌+◌, ◌*◌, ◌/◌, ◌%◌, ◌==◌, Bool, not, ◌&&◌, ◌||◌, nat_le, nat_lt, if◌then◌else◌, List, [], ◌∷◌, length, drop, slice_index}
 use Rattle.byteorder.specs.Endian.{big_number}
@@ -12,16 +12,16 @@ use Rattle.st_walk.specs.declared.text.Key.TheVariants.{Proto, Port, Vlan, V4, M
 abbrev pub byte : List ℕ → ℕ → ℕ
 byte p o = slice_index p o
 
--- the number in so many bytes from an offset
+-- the number in n bytes from an offset
 unfoldable pub field : ℕ → ℕ → List ℕ → ℕ
 field n o p = big_number n (drop o p)
 
--- so many bytes from an offset are captured
+-- n bytes from an offset are captured
 unfoldable pub holds : List ℕ → ℕ → ℕ → Bool
 holds p o n = nat_le (o + n) (length p)
 
--- the EtherType of a tag: a customer tag or a service tag (IEEE 802.1Q, 9.5), or the older number of
--- the outer one of two tags, which is no standard's
+-- the EtherType of a tag: a customer tag or a service tag (IEEE 802.1Q, 9.5), or the older number
+-- of the outer one of two tags, which is no standard's
 unfoldable pub is_tag : ℕ → Bool
 is_tag n = n == CUSTOMER_TAG || n == SERVICE_TAG || n == OUTER_TAG
 
@@ -33,7 +33,8 @@ is_labelled n = n == MPLS || n == MPLS_MULTICAST
 unfoldable pub is_bottom : List ℕ → ℕ → Bool
 is_bottom p o = byte p (o + LABEL_END_AT) % 2 == 1
 
--- the IP version that the byte at an offset begins with, where it is captured (RFC 791, 3.1; RFC 8200, 3)
+-- the IP version that the byte at an offset begins with, if it is captured (RFC 791, 3.1; RFC
+-- 8200, 3)
 unfoldable pub is_version : List ℕ → ℕ → ℕ → Bool
 is_version p o n = holds p o 1 && byte p o / HALF == n
 
@@ -73,10 +74,10 @@ is_extension p o n = nat_lt 0 (extension_size p o n) && holds p o (extension_siz
 unfoldable pub is_later : List ℕ → ℕ → ℕ → Bool
 is_later p o n = n == FRAGMENT && not (field FRAGMENT_OFFSET_SIZE (o + FRAGMENT_OFFSET_AT) p / FRAGMENT_OFFSET_UNIT == 0)
 
--- The keys that a layer carries, in the order in which they stand in it:
--- the identifier of a tag (IEEE 802.1Q, 9.6), a label (RFC 3032, 2.1), the protocol and both addresses
--- of IPv4 (RFC 791, 3.1), both addresses of IPv6 (RFC 8200, 3), the number at which its chain ends
--- (RFC 8200, 4), and both ports (RFC 9293, 3.1; RFC 768).
+-- The keys that a layer carries, in their order in it: the identifier of a tag (IEEE 802.1Q, 9.6),
+-- a label (RFC 3032, 2.1), the protocol and both addresses of IPv4 (RFC 791, 3.1), both addresses
+-- of IPv6 (RFC 8200, 3), the number at which its chain ends (RFC 8200, 4), and both ports (RFC
+-- 9293, 3.1; RFC 768).
 abbrev pub layer_keys : List ℕ → ℕ → Layer → List Key
 layer_keys p o Ether = []
 layer_keys p o (Next n) =

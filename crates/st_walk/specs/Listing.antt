@@ -60,7 +60,7 @@ free_steps Ports = 0
 abbrev pub steps_left : List ℕ → ℕ → Layer → ℕ
 steps_left p o l = 4 * (length p - o) + free_steps l
 
--- the keys of the first so many layers from a spot on
+-- the keys of this many layers from a spot on
 unfoldable pub keys_within : ℕ → List ℕ → Option Spot → List Key
 keys_within zero p q = []
 keys_within (suc n) p None = []

@@ -37,10 +37,10 @@ pub data Step (p : List ℕ) : ℕ → Layer → ℕ → Layer → Type 0 where
   -- an extension header begins with the number of the next header (RFC 8200, 4)
   extension : {o n : ℕ} → IsTrue (is_extension p o n) → IsFalse (is_later p o n)
       → Step p o (Chain n) (o + extension_size p o n) (Chain (byte p o))
-  -- after the fragment header of a later fragment stands no header (RFC 8200, 4.5)
+  -- no header follows the fragment header of a later fragment (RFC 8200, 4.5)
   fragment : {o n : ℕ} → IsTrue (is_extension p o n) → IsTrue (is_later p o n)
       → Step p o (Chain n) (o + extension_size p o n) (Fragment (byte p o))
-  -- the chain is over where no header counts that its number would announce
+  -- the chain ends if no header counts that its number would announce
   last : {o n : ℕ} → IsFalse (is_extension p o n) → Step p o (Chain n) o (Last n)
   -- and there the ports stand, where that number is of a protocol with ports
   last_ports : {o n : ℕ} → IsTrue (has_ports n) → Step p o (Last n) o Ports
@@ -69,7 +69,7 @@ FrameHas p k = HasFrom p 0 Ether k
 abbrev pub HasKey : List ℕ → ℕ → Key → Type 0
 HasKey p sec k = (k ≡ Second sec) ⊎ FrameHas p k
 
--- these are the keys of the walk from this layer on, in walk order, each as often as it stands there
+-- these are the keys of the walk from this layer on, in walk order, each as often as it is there
 pub data InOrder (p : List ℕ) : ℕ → Layer → List Key → Type 0 where
   ends : {o : ℕ} {l : Layer} {ks : List Key} → ((m : ℕ) (k : Layer) → Step p o l m k → ⊥)
       → ks ≡ layer_keys p o l

@@ -1,4 +1,4 @@
-//! Where the walk stands, and the step from there to the next layer.
+//! Where the walk is, and the step from there to the next layer.
 
 ghost use Rattle.std.specs.Prelude.{◌≡◌, ◌+◌, ◌≤◌, length, IsTrue, IfSome, is_some, if◌then◌else◌};
 ghost use Rattle.st_walk.specs.Layers.{holds, is_tag, is_labelled, is_bottom, is_version, is_ip4, is_ip6, is_first, has_ports, is_extension, extension_size, is_later, field};
@@ -15,7 +15,7 @@ use crate::numbers::{
     OUTER_TAG, ROUTING, SERVICE_TAG, TAG_KIND_AT, TAG_SIZE, TCP, UDP,
 };
 
-/// What stands at an offset of a frame.
+/// What begins at an offset of a frame.
 #[derive(Clone, Copy, Debug)]
 pub enum Layer {
     /// The Ethernet header.
@@ -102,7 +102,8 @@ fn after_kind(frame: &[u8], at: usize, kind: u16) -> Option<Spot>
 #[inline]
 fn after_tag(frame: &[u8], at: usize) -> Option<Spot>
     ensures { result ≡ (if holds frame.now at TAG_SIZE
-        then spot_at (at + TAG_SIZE) (Next (field KIND_SIZE (at + TAG_KIND_AT) frame.now)) else None) }
+        then spot_at (at + TAG_SIZE) (Next (field KIND_SIZE (at + TAG_KIND_AT) frame.now))
+        else None) }
 {
     if !holds(frame, at, TAG_SIZE) {
         return None;

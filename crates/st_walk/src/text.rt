@@ -24,7 +24,7 @@ pub enum Key {
     Mpls(u32),
     /// A source or destination address of IPv6, its first byte the highest.
     V6(u128),
-    /// The second of a packet's time, since 1970. It stands in no frame.
+    /// The second of a packet's time, since 1970. It is in no frame.
     Second(u32),
 }
 

@@ -3,7 +3,7 @@ use Rattle.st_query.specs.declared.patterns.KeyKind.TheVariants as kind
 use Rattle.st_query.specs.declared.patterns.Pattern.{Pattern}
 use Rattle.st_query.specs.declared.patterns.Group.{Group}
 use Rattle.st_query.specs.Alternatives.{HasGroup}
-use Rattle.st_query.proofs.Chains.{Covers, groups_push, groups_pass, all_taken}
+use Rattle.st_query.proofs.Groups.{Covers, groups_push, groups_pass, all_taken}
 use Rattle.st_query.proofs.alternatives.grouped.Goals as goal
 use Rattle.st_query.proofs.alternatives.grouped.Goals.{then-not-has_group+in_ok-numbers+in_ok-push, else-not-has_group}
 

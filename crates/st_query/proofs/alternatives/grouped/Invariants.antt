@@ -1,5 +1,5 @@
 use Rattle.std.proofs.Common.{take}
-use Rattle.st_query.proofs.Chains.{Members, Covers}
+use Rattle.st_query.proofs.Groups.{Members, Covers}
 use Rattle.st_query.proofs.alternatives.grouped.Given as goal
 
 abbrev pub invariant-loop-pattern : goal.invariant-loop-pattern

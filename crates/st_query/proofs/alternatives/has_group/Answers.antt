@@ -1,6 +1,6 @@
 use Rattle.std.proofs.Common.{◌≡◌, refl, arith, true, false}
 use Rattle.st_query.specs.declared.patterns.Group.{Group}
-use Rattle.st_query.proofs.Chains.{none_more, some_here, none_there}
+use Rattle.st_query.proofs.Groups.{none_more, some_here, none_there}
 use Rattle.st_query.proofs.alternatives.has_group.Goals as goal
 
 pub loop-group-init : goal.loop-group-init

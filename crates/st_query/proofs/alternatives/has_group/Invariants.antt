@@ -1,6 +1,6 @@
 use Rattle.std.proofs.Common.{◌≡◌}
 use Rattle.st_query.specs.declared.patterns.Group.{Group}
-use Rattle.st_query.proofs.Chains.{NoneYet}
+use Rattle.st_query.proofs.Groups.{NoneYet}
 use Rattle.st_query.proofs.alternatives.has_group.Given as goal
 
 abbrev pub invariant-loop-group : goal.invariant-loop-group

@@ -2,7 +2,7 @@ use Rattle.std.proofs.Common.{◌≡◌, ℕ, refl, sym, subst, arith, true, fal
 use Rattle.st_query.specs.declared.patterns.KeyKind.{KeyKind}
 use Rattle.st_query.specs.declared.patterns.Group.{Group}
 use Rattle.st_query.specs.Alternatives.{kind_of, number_of, GroupIncludes, Included}
-use Rattle.st_query.proofs.Chains.{none_more, some_here, none_there}
+use Rattle.st_query.proofs.Groups.{none_more, some_here, none_there}
 use Rattle.st_query.proofs.alternatives.includes.Goals as goal
 
 -- the group includes the key of this kind and number

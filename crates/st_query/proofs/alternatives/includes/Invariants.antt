@@ -1,6 +1,6 @@
 use Rattle.st_query.specs.declared.patterns.Group.{Group}
 use Rattle.st_query.specs.Alternatives.{GroupIncludes}
-use Rattle.st_query.proofs.Chains.{NoneYet}
+use Rattle.st_query.proofs.Groups.{NoneYet}
 use Rattle.st_query.proofs.alternatives.includes.Given as goal
 
 abbrev pub invariant-loop-group : goal.invariant-loop-group

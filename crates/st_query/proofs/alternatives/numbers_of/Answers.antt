@@ -2,7 +2,8 @@ use Rattle.std.proofs.Common.{◌∙◌, ap, subst, List}
 use Rattle.std.proofs.lemmas.List.Sorted.{IsNonDecreasingBy-from_sort}
 use Rattle.st_query.specs.declared.patterns.KeyKind.TheVariants as kind
 use Rattle.st_query.specs.declared.patterns.Pattern.{Pattern}
-use Rattle.st_query.proofs.Chains.{AreNumbers, no_numbers, numbers_push, numbers_pass, numbers_sorted, all_taken}
+use Rattle.st_query.specs.Alternatives.{AreNumbers}
+use Rattle.st_query.proofs.Groups.{no_numbers, numbers_push, numbers_pass, numbers_sorted, all_taken}
 use Rattle.st_query.proofs.alternatives.numbers_of.Goals as goal
 use Rattle.st_query.proofs.alternatives.numbers_of.Goals.{then-is_of+in_ok-push, else-is_of}
 

@@ -1,5 +1,5 @@
 use Rattle.std.proofs.Common.{take}
-use Rattle.st_query.proofs.Chains.{AreNumbers}
+use Rattle.st_query.specs.Alternatives.{AreNumbers}
 use Rattle.st_query.proofs.alternatives.numbers_of.Given as goal
 
 abbrev pub invariant-loop-pattern : goal.invariant-loop-pattern
