@@ -31,7 +31,8 @@ handle_size h =
     let b = groups_size 9 h.size in
     omega arith
 
--- with one more row a builder keeps below its bounds, and there is room for its block and five bytes after that
+-- with one more row a builder keeps below its bounds, and there is room for its block and five
+-- bytes after that
 pub filled_sound : (k : TableBuilderView) (r : RowView) → IsSteady k → is_above (last_added k) r.0 ≡ true → length r.0 ≤ 64 → length r.1 < 2 ^ 32 → k.spent + room_of r < 2 ^ 37 → IsWithinLimits (filled k r) × (k.at + block_size (filled k r).block + 5 ≤ (filled k r).spent)
 filled_sound k r steady above lk lv room =
     let sound = steady.sound in

@@ -235,7 +235,7 @@ impl<'a, R: Reader> Table<'a, R> {
     /// is before that block.
     ///
     /// Over any file a reading ends: each row that is given leaves fewer to come (`most_left`). A
-    /// row at hand is given without a read; a block is passed over only where none of its rows is
+    /// row at hand is given without a read; a block is passed over only if none of its rows is
     /// in the range.
     pub fn step(&mut self, alloc: Global, cursor: &mut Cursor) -> Result<Option<Row>, TableErr>
         ensures steps { (bytes : List ℕ) → R.content self.old.file.now ≡ Some bytes

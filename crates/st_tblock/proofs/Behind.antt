@@ -1,4 +1,5 @@
--- What is after an entry is an end of its text, and an entry is read after every key that is long enough.
+-- What is after an entry is an end of its text, and an entry is read after every key that is long
+-- enough.
 use Rattle.std.proofs.Common.{◌≡◌, ℕ, ◌+◌, ◌-◌, ◌<◌, ◌≤◌, ◌^◌, false, List, [], ◌∷◌, length, take, drop, Option, Some, None, refl, sym, ap, ◌∙◌, subst, arith, inl, inr}
 use Rattle.std.specs.Prelude.{nat_lt}
 use Rattle.std.proofs.lemmas.List.{length-drop, drop-drop}

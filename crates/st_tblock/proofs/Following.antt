@@ -1,4 +1,5 @@
--- What a caller of a cursor needs: a block has one list of rows, and what was read so far is a prefix of it.
+-- What a caller of a cursor needs: a block has one list of rows, and what was read so far is a
+-- prefix of it.
 use Rattle.std.proofs.Common.{◌≡◌, ℕ, List, [], ◌∷◌, ◌++◌, append-nil, length, Option, Some, None, refl, sym, ap, ◌∙◌, subst}
 use Rattle.st_tblock.specs.Parsing.{Read}
 use Rattle.st_tblock.specs.Block.{RowView, Entry, BlockReading, Rows, entry_in, next_in, rising, key_or_empty, key_of, past, start, restarts_in, IsBlock}

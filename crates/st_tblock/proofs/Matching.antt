@@ -49,7 +49,8 @@ behind_common (x ∷ xs) (y ∷ ys) =
       ]
     ]
 
--- after what the last key has in common with another, an entry's key is to that one as what follows does
+-- after what the last key has in common with another, an entry's key is to that one as what follows
+-- does
 near : (last key unshared : List ℕ) (shared : ℕ) → shared ≤ common_prefix_len nat_eq last key → (slice_cmp nat_cmp (take shared last ++ unshared) key ≡ slice_cmp nat_cmp unshared (drop shared key)) × (common_prefix_len nat_eq (take shared last ++ unshared) key ≡ shared + common_prefix_len nat_eq unshared (drop shared key))
 near last key unshared zero l = (refl, omega arith)
 near [] key unshared (suc s) l = absurd (omega arith)
@@ -66,7 +67,8 @@ near (x ∷ xs) (y ∷ ys) unshared (suc s) l = elim (cases_order x y) [
   ]
 ]
 
--- an entry that shares more than the last key has in common with another parts from that where the last key does
+-- an entry that shares more than the last key has in common with another parts from that where the
+-- last key does
 far : (last key unshared : List ℕ) (shared : ℕ) → common_prefix_len nat_eq last key < shared → shared ≤ length last → is_before last key ≡ true → (slice_cmp nat_cmp (take shared last ++ unshared) key ≡ Less) × (common_prefix_len nat_eq (take shared last ++ unshared) key ≡ common_prefix_len nat_eq last key)
 far last key unshared zero c l b = absurd (omega arith)
 far [] key unshared (suc s) c l b = absurd (omega arith)

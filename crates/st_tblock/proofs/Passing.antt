@@ -13,7 +13,8 @@ use Rattle.st_tblock.specs.Search.{Compares, AnswersFrom, reading_of}
 use Rattle.st_tblock.proofs.Following.{none_in}
 use Rattle.st_tblock.proofs.Behind.{spelled_next}
 
--- how far a lookup has come among these rows: what is to come, and what the last key has in common with the wanted one, which it is before
+-- how far a lookup has come among these rows: what is to come, and what the last key has in common
+-- with the wanted one, which it is before
 pub record Passed (key rest : List ℕ) (matched : ℕ) (rows : List RowView) : Type 0 where
   pub reading : BlockReading
   pub more : List RowView

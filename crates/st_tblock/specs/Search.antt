@@ -38,7 +38,7 @@ Compares key matched shared unshared result =
 abbrev pub reading_of : ℕ → List ℕ → List ℕ → BlockReading
 reading_of at left text = record { at = at; last = None; left = left; rest = text }
 
--- this is the value of the key, or none, among the rows of a text that is walked from its front to
+-- this is the value of the key, or none, among the rows of a text that is walked from its start to
 -- its end
 abbrev pub AnswersFrom : List ℕ → List ℕ → Option (List ℕ) → Type 0
 AnswersFrom text key answer =
