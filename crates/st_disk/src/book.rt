@@ -4,7 +4,7 @@ ghost use Rattle.st_disk.specs.declared.changes.Call.TheVariants as call;
 ghost use Rattle.st_disk.specs.Names.{published, AreSorted};
 ghost use Rattle.st_disk.specs.Folders.{Folder, apply, folder_of};
 ghost use Rattle.st_disk.specs.declared.naming.Name.{Name};
-ghost use Rattle.st_disk.specs.LoggedCalls.{removal};
+ghost use Rattle.st_disk.specs.LoggedCalls.{Looks, Parks, removal};
 ghost use Rattle.st_disk.specs.Crashes.{IsCrash};
 ghost use Rattle.st_disk.specs.Disks.{reads, and_then, Leaves, moment, log_of};
 ghost use Rattle.st_disk.specs.declared.naming.Name.TheVariants as name;
@@ -89,6 +89,7 @@ impl Book {
     pub fn look(&mut self) -> Result<(), Full>
         ensures ok { OnOk result (self.new ≡ and_then self.old call.Other) }
         ensures full { OnErr result ((self.new ≡ self.old) × (2 ^ 64 - 1 ≤ moment self.old)) }
+        ensures looks { Looks (Some self.old) (Some self.new) }
     {
         self.calls.look()
     }
@@ -185,6 +186,19 @@ impl Book {
             Err(Change::Settle { bytes, .. }) => Err(bytes),
             Err(_) => unreachable!(),
         }
+    }
+
+    /// Renames the index of this stamp, which is there, to its parked name.
+    pub fn hide(&mut self, alloc: Global, stamp: u64) -> Result<(), NoMemory>
+        requires { IsSome (reads self.old (name.Index stamp)) }
+        ensures ok { OnOk result (self.new ≡ and_then self.old (call.Did (change.Hide stamp))) }
+        ensures parked { OnOk result (Parks (Some self.old) (Some self.new) stamp) }
+        ensures err { OnErr result (self.new ≡ self.old) }
+    {
+        if self.change(alloc, Change::Hide { stamp }).is_err() {
+            return Err(NoMemory);
+        }
+        Ok(())
     }
 
     /// Removes a name; if it isn't there, that is a call that changes nothing.
