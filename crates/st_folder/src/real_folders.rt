@@ -2,7 +2,7 @@
 use crate::real_names::{folder_path, name_of};
 use st_shelf::{Kind, Name};
 use std::alloc::Global;
-use std::fs::{DirBuilder, DirEntry, File, TryLockError};
+use std::fs::{DirBuilder, DirEntry, File, ReadDir, TryLockError};
 use std::io::ErrorKind;
 use std::os::unix::fs::DirBuilderExt;
 use std::rt::HostRuntime;
@@ -58,7 +58,7 @@ pub(crate) fn read_names(
     names: &mut Vec<Name>,
 ) -> io::Result<()> {
     let path = folder_path(alloc, root, kind)?;
-    for entry in fs::read_dir(rt, path.as_str())? {
+    for entry in open_names(rt, path.as_str())? {
         match entry {
             Ok(entry) => add_entry(kind, &entry, names)?,
             // A name that is no text is none of a shelf's.
@@ -70,6 +70,17 @@ pub(crate) fn read_names(
         }
     }
     Ok(())
+}
+
+// Opens a folder to read its names, again where a signal broke that off.
+fn open_names(rt: &HostRuntime, path: &str) -> io::Result<ReadDir> {
+    'tries: for _ in 0..u64::MAX {
+        match fs::read_dir(rt, path) {
+            Err(error) if error.kind() == ErrorKind::Interrupted => {}
+            other => return other,
+        }
+    }
+    Err(io::Error::from(ErrorKind::Interrupted))
 }
 
 fn add_entry(kind: Kind, entry: &DirEntry, names: &mut Vec<Name>) -> io::Result<()> {
@@ -130,7 +141,8 @@ fn make_folder(rt: &HostRuntime, path: &str) -> io::Result<()> {
 fn sync_parent(rt: &HostRuntime, path: &str) -> io::Result<()> {
     match File::open(rt, parent_of(path)) {
         Ok(parent) => parent.sync_all(),
-        Err(_) => Ok(()),
+        Err(error) if error.kind() == ErrorKind::PermissionDenied => Ok(()),
+        Err(error) => Err(error),
     }
 }
 

@@ -50,5 +50,6 @@ mod writer;
 
 pub use errors::PcapErr;
 pub use forms::Unit;
+pub use numbers::{FILE_HEAD_SIZE, RECORD_HEAD_SIZE};
 pub use reader::PcapReader;
 pub use writer::{append_record, file_head, put_header, put_record, record_head};

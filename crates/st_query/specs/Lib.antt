@@ -12,5 +12,6 @@ pub mod Spelling
 pub mod Parser
 pub mod Meaning
 pub mod Matcher
+pub mod Alternatives
 pub mod Answer
 pub mod Laws

@@ -35,6 +35,7 @@
 #![tactic(auto)]
 
 mod addrs;
+mod alternatives;
 mod automaton;
 mod errors;
 mod laws;
@@ -43,6 +44,7 @@ mod limits;
 mod matcher;
 mod nodes;
 mod parser;
+mod patterns;
 mod printer;
 #[cfg(test)]
 mod tests;

@@ -6,9 +6,12 @@ ghost use Rattle.st_query.specs.Meaning.{Matches, MatchesTree, MatchesPrimitive,
 ghost use Rattle.st_query.specs.Matcher.{KeysAre, KeyIsIn, FrameIsIn, IsTold};
 ghost use Rattle.st_query.specs.Words.{network};
 ghost use Rattle.st_query.specs.Trees.{tree, is_joined};
+ghost use Rattle.st_query.specs.Alternatives.{IsChainOf};
 
 use crate::addrs::Addr;
+use crate::alternatives::includes_any;
 use crate::nodes::{Node, Query, When};
+use crate::patterns::Chain;
 use crate::units::{HOUR, MINUTE, SECOND};
 use crate::word_reader::network;
 use st_base::RecordRef;
@@ -206,13 +209,62 @@ fn matches_part(node: &Node, now: u64, packet: &Packet<'_>) -> bool
     }
 }
 
+/// The packet matches a query that begins with these alternatives, where the clock stands at `now`
+/// microseconds.
+///
+/// What follows the alternatives is asked first, from the last part on, since it may decide without
+/// them.
+fn matches_chain(node: &Node, chain: &Chain, now: u64, packet: &Packet<'_>) -> bool
+    requires known { IsTold packet.now }
+    requires chain { IsChainOf (tree node.now) chain.now }
+    ensures { IsTrue result ↔ MatchesTree (tree node.now) now packet.now.record.now }
+{
+    let record = packet.record;
+    let mut rest = node;
+    for step in 0..chain.following {
+        match rest {
+            Node::Or { left, right } => {
+                if matches_part(right.get(), now, packet) {
+                    return true;
+                }
+                rest = left.get();
+            }
+            Node::And { left, right } => {
+                if !matches_part(right.get(), now, packet) {
+                    return false;
+                }
+                rest = left.get();
+            }
+            primitive => return matches_primitive(primitive, now, packet),
+        }
+    }
+    includes_any(&chain.groups, record.body)
+}
+
 /// The packet matches the query, where the clock stands at `now` microseconds since 1970. It takes
 /// no memory.
 pub fn matches(query: &Query, now: u64, r: RecordRef<'_>) -> bool
     ensures { IsTrue result ↔ Matches query.now now r.entry }
 {
-    let mut room = [Key::Proto(0); MOST_KEYS];
     let node = query.node();
+    match query.chain() {
+        Some(chain) => {
+            let packet = Packet {
+                record: &r,
+                keys: &[],
+                whole: false,
+            };
+            matches_chain(node, chain, now, &packet)
+        }
+        None => matches_plain(node, now, r),
+    }
+}
+
+/// The packet matches the query of this node, where the clock stands at `now` microseconds.
+fn matches_plain(node: &Node, now: u64, r: RecordRef<'_>) -> bool
+    ensures { IsTrue result ↔ MatchesTree (tree node.now) now r.entry }
+{
+    let mut room = [Key::Proto(0); MOST_KEYS];
     let len = gather_for(node, r.body, &mut room);
     let packet = Packet {
         record: &r,

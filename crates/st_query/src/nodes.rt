@@ -3,6 +3,8 @@ ghost use Rattle.std.specs.Prelude.{◌≡◌, IfOk, if◌then◌else◌};
 ghost use Rattle.st_query.specs.Trees.{tree, both, either, one};
 
 use crate::addrs::Addr;
+use crate::alternatives::chain_of;
+use crate::patterns::Chain;
 use sqlite_items::Boxed;
 use std::alloc::{AllocError, Global};
 use std::marker::Model;
@@ -83,10 +85,12 @@ pub fn joined(alloc: Global, left: Node, and: bool, right: Node) -> Result<Node,
     }
 }
 
-/// A query that can be asked. Contracts see it as its node.
+/// A query that can be asked. Contracts see it as its node; the alternatives that it begins with are
+/// kept sorted beside that, for `matches` alone.
 #[derive(Drop)]
 pub struct Query {
     node: Node,
+    chain: Option<Chain>,
 }
 
 impl Model for Query {
@@ -94,6 +98,7 @@ impl Model for Query {
     ghost use Rattle.st_query.specs.contracts.nodes.Node as e;
     ghost use Rattle.st_query.specs.declared.nodes.Node.{Node};
     ghost use Rattle.st_query.specs.Trees.{IsSound, tree};
+    ghost use Rattle.st_query.specs.Alternatives.{HasChain};
 
     ghost Value = { Node };
 
@@ -101,17 +106,27 @@ impl Model for Query {
 
     ghost view = { λ a. a.node };
 
-    ghost invariant = { λ a. IsSound (tree a.node) };
+    ghost invariant = { λ a. IsSound (tree a.node) × HasChain (tree a.node) a.chain };
 }
 
 impl Query {
     ghost use Rattle.st_query.specs.Trees.{IsSound, tree};
+    ghost use Rattle.st_query.specs.Alternatives.{HasChain};
 
-    pub(crate) fn of(node: Node) -> Query
+    /// The query of this node.
+    pub(crate) fn new(alloc: Global, node: Node) -> Result<Query, AllocError>
         requires { IsSound (tree node) }
-        ensures { result ≡ node }
+        ensures { IfOk result (λ q. q ≡ node) }
     {
-        Query { node }
+        let chain = chain_of(alloc, &node)?;
+        Ok(Query { node, chain })
+    }
+
+    /// The alternatives that the query begins with, if they are sorted.
+    pub(crate) fn chain(&self) -> &Option<Chain>
+        ensures { HasChain (tree self.now) result.now }
+    {
+        &self.chain
     }
 
     /// The query's outermost node.

@@ -31,6 +31,7 @@ mod carried;
 mod fields;
 mod header;
 mod iter;
+pub mod laws;
 mod numbers;
 #[cfg(test)]
 mod tests;

@@ -11,7 +11,7 @@ ghost use Rattle.st_shelf.specs.Loans.{no_loans};
 ghost use Rattle.st_shelf.specs.Origins.{draft_name};
 ghost use Rattle.st_shelf.specs.Ends.{end_origin, end_faults, TakesFaults};
 
-use crate::lent_file::LentFile;
+use crate::lent_file::{CameBack, LentFile};
 use crate::loans::Loans;
 use crate::memory::draft::{MemDraft, MemSealed};
 use crate::memory::file::MemFile;
@@ -35,19 +35,22 @@ pub struct MemShelf {
 }
 
 impl MemShelf {
-    /// An empty shelf on which no call fails but for want of memory.
+    /// An empty shelf on which a call fails only if memory runs out.
     pub fn empty(alloc: Global) -> MemShelf
         ensures log { ⟦<MemShelf as Shelf>⟧.log result ≡ Some (log_of [] [] []) }
-        ensures counts { (⟦<MemShelf as Shelf>⟧.faults result ≡ 0) × (⟦<MemShelf as Shelf>⟧.loans result ≡ no_loans) }
+        ensures counts { (⟦<MemShelf as Shelf>⟧.faults result ≡ 0)
+            × (⟦<MemShelf as Shelf>⟧.loans result ≡ no_loans) }
     {
         MemShelf::over(alloc, Book::empty(alloc), Schedule::none())
     }
 
-    /// An empty shelf that fails at the calls that it is given. Each call of the shelf, of its drafts and of
-    /// its files has a number, the first of them 0; those in `fails` fail, and all from `stop` on.
+    /// An empty shelf that fails at the calls that it is given. Each call of the shelf, of its
+    /// drafts and of its files has a number, the first of them 0; those in `fails` fail, and all
+    /// from `stop` on.
     pub fn with(alloc: Global, fails: &[u64], stop: Option<u64>) -> Result<MemShelf, NoMemory>
         ensures log { IfOk result (λ s. ⟦<MemShelf as Shelf>⟧.log s ≡ Some (log_of [] [] [])) }
-        ensures counts { IfOk result (λ s. (⟦<MemShelf as Shelf>⟧.faults s ≡ 0) × (⟦<MemShelf as Shelf>⟧.loans s ≡ no_loans)) }
+        ensures counts { IfOk result (λ s. (⟦<MemShelf as Shelf>⟧.faults s ≡ 0)
+            × (⟦<MemShelf as Shelf>⟧.loans s ≡ no_loans)) }
     {
         match Schedule::of(alloc, fails, stop) {
             Ok(schedule) => Ok(MemShelf::over(alloc, Book::empty(alloc), schedule)),
@@ -59,11 +62,15 @@ impl MemShelf {
     /// no call made yet and all of it flushed.
     ///
     /// The changes that were not flushed by then are numbered from 0, those of the block folder
-    /// first; change i is made exactly where bit i of `choice` is set.
+    /// first; change i is made if and only if bit i of `choice` is set.
     pub fn crash(&self, alloc: Global, moment: u64, choice: u64) -> Result<MemShelf, NoMemory>
-        requires { (log : Log) → ⟦<MemShelf as Shelf>⟧.log self.now ≡ Some log → moment ≤ moments log }
-        ensures image { (log : Log) → ⟦<MemShelf as Shelf>⟧.log self.now ≡ Some log → IfOk result (λ s. (new : Log) × (⟦<MemShelf as Shelf>⟧.log s ≡ Some new) × IsCrash log moment choice new) }
-        ensures counts { IfOk result (λ s. (⟦<MemShelf as Shelf>⟧.faults s ≡ 0) × (⟦<MemShelf as Shelf>⟧.loans s ≡ no_loans)) }
+        requires { (log : Log) → ⟦<MemShelf as Shelf>⟧.log self.now ≡ Some log
+            → moment ≤ moments log }
+        ensures image { (log : Log) → ⟦<MemShelf as Shelf>⟧.log self.now ≡ Some log
+            → IfOk result (λ s. (new : Log) × (⟦<MemShelf as Shelf>⟧.log s ≡ Some new)
+                × IsCrash log moment choice new) }
+        ensures counts { IfOk result (λ s. (⟦<MemShelf as Shelf>⟧.faults s ≡ 0)
+            × (⟦<MemShelf as Shelf>⟧.loans s ≡ no_loans)) }
     {
         match self.book.crash(alloc, moment, choice) {
             Ok(book) => Ok(MemShelf::over(alloc, book, Schedule::none())),
@@ -71,14 +78,15 @@ impl MemShelf {
         }
     }
 
-    /// How many of the shelf's own calls were made.
+    /// How many of the shelf's own calls were made, failed ones and `close` too.
     pub fn moments(&self) -> u64
-        ensures { (log : Log) → ⟦<MemShelf as Shelf>⟧.log self.now ≡ Some log → result ≡ moments log }
+        ensures { (log : Log) → ⟦<MemShelf as Shelf>⟧.log self.now ≡ Some log
+            → result ≡ moments log }
     {
         self.book.moments()
     }
 
-    /// How many files were out at most.
+    /// The greatest number of files that were out at once.
     pub fn peak_lent(&self) -> u64
         ensures { result ≡ (⟦<MemShelf as Shelf>⟧.loans self.now).peak }
     {
@@ -131,7 +139,7 @@ impl Shelf for MemShelf {
 
     ghost loans = { λ s. s.loans };
 
-    ghost file_origin = { λ f. record { kind = f.kind; home = f.home } };
+    ghost file_origin = { λ f. record { kind = f.kind; home = 0 } };
 
     ghost drafts_known = { λ shelf l d known. refl };
 
@@ -250,24 +258,34 @@ impl Shelf for MemShelf {
             faults: 0,
             schedule,
         };
-        Ok(self.loans.lend(kind_of_name(name), 0, file))
+        self.loans.lend();
+        Ok(LentFile::lend(kind_of_name(name), file))
     }
 
     fn close(&mut self, file: LentFile<MemFile>) {
         let failed = self.schedule.fails();
         let _ = self.book.look();
-        if self.loans.take_back(file) > 0 || failed {
+        let CameBack {
+            kind,
+            reads,
+            asked,
+            faults,
+        } = file.come_back();
+        if failed || faults > 0 {
             self.faults = self.faults.saturating_add(1);
         }
+        self.loans.take_back(kind, reads, asked);
     }
 
     fn abandon(&mut self, end: End<MemDraft>)
-        requires { (end_origin (λ d. record { kind = d.kind; number = d.number; home = 0 }) (λ s. record { kind = s.kind; number = s.number; home = 0 }) end).home ≡ 0 }
+        requires { (end_origin (λ d. record { kind = d.kind; number = d.number; home = 0 })
+            (λ s. record { kind = s.kind; number = s.number; home = 0 }) end).home ≡ 0 }
         ensures log { Abandons (Some self.old.book) (Some self.new.book)
             (draft_name (end_origin (λ d. record { kind = d.kind; number = d.number; home = 0 })
                 (λ s. record { kind = s.kind; number = s.number; home = 0 }) end))
             (end_faults (λ d. d.faults) (λ s. s.faults) end) self.old.faults self.new.faults }
-        ensures cause { TakesFaults (end_faults (λ d. d.faults) (λ s. s.faults) end) self.old.faults self.new.faults }
+        ensures cause { TakesFaults (end_faults (λ d. d.faults) (λ s. s.faults) end)
+            self.old.faults self.new.faults }
         ensures loans { self.new.loans ≡ self.old.loans }
     {
         match end {
@@ -300,7 +318,8 @@ impl Shelf for MemShelf {
 impl MemShelf {
     // Renames a draft to its name, or gives its bytes back.
     fn put_under(&mut self, kind: Kind, draft: u64, stamp: u64, bytes: Octets) -> Result<(), Octets>
-        ensures log { Does (Some self.old.book) (Some self.new.book) result (λ _. call.Did (change.Settle kind draft stamp bytes)) }
+        ensures log { Does (Some self.old.book) (Some self.new.book) result
+            (λ _. call.Did (change.Settle kind draft stamp bytes)) }
         ensures there { OnOk result (reads self.new.book (published kind stamp) ≡ Some bytes) }
         ensures back { IfErr result (λ b. b ≡ bytes) }
         ensures cause { HasCause self.old.faults self.new.faults result }
