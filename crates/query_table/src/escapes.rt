@@ -20,7 +20,7 @@ fn hex_value(byte: u8) -> u8 {
     }
 }
 
-/// The byte that a letter stands for behind a backslash.
+/// The byte that a letter stands for after a backslash.
 fn escaped(letter: u8) -> u8 {
     match letter {
         b't' => b'\t',

@@ -1,9 +1,9 @@
-//! Reads texts from standard input, one a line, and prints of each the printed form of the query that
-//! it spells, or its refusal.
+//! Reads texts from standard input, one a line, and prints of each the printed form of the query
+//! that it spells, or its refusal.
 //!
 //! In a line `\t`, `\n`, `\r` and `\\` stand for a tab, a line feed, a carriage return and a
-//! backslash, and `\x` with two hexadecimal digits for that byte. `stdin` and `stdout` are a table of
-//! texts at the edges of the language, whose answers were worked out by hand from its rules.
+//! backslash, and `\x` with two hexadecimal digits for that byte. `stdin` and `stdout` are a table
+//! of texts at the edges of the language, whose answers were worked out by hand from its rules.
 #![tactic(auto)]
 
 mod escapes;

@@ -52,7 +52,7 @@ pub struct Desk<D: Shelf> {
 }
 
 impl<D: Shelf> Desk<D> {
-    /// Lays a shelf down, for threads to share. It comes back where memory is wanting.
+    /// Lays a shelf down, for threads to share. It comes back where memory runs out.
     pub fn over(alloc: Global, home: Home<D>) -> Result<Desk<D>, Home<D>> {
         let mut slots = Vec::new(alloc);
         if let Err(AllocFailed { value }) = slots.push(Some(home)) {
@@ -74,7 +74,8 @@ impl<D: Shelf> Desk<D> {
 
     /// Waits for the turn, and takes the shelf.
     pub fn take<R: Wait>(&self, rt: &R) -> (Home<D>, Place<D>)
-        ensures { (result.1.table_id ≡ self.now.table.shared.table_id) × (result.1.me.1 ≡ (0, None) ∷ []) }
+        ensures { (result.1.table_id ≡ self.now.table.shared.table_id)
+            × (result.1.me.1 ≡ (0, None) ∷ []) }
     {
         let shared = &self.table.shared;
         'tries: for _ in rt.forever() {
@@ -92,7 +93,8 @@ impl<D: Shelf> Desk<D> {
 
     /// Puts the shelf back, and ends the turn.
     pub fn give(&self, mut place: Place<D>, home: Home<D>)
-        requires { (place.table_id ≡ self.now.table.shared.table_id) × (place.me.1 ≡ (0, None) ∷ []) }
+        requires { (place.table_id ≡ self.now.table.shared.table_id)
+            × (place.me.1 ≡ (0, None) ∷ []) }
     {
         let shared = &self.table.shared;
         let old = shared.exchange(&mut place, 0, Some(home));
@@ -100,8 +102,8 @@ impl<D: Shelf> Desk<D> {
         shared.store::<Give>(&mut place, 0, 0);
     }
 
-    /// Takes the shelf up again, once no thread shares it. None comes where one left its turn with the
-    /// shelf.
+    /// Takes the shelf up again, once no thread shares it. None comes where one left its turn with
+    /// the shelf.
     pub fn into_home(self) -> Option<Home<D>> {
         let Desk { table } = self;
         let mut closed = table.close();

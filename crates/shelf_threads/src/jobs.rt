@@ -36,7 +36,7 @@ fn one<D: Shelf, R: Wait>(rt: &R, desk: &Desk<D>, job: &mut Job) {
     }
 }
 
-/// Runs each job on a thread, all over one shelf. It comes back where memory is wanting, and at the
+/// Runs each job on a thread, all over one shelf. It comes back where memory runs out, and at the
 /// end.
 pub fn serve<D: Shelf + Send, R: Threads + Wait + Sync>(
     rt: &R,

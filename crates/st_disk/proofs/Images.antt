@@ -115,7 +115,8 @@ side_at b i c d n kind.Index e = ap (λ (f : Folder). f n) e
 flushed_at : (k : Kind) (b i c d : Folder) (n : Name) → kind_of n ≡ k → SameOf k b i c d → join b i n ≡ join c d n
 flushed_at k b i c d n is same = side_at b i c d n (kind_of n) (subst (λ (q : Kind). SameOf q b i c d) (sym is) same)
 
--- after a flush a crash leaves what it might have left before, and in the folder that was flushed what is read
+-- after a flush a crash leaves what it might have left before, and in the folder that was flushed
+-- what is read
 pub leaves_flush : (log : Log) (k : Kind) (f : Folder) → Leaves (and_then log (Flush k)) f → Leaves log f × ((n : Name) → kind_of n ≡ k → f n ≡ reads log n)
 leaves_flush log kind.Block f h =
     let r = sides_then log (Flush kind.Block) (λ x y. LeavesOf x y f) (leaves_is (and_then log (Flush kind.Block)) f h) in

@@ -1,4 +1,5 @@
--- What a shelf in memory keeps: its log, the folders as read, and a number above those of all its drafts.
+-- What a shelf in memory keeps: its log, the folders as read, and a number above those of all its
+-- drafts.
 use Rattle.std.specs.Prelude.{◌≡◌, ◌<◌, ◌≤◌, ℕ, List, None, ⊤}
 use Rattle.std.proofs.Math.ListN.{replicate}
 use Rattle.st_disk.specs.declared.naming.Kind.{Kind}

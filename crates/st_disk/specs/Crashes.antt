@@ -19,8 +19,8 @@ chosen n choice (c ∷ cs) f = chosen (n + 1) choice cs (cond (bit choice n) (ap
 abbrev pub side_from : List Update → List Change → Side
 side_from flushed later = record { flushed = folder_of flushed; later = later }
 
--- the second log begins with what a crash of the first after so many calls leaves by this choice; the changes that
--- were not flushed are numbered from 0, those of the block folder first
+-- the second log begins with what a crash of the first after so many calls leaves by this choice;
+-- the changes that were not flushed are numbered from 0, those of the block folder first
 pub record IsCrash (log : Log) (k choice : ℕ) (new : Log) : Type 0 where
   pub calls : new.calls ≡ []
   pub of_blocks : folder_of new.start_blocks ≡ chosen 0 choice (side kind.Block (at_moment k log)).later (side kind.Block (at_moment k log)).flushed

@@ -37,8 +37,8 @@ abbrev pub removal : Option Log → Name → Call
 removal None n = Other
 removal (Some log) n = where_there (reads log n) (λ _. Did (Remove n)) Other
 
--- the name was removed, and no fault was counted but where that file had any; or the removal failed, and
--- a fault was counted
+-- the name was removed, and no fault was counted but where that file had any; or the removal
+-- failed, and a fault was counted
 abbrev pub Abandons : Option Log → Option Log → Name → ℕ → ℕ → ℕ → Type 0
 Abandons old new n own before now = (Adds old new (removal old n) × (own ≡ 0 → now ≡ before)) ⊎ (Looks old new × Rose before now)
 

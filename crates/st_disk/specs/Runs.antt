@@ -15,8 +15,8 @@ pub record LeavesOnly (old new : Log) (P : Folder → Type 0) : Type 0 where
   -- for a run that began earlier
   pub before : (t : ℕ) (c : Folder) → t ≤ moment old → Since new t c → Since old t c ⊎ P c
 
--- from the first log on, to the one that is known now, each crash leaves what has P and the events are
--- these; a crash now leaves what has Q
+-- from the first log on, to the one that is known now, each crash leaves what has P and the events
+-- are these; a crash now leaves what has Q
 pub record Ran (first : Log) (known : Option Log) (es : List Event) (P Q : Folder → Type 0) : Type 0 where
   pub log : Log
   pub is : known ≡ Some log

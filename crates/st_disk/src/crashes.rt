@@ -97,7 +97,8 @@ fn copy_change(alloc: Global, change: &Change) -> Result<Change, NoMemory>
 
 // Makes a change.
 fn make(alloc: Global, updates: &mut Vec<Update>, change: &Change) -> Result<(), NoMemory>
-    ensures { OnOk result (folder_of updates.new.items ≡ apply change.now (folder_of updates.old.items)) }
+    ensures { OnOk result
+        (folder_of updates.new.items ≡ apply change.now (folder_of updates.old.items)) }
 {
     match update_of(alloc, updates, change) {
         Ok(update) => push_update(updates, update),
@@ -106,7 +107,8 @@ fn make(alloc: Global, updates: &mut Vec<Update>, change: &Change) -> Result<(),
 }
 
 fn make_all(alloc: Global, updates: &mut Vec<Update>, changes: &[Change]) -> Result<(), NoMemory>
-    ensures { OnOk result (folder_of updates.new.items ≡ apply_all changes.now (folder_of updates.old.items)) }
+    ensures { OnOk result
+        (folder_of updates.new.items ≡ apply_all changes.now (folder_of updates.old.items)) }
 {
     let mut rest = changes;
     'changes: while let [change, after @ ..] = rest {
@@ -117,7 +119,9 @@ fn make_all(alloc: Global, updates: &mut Vec<Update>, changes: &[Change]) -> Res
 }
 
 fn replay_call(alloc: Global, kind: Kind, side: &mut MemSide, call: &Call) -> Result<(), NoMemory>
-    ensures { OnOk result (side_from side.new.flushed.items side.new.later.items ≡ step kind (side_from side.old.flushed.items side.old.later.items) call.now) }
+    ensures { OnOk result
+        (side_from side.new.flushed.items side.new.later.items ≡ step kind (side_from
+        side.old.flushed.items side.old.later.items) call.now) }
 {
     match call {
         Call::Did(change) => {
@@ -148,7 +152,9 @@ pub(crate) fn replay(
     start: &[Update],
     calls: &[Call],
 ) -> Result<MemSide, NoMemory>
-    ensures { IfOk result (λ s. side_from s.flushed.items s.later.items ≡ after kind (flushed_side (folder_of start.now)) calls.now) }
+    ensures { IfOk result
+        (λ s. side_from s.flushed.items s.later.items ≡ after kind (flushed_side
+        (folder_of start.now)) calls.now) }
 {
     let mut side = MemSide {
         flushed: copy_updates(alloc, start)?,
@@ -169,7 +175,9 @@ fn choose_one(
     updates: &mut Vec<Update>,
     change: &Change,
 ) -> Result<(), NoMemory>
-    ensures { OnOk result (folder_of updates.new.items ≡ cond (nat_eq (bits % 2) 1) (apply change.now (folder_of updates.old.items)) (folder_of updates.old.items)) }
+    ensures { OnOk result
+        (folder_of updates.new.items ≡ cond (nat_eq (bits % 2) 1) (apply change.now
+        (folder_of updates.old.items)) (folder_of updates.old.items)) }
 {
     if bits % 2 == 1 {
         make(alloc, updates, change)
@@ -185,8 +193,10 @@ pub(crate) fn choose(
     updates: &mut Vec<Update>,
     changes: &[Change],
 ) -> Result<u64, NoMemory>
-    ensures made { (choice n : ℕ) → bits ≡ choice / 2 ^ n → OnOk result (folder_of updates.new.items ≡ chosen n choice changes.now (folder_of updates.old.items)) }
-    ensures left { (choice n : ℕ) → bits ≡ choice / 2 ^ n → IfOk result (λ b. b ≡ choice / 2 ^ (n + length changes.now)) }
+    ensures made { (choice n : ℕ) → bits ≡ choice / 2 ^ n → OnOk result
+        (folder_of updates.new.items ≡ chosen n choice changes.now (folder_of updates.old.items)) }
+    ensures left { (choice n : ℕ) → bits ≡ choice / 2 ^ n → IfOk result
+        (λ b. b ≡ choice / 2 ^ (n + length changes.now)) }
 {
     let mut left = bits;
     let mut rest = changes;

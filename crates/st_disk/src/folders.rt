@@ -81,7 +81,8 @@ pub(crate) fn find(updates: &[Update], name: Name) -> Option<&Octets>
 
 // What stands under a name after one update more.
 fn found_after<'a>(update: &'a Update, name: Name, before: Option<&'a Octets>) -> Option<&'a Octets>
-    ensures { (f : Folder) → option_map (λ b. b.now) before.entry ≡ f name → option_map (λ b. b.now) result ≡ update_on f update.now name }
+    ensures { (f : Folder) → option_map (λ b. b.now) before.entry ≡ f name → option_map
+        (λ b. b.now) result ≡ update_on f update.now name }
 {
     match update {
         Update::Set { name: set, bytes } => {
@@ -104,8 +105,14 @@ fn found_after<'a>(update: &'a Update, name: Name, before: Option<&'a Octets>) -
 }
 
 // The update that a change is, or none where it no longer applies.
-pub(crate) fn update_of(alloc: Global, updates: &[Update], change: &Change) -> Result<Option<Update>, NoMemory>
-    ensures { IfOk result (λ o. (f : Folder) → f ≡ folder_of updates.now → MatchOption o (apply change.now f ≡ f) (λ p. apply change.now f ≡ update_on f p)) }
+pub(crate) fn update_of(
+    alloc: Global,
+    updates: &[Update],
+    change: &Change,
+) -> Result<Option<Update>, NoMemory>
+    ensures { IfOk result
+        (λ o. (f : Folder) → f ≡ folder_of updates.now → MatchOption o (apply change.now f ≡ f)
+        (λ p. apply change.now f ≡ update_on f p)) }
 {
     match change {
         Change::Make { kind, number } => Ok(Some(Update::Set {

@@ -1,10 +1,10 @@
 //! The disk model: two folders of files, one of blocks and one of indexes, and what a crash at any
 //! moment may leave of them.
 //!
-//! A change makes a draft, renames one to its stamp's name, parks an index, or takes a name away. It
-//! is durable once its folder was flushed. A crash leaves each folder as it was last flushed with
-//! some of the changes since, in their order; one that no longer applies is skipped. A log is what
-//! stood there at first and each call since. The model is this project's own; docs/FORMAT.md,
+//! A change makes a draft, renames one to its stamp's name, parks an index, or takes a name away.
+//! It is durable once its folder was flushed. A crash leaves each folder as it was last flushed
+//! with some of the changes since, in their order; one that no longer applies is skipped. A log is
+//! what stood there at first and each call since. The model is this project's own; docs/FORMAT.md,
 //! "Folders and names", has the names.
 //!
 //! # What it promises
@@ -18,16 +18,16 @@
 //!
 //! # What it leaves to others
 //!
-//! Which calls a shelf has, and which of them fail, is st_shelf's to know. No real disk is proved to
-//! keep to the model.
+//! Which calls a shelf has, and which of them fail, is st_shelf's to know. No real disk is proved
+//! to keep to the model.
 //!
 //! # Where to read
 //!
 //! `specs/Folders.antt` says what a change does to a folder, `specs/Disks.antt` what a crash may
-//! leave, `specs/LoggedCalls.antt` what a call adds to a log, `specs/Pairs.antt` which pairs a folder
-//! has.
-//! `specs/Events.antt` says what calls did to the pairs, `specs/Runs.antt` what a run of calls is.
-//! Callers prove with `proofs/Images.antt`, `proofs/Reading.antt` and `proofs/Runs.antt`.
+//! leave, `specs/LoggedCalls.antt` what a call adds to a log, `specs/Pairs.antt` which pairs a
+//! folder has. `specs/Events.antt` says what calls did to the pairs, `specs/Runs.antt` what a run
+//! of calls is. Callers prove with `proofs/Images.antt`, `proofs/Reading.antt` and
+//! `proofs/Runs.antt`.
 #![tactic(auto)]
 
 mod book;

@@ -45,14 +45,16 @@ pub fn number_of_name(name: Name) -> u64
 pub(crate) fn is_before(one: Name, other: Name) -> bool
     ensures { IsTrue result ↔ Before one other }
 {
-    rank(one) < rank(other) || (rank(one) == rank(other) && number_of_name(one) < number_of_name(other))
+    rank(one) < rank(other)
+        || (rank(one) == rank(other) && number_of_name(one) < number_of_name(other))
 }
 
 // The i of the first name that doesn't stand before this one.
 fn lower_bound(names: &[Name], name: Name) -> usize
     ensures bound { result ≤ length names.now }
     ensures before { (k : ℕ) (d : Name) → k < result → Before (slice_index_or names.now k d) name }
-    ensures not_before { (d : Name) → result < length names.now → Before (slice_index_or names.now result d) name → ⊥ }
+    ensures not_before { (d : Name) → result < length names.now → Before
+        (slice_index_or names.now result d) name → ⊥ }
 {
     let mut i = 0;
     'names: while i < names.len() {
@@ -65,7 +67,8 @@ fn lower_bound(names: &[Name], name: Name) -> usize
 }
 
 fn is_at(names: &[Name], i: usize, name: Name) -> bool
-    ensures at { (d : Name) → i < length names.now → same_name (slice_index_or names.now i d) name ≡ result }
+    ensures at { (d : Name) → i < length names.now → same_name (slice_index_or names.now i d) name
+        ≡ result }
     ensures there { IsTrue result → Contains names.now name }
 {
     i < names.len() && is_same(names[i], name)
@@ -74,7 +77,8 @@ fn is_at(names: &[Name], i: usize, name: Name) -> bool
 // Puts a name into its i, once.
 pub(crate) fn insert_name(names: &mut Vec<Name>, name: Name) -> Result<(), NoMemory>
     ensures rises { AreSorted names.old.items → OnOk result (AreSorted names.new.items) }
-    ensures has { OnOk result ((n : Name) → Contains names.new.items n ↔ (Contains names.old.items n ⊎ (n ≡ name))) }
+    ensures has { OnOk result
+        ((n : Name) → Contains names.new.items n ↔ (Contains names.old.items n ⊎ (n ≡ name))) }
 {
     let i = lower_bound(names, name);
     if is_at(names, i, name) {
@@ -89,7 +93,8 @@ pub(crate) fn insert_name(names: &mut Vec<Name>, name: Name) -> Result<(), NoMem
 /// Names of any order, in their order; one that stands there twice is left out.
 pub fn sorted_names(alloc: Global, names: Vec<Name>) -> Result<Names, NoMemory>
     ensures sorted { IfOk result AreSorted }
-    ensures all { IfOk result (λ sorted_names. (n : Name) → Contains sorted_names n ↔ Contains names.items n) }
+    ensures all { IfOk result
+        (λ sorted_names. (n : Name) → Contains sorted_names n ↔ Contains names.items n) }
 {
     let mut sorted = names;
     sorted.sort_by_key(|name| (rank(*name), number_of_name(*name)))?;
@@ -101,7 +106,9 @@ pub fn sorted_names(alloc: Global, names: Vec<Name>) -> Result<Names, NoMemory>
 // Puts names into their places, each once.
 fn add_all(names: &mut Vec<Name>, found: &[Name]) -> Result<(), NoMemory>
     ensures rises { AreSorted names.old.items → OnOk result (AreSorted names.new.items) }
-    ensures has { OnOk result ((n : Name) → Contains names.new.items n ↔ (Contains names.old.items n ⊎ Contains found.now n)) }
+    ensures has { OnOk result
+        ((n : Name) → Contains names.new.items n ↔ (Contains names.old.items n ⊎ Contains
+        found.now n)) }
 {
     let mut rest = found;
     'found: while let Some((name, after)) = rest.split_first() {
@@ -114,7 +121,8 @@ fn add_all(names: &mut Vec<Name>, found: &[Name]) -> Result<(), NoMemory>
 // Adds a name in its order, once. Where the names come in their order, that is at the end.
 fn add_name(names: &mut Vec<Name>, name: Name) -> Result<(), NoMemory>
     ensures rises { AreSorted names.old.items → OnOk result (AreSorted names.new.items) }
-    ensures has { OnOk result ((n : Name) → Contains names.new.items n ↔ (Contains names.old.items n ⊎ (n ≡ name))) }
+    ensures has { OnOk result
+        ((n : Name) → Contains names.new.items n ↔ (Contains names.old.items n ⊎ (n ≡ name))) }
 {
     if !is_after_all(names, name) {
         return insert_name(names, name);
@@ -144,7 +152,9 @@ fn target_name(update: &Update) -> Name
 // Puts the name of one update into its i, where it is there.
 fn gather_one(book: &Book, update: &Update, names: &mut Vec<Name>) -> Result<(), NoMemory>
     ensures rises { AreSorted names.old.items → OnOk result (AreSorted names.new.items) }
-    ensures has { OnOk result ((n : Name) → Contains names.new.items n ↔ (Contains names.old.items n ⊎ ((n ≡ target update.now) × IsSome (reads book.now n)))) }
+    ensures has { OnOk result
+        ((n : Name) → Contains names.new.items n ↔ (Contains names.old.items n ⊎ ((n
+        ≡ target update.now) × IsSome (reads book.now n)))) }
 {
     let name = target_name(update);
     match book.get(name) {
@@ -156,8 +166,12 @@ fn gather_one(book: &Book, update: &Update, names: &mut Vec<Name>) -> Result<(),
 // Puts those names of these updates that are there into their places.
 pub(crate) fn gather(book: &Book, updates: &[Update], names: &mut Vec<Name>) -> Result<(), NoMemory>
     ensures rises { AreSorted names.old.items → OnOk result (AreSorted names.new.items) }
-    ensures there { OnOk result ((n : Name) → Contains names.new.items n → Contains names.old.items n ⊎ IsSome (reads book.now n)) }
-    ensures all { OnOk result ((n : Name) → Contains names.old.items n ⊎ (IsSome (reads book.now n) × IsUpdated updates.now n) → Contains names.new.items n) }
+    ensures there { OnOk result
+        ((n : Name) → Contains names.new.items n → Contains names.old.items n ⊎ IsSome (reads
+        book.now n)) }
+    ensures all { OnOk result
+        ((n : Name) → Contains names.old.items n ⊎ (IsSome (reads book.now n) × IsUpdated
+        updates.now n) → Contains names.new.items n) }
 {
     let mut rest = updates;
     'updates: while let [update, after @ ..] = rest {

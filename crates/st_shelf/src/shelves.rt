@@ -133,8 +133,8 @@ pub trait Shelf {
         // the log
         ensures log { Does (log self.old) (log self.new) result
             (λ _. call.Did (change.Settle (Self.Draft.sealed_origin sealed).kind
-                (Self.Draft.sealed_origin sealed).number (number_of name)
-                (given (Self.Draft.sealed_bytes sealed)))) }
+            (Self.Draft.sealed_origin sealed).number (number_of name)
+            (given (Self.Draft.sealed_bytes sealed)))) }
         ensures there { OnOk result (Reads (log self.new) name
             (λ v. v ≡ Some (given (Self.Draft.sealed_bytes sealed)))) }
         // the file

@@ -1,6 +1,7 @@
 //! Makes, prints and searches table files, by rows in hexadecimal.
 //!
-//! - `table_rows make < LINES > FILE` makes a table of rows. A line is a key, a space and a value, in
+//! - `table_rows make < LINES > FILE` makes a table of rows. A line is a key, a space and a value,
+//!   in
 //!   hexadecimal; keys rise by bytes and have at most 64.
 //! - `table_rows print FILE` prints such a line for each row of a table, in lower case.
 //! - `table_rows find FILE < KEYS` reads keys, one a line, and prints the value of each, or `-`.

@@ -34,7 +34,9 @@ impl Schedule {
             calls: AtomicU64::new(0),
         };
         match Arc::new(alloc, listed) {
-            Ok(listed) => Ok(Schedule { listed: Some(listed) }),
+            Ok(listed) => Ok(Schedule {
+                listed: Some(listed),
+            }),
             Err(_) => Err(NoMemory),
         }
     }
@@ -44,7 +46,9 @@ impl Schedule {
             return Ok(Schedule { listed: None });
         };
         match Arc::try_clone(listed) {
-            Ok(listed) => Ok(Schedule { listed: Some(listed) }),
+            Ok(listed) => Ok(Schedule {
+                listed: Some(listed),
+            }),
             Err(_) => Err(NoMemory),
         }
     }

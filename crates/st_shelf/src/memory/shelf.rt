@@ -68,7 +68,7 @@ impl MemShelf {
             → moment ≤ moments log }
         ensures image { (log : Log) → ⟦<MemShelf as Shelf>⟧.log self.now ≡ Some log
             → IfOk result (λ s. (new : Log) × (⟦<MemShelf as Shelf>⟧.log s ≡ Some new)
-                × IsCrash log moment choice new) }
+            × IsCrash log moment choice new) }
         ensures counts { IfOk result (λ s. (⟦<MemShelf as Shelf>⟧.faults s ≡ 0)
             × (⟦<MemShelf as Shelf>⟧.loans s ≡ no_loans)) }
     {
@@ -282,7 +282,7 @@ impl Shelf for MemShelf {
             (λ s. record { kind = s.kind; number = s.number; home = 0 }) end).home ≡ 0 }
         ensures log { Abandons (Some self.old.book) (Some self.new.book)
             (draft_name (end_origin (λ d. record { kind = d.kind; number = d.number; home = 0 })
-                (λ s. record { kind = s.kind; number = s.number; home = 0 }) end))
+            (λ s. record { kind = s.kind; number = s.number; home = 0 }) end))
             (end_faults (λ d. d.faults) (λ s. s.faults) end) self.old.faults self.new.faults }
         ensures cause { TakesFaults (end_faults (λ d. d.faults) (λ s. s.faults) end)
             self.old.faults self.new.faults }
