@@ -256,6 +256,14 @@ def lacks_rights(program, folder):
     os.mkdir(spool, 0o555)
     got = ask(program, spool, CALLS, as_nobody)
     yield "a folder in which nothing may be made", got == REFUSED and files(spool) == {}, got
+    spool = os.path.join(folder, "veiled", "spool")
+    os.makedirs(spool)
+    if os.getuid() == 0:
+        os.chown(spool, NOBODY, NOBODY)
+    os.chmod(os.path.dirname(spool), 0o311)
+    got = ask(program, spool, ["put block 1 5", "flush block", "list", "faults"], as_nobody)
+    yield "a folder above that may not be looked into", got == ["ok", "ok", "block 1", "ok", "0"], got
+    os.chmod(os.path.dirname(spool), 0o755)
     spool = os.path.join(folder, "half")
     ask(program, spool, ["put block 7 5", "put index 7 5"])
     for path in ("PKT0", "IDX0", "."):

@@ -31,8 +31,8 @@ impl Reaching for ScanState {
 /// A scan of a block file: gives its records in their order, each with its position, and finds the
 /// first check that fails.
 ///
-/// It holds the file, and one block of it at a time. Contracts see how far it has come, its `state`,
-/// as a `ScanView`; which records of which bytes it has given is said by `HasGiven` of
+/// It holds the file, and one block of it at a time. Contracts see how far it has come, its
+/// `state`, as a `ScanView`; which records of which bytes it has given is said by `HasGiven` of
 /// `specs/Scan.antt`. The type of the state is a parameter, which is always `ScanState`: so the
 /// drop can say that the file stays, which it can't of a struct whose own fields hold memory.
 /// Source: docs/FORMAT.md, "Block file" and "Checks".

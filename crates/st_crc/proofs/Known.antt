@@ -1,4 +1,5 @@
--- The entries of the tables, from the definition: what 8 bits make of each byte, and of each entry of the table before.
+-- The entries of the tables, from the definition: what 8 bits make of each byte, and of each entry
+-- of the table before.
 use Rattle.std.proofs.Common.{◌≡◌, ℕ, zero, suc, ◌+◌, ◌-◌, ◌*◌, ◌<◌, ◌≤◌, List, [], ◌∷◌, length, get_or, map, take, refl, sym, ap, ◌∙◌, arith, length-take, subst}
 use Rattle.std.proofs.lemmas.List.{get_or-map, get_or-take, length-map}
 use Rattle.std.proofs.lemmas.List.FromFn.{get_or-range_with_len, length-range_with_len}

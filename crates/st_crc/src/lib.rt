@@ -35,8 +35,8 @@ mod tests {
     use super::*;
     use std::test::Fail;
 
-    /// Sums of 32 bytes and of a message of 48, from RFC 3720, appendix B.4, and of `123456789`, the
-    /// usual check.
+    /// Sums of 32 bytes and of a message of 48, from RFC 3720, appendix B.4, and of `123456789`,
+    /// the usual check.
     #[test]
     fn the_sums_of_the_standard(rt: HostRuntime) -> Result<(), Fail> {
         let rising = [

@@ -4,7 +4,7 @@ ghost use Rattle.st_disk.specs.declared.changes.Call.TheVariants as call;
 ghost use Rattle.st_disk.specs.Names.{published, AreSorted};
 ghost use Rattle.st_disk.specs.Folders.{Folder, apply, folder_of};
 ghost use Rattle.st_disk.specs.declared.naming.Name.{Name};
-ghost use Rattle.st_disk.specs.LoggedCalls.{removal};
+ghost use Rattle.st_disk.specs.LoggedCalls.{Looks, Parks, removal};
 ghost use Rattle.st_disk.specs.Crashes.{IsCrash};
 ghost use Rattle.st_disk.specs.Disks.{reads, and_then, Leaves, moment, log_of};
 ghost use Rattle.st_disk.specs.declared.naming.Name.TheVariants as name;
@@ -21,7 +21,8 @@ use st_base::{NoMemory, Octets};
 use std::alloc::Global;
 use std::marker::Model;
 
-/// The log of a shelf in memory, with its two folders as they are read. Contracts see it as its log.
+/// The log of a shelf in memory, with its two folders as they are read. Contracts see it as its
+/// log.
 ///
 /// Each call that returns Ok adds one call to the log. To note a call that changed nothing takes no
 /// memory.
@@ -75,7 +76,8 @@ impl Book {
     /// All names that are there, in order, each once.
     pub fn list(&self, alloc: Global) -> Result<Names, NoMemory>
         ensures sorted { IfOk result AreSorted }
-        ensures all { IfOk result (λ names. (n : Name) → Contains names n ↔ IsSome (reads self.now n)) }
+        ensures all { IfOk result
+            (λ names. (n : Name) → Contains names n ↔ IsSome (reads self.now n)) }
     {
         let mut items = Vec::new(alloc);
         gather(self, &self.blocks, &mut items)?;
@@ -85,10 +87,11 @@ impl Book {
 
     /// Notes a call that changed nothing. It takes no memory.
     ///
-    /// `Full` comes only if the log has all the moments that a u64 numbers, and leaves it as it was.
+    /// `Full` comes only if the log has all the moments that a u64 numbers; it then stays as it is.
     pub fn look(&mut self) -> Result<(), Full>
         ensures ok { OnOk result (self.new ≡ and_then self.old call.Other) }
         ensures full { OnErr result ((self.new ≡ self.old) × (2 ^ 64 - 1 ≤ moment self.old)) }
+        ensures looks { Looks (Some self.old) (Some self.new) }
     {
         self.calls.look()
     }
@@ -131,7 +134,7 @@ impl Book {
     /// made.
     ///
     /// The changes that were not flushed by then are numbered from 0, those of the block folder
-    /// first; change i is made exactly where bit i of `choice` is set.
+    /// first; change i is made if and only if bit i of `choice` is set.
     pub fn crash(&self, alloc: Global, moment: u64, choice: u64) -> Result<Book, NoMemory>
         requires { moment ≤ length self.now.calls }
         ensures { IfOk result (IsCrash self.now moment choice) }
@@ -154,7 +157,7 @@ impl Book {
     /// Renames the draft of this kind and number to the name of its kind with this stamp, where it
     /// then stands with these bytes.
     ///
-    /// The bytes come back where the draft isn't there, or memory is wanting.
+    /// The bytes come back if the draft isn't there, or memory runs out.
     pub fn settle(
         &mut self,
         alloc: Global,
@@ -163,7 +166,8 @@ impl Book {
         stamp: u64,
         bytes: Octets,
     ) -> Result<(), Octets>
-        ensures ok { OnOk result (self.new ≡ and_then self.old (call.Did (change.Settle kind draft stamp bytes))) }
+        ensures ok { OnOk result
+            (self.new ≡ and_then self.old (call.Did (change.Settle kind draft stamp bytes))) }
         ensures there { OnOk result (reads self.new (published kind stamp) ≡ Some bytes) }
         ensures err { IfErr result (λ b. (b ≡ bytes) × (self.new ≡ self.old)) }
     {
@@ -187,6 +191,19 @@ impl Book {
         }
     }
 
+    /// Renames the index of this stamp, which is there, to its parked name.
+    pub fn hide(&mut self, alloc: Global, stamp: u64) -> Result<(), NoMemory>
+        requires { IsSome (reads self.old (name.Index stamp)) }
+        ensures ok { OnOk result (self.new ≡ and_then self.old (call.Did (change.Hide stamp))) }
+        ensures parked { OnOk result (Parks (Some self.old) (Some self.new) stamp) }
+        ensures err { OnErr result (self.new ≡ self.old) }
+    {
+        if self.change(alloc, Change::Hide { stamp }).is_err() {
+            return Err(NoMemory);
+        }
+        Ok(())
+    }
+
     /// Removes a name; if it isn't there, that is a call that changes nothing.
     pub fn remove(&mut self, alloc: Global, name: Name) -> Result<(), NoMemory>
         ensures ok { OnOk result (self.new ≡ and_then self.old (removal (Some self.old) name)) }
@@ -206,7 +223,7 @@ impl Book {
 
     /// A copy of what is read under a name.
     ///
-    /// `NoMemory` comes where nothing is there, too.
+    /// It is `NoMemory` too if nothing is there.
     pub fn copy_of(&self, alloc: Global, name: Name) -> Result<Octets, NoMemory>
         ensures { IfOk result (λ bytes. reads self.now name ≡ Some bytes) }
     {
@@ -219,10 +236,12 @@ impl Book {
     /// Makes an empty draft and gives its number, which no draft has in any image that a crash may
     /// leave.
     ///
-    /// `NoMemory` comes at the draft with the number 2^64 - 1, too.
+    /// It is `NoMemory` too if all numbers below 2^64 - 1 were given.
     pub fn make(&mut self, alloc: Global, kind: Kind) -> Result<u64, NoMemory>
-        ensures ok { IfOk result (λ n. self.new ≡ and_then self.old (call.Did (change.Make kind n))) }
-        ensures unused { IfOk result (λ n. (c : Folder) → Leaves self.old c → c (name.Draft kind n) ≡ None) }
+        ensures ok { IfOk result
+            (λ n. self.new ≡ and_then self.old (call.Did (change.Make kind n))) }
+        ensures unused { IfOk result
+            (λ n. (c : Folder) → Leaves self.old c → c (name.Draft kind n) ≡ None) }
         ensures err { OnErr result (self.new ≡ self.old) }
     {
         let number = self.next;
@@ -251,7 +270,9 @@ fn record_in(
     indexes: &mut Vec<Update>,
     change: Change,
 ) -> Result<(), Change>
-    ensures kept { (b i : List Update) (n m : ℕ) → n ≤ m → MakesBelow m change → IsKept (log_of b i calls.old) blocks.old.items indexes.old.items n → IsKept (log_of b i calls.new) blocks.new.items indexes.new.items m }
+    ensures kept { (b i : List Update) (n m : ℕ) → n ≤ m → MakesBelow m change
+        → IsKept (log_of b i calls.old) blocks.old.items indexes.old.items n
+        → IsKept (log_of b i calls.new) blocks.new.items indexes.new.items m }
     ensures ok { OnOk result (calls.new ≡ calls.old ++ call.Did change ∷ []) }
     ensures err { IfErr result (λ c. (c ≡ change) × (calls.new ≡ calls.old)) }
 {
@@ -269,8 +290,10 @@ fn record_change(
     change: Change,
 ) -> Result<(), Change>
     ensures calls { OnOk result (calls.new ≡ calls.old ++ call.Did change ∷ []) }
-    ensures updates { OnOk result (folder_of updates.new.items ≡ apply change (folder_of updates.old.items)) }
-    ensures err { IfErr result (λ c. (c ≡ change) × (calls.new ≡ calls.old) × (updates.new.items ≡ updates.old.items)) }
+    ensures updates { OnOk result
+        (folder_of updates.new.items ≡ apply change (folder_of updates.old.items)) }
+    ensures err { IfErr result (λ c. (c ≡ change) × (calls.new ≡ calls.old)
+        × (updates.new.items ≡ updates.old.items)) }
 {
     let Ok(update) = update_of(alloc, updates, &change) else {
         return Err(change);

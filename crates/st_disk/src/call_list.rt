@@ -77,18 +77,21 @@ impl CallList {
 
     // The calls up to this moment, but for some that changed nothing.
     pub(crate) fn until(&self, moment: u64) -> &[Call]
-        ensures { (k : Kind) (s : Side) → after k s result.now ≡ after k s (take moment self.now) }
+        ensures { (k : Kind) (s : Side)
+            → after k s result.now ≡ after k s (take moment self.now) }
     {
         let count = self.written.len().min(moment as usize);
         self.written.as_slice().split_at(count).0
     }
 }
 
-// Writes the counted calls behind the others, and makes room for one more.
+// Writes the counted calls after the others, and makes room for one more.
 fn make_room(written: &mut Vec<Call>, idle: &mut u64) -> Result<(), NoMemory>
-    ensures same { written.new.items ++ idle_calls idle.new ≡ written.old.items ++ idle_calls idle.old }
+    ensures same { written.new.items ++ idle_calls idle.new
+        ≡ written.old.items ++ idle_calls idle.old }
     ensures count { length written.new.items + idle.new ≡ length written.old.items + idle.old }
-    ensures room { OnOk result ((idle.new ≡ 0) × (vec_len written.new < vec_capacity written.new)) }
+    ensures room { OnOk result ((idle.new ≡ 0)
+        × (vec_len written.new < vec_capacity written.new)) }
 {
     'calls: while *idle > 0 {
         if written.push(Call::Other).is_err() {

@@ -20,7 +20,7 @@ pub enum Change {
     Hide {
         stamp: u64,
     },
-    /// The name is taken away.
+    /// The name is removed.
     Remove {
         name: Name,
     },
@@ -34,7 +34,7 @@ pub enum Call {
     Other,
 }
 
-/// A part of what a folder has: of several updates of a name the last one counts.
+/// An update of a folder: of several of a name the last one counts.
 #[derive(Drop)]
 pub enum Update {
     /// The name has these bytes, or isn't there.

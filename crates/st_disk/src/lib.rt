@@ -9,8 +9,9 @@
 //!
 //! # What it promises
 //!
-//! - A log goes on by what a call did, and by nothing where memory was wanting (`Book::change`,
-//!   `note`, `settle`, `remove`, `make`).
+//! - A log goes on by what a call did, and stays as it was if memory ran out (`Book::change`,
+//!   `settle`, `hide`, `remove`, `make`, `flush`). To note a call that changed nothing takes no
+//!   memory (`Book::look`).
 //! - A draft's number is one that no image has (`Book::make`, clause `unused`).
 //! - A list has just the names that are there, in order (`Book::list`).
 //! - `Book::crash` gives the image that a choice by bits names, after any moment.
@@ -25,7 +26,8 @@
 //! `specs/Folders.antt` says what a change does to a folder, `specs/Disks.antt` what a crash may
 //! leave, `specs/LoggedCalls.antt` what a call adds to a log, `specs/Pairs.antt` which pairs a folder
 //! has.
-//! Callers prove with `proofs/Images.antt` and `proofs/Runs.antt`.
+//! `specs/Events.antt` says what calls did to the pairs, `specs/Runs.antt` what a run of calls is.
+//! Callers prove with `proofs/Images.antt`, `proofs/Reading.antt` and `proofs/Runs.antt`.
 #![tactic(auto)]
 
 mod book;

@@ -1,5 +1,5 @@
 -- What the checks of a head say of the fields that they read.
-use Rattle.std.specs.Prelude.{Option, ◌≡◌, ℕ, ◌+◌, ◌<◌, ◌≤◌, ◌⊎◌, List, ◌++◌, length, take, None, Some, Result, Ok, Err}
+use Rattle.std.specs.Prelude.{Option, ◌≡◌, ℕ, ◌+◌, ◌<◌, ◌≤◌, ◌⊎◌, List, ◌++◌, length, take, None, Some, Result, Ok, Err, MatchResult}
 use Rattle.st_base.specs.Records.{Rec}
 use Rattle.st_pcap.specs.declared.errors.PcapErr.{PcapErr}
 use Rattle.st_pcap.specs.declared.errors.PcapErr.TheVariants.{ReadFault, TooMuch}
@@ -10,6 +10,7 @@ use Rattle.st_pcap.specs.Forms.{number_at, fractions, nanoseconds}
 use Rattle.st_pcap.specs.Heads.{IsFileHead, IsRecordHead, refusal_of_file, refusal_of_size}
 use Rattle.st_pcap.specs.Input.{Whole, Refused, end_at}
 use Rattle.st_pcap.specs.Reading.{IsOutside}
+use Rattle.st_pcap.specs.Taking.{Took, RefusesRecord}
 
 -- the 16 bytes have these fields, and they are in range
 pub record HasFields (form : Form) (head : List ℕ) (e : HeadFields) : Type 0 where
@@ -45,6 +46,15 @@ GivesRecord form before number rest left (Ok (Some r)) =
     × (rest ≡ head ++ (r.body ++ more)) × (left ≡ Some more)
 GivesRecord form before number rest left (Err e) =
     IsOutside e ⊎ (end_at form.order form.unit before number rest ≡ Some (Refused e))
+
+-- How much the body of a record takes, after its head: all of it, or what its refusal says; never
+-- less than before, and no more than the last record that may begin.
+pub record CountsBody (left still : Option (List ℕ)) (before now : ℕ) (result : Result Rec PcapErr) : Type 0 where
+  pub taken : Took left still before now
+  pub takes : (begin : ℕ) → before ≡ begin + RECORD_HEAD_SIZE
+      → MatchResult result (λ r. now ≡ before + length r.body) (RefusesRecord begin now)
+  pub grows : before ≤ now
+  pub bound : now ≤ MAX_INPUT + RECORD_HEAD_SIZE + MAX_BODY
 
 -- the cause isn't that too much comes before the record
 abbrev pub IsNoLimit : PcapErr → Type 0

@@ -11,6 +11,8 @@ fn fill<S: Source>(source: &mut S, out: &mut [u8]) -> (usize, Result<(), Failed>
     ensures bound { result.0 ≤ length out.new }
     ensures bytes { Consumes (S.left source.old) (S.left source.new) (take result.0 out.new) }
     ensures end { OnOk result.1 (result.0 < length out.new → IsAtEnd (S.left source.new)) }
+
+    // What the source's faults say, and what else of the source stays.
     ensures cause { HasCause (S.faults source.old) (S.faults source.new) result.1 }
     ensures rest { S.beside source.new ≡ S.beside source.old }
 {
@@ -38,10 +40,14 @@ pub fn take_bytes<S: Source>(
         × Consumes (S.left source.old) (S.left source.new) (take n out.new)
         × (n < length out.new → IsAtEnd (S.left source.new))) }
     ensures fault { IfErr result (λ e. e ≡ PcapErr.ReadFault) }
-    ensures cause { HasCause (S.faults source.old) (S.faults source.new) result }
+
+    // How much it took.
     ensures taken { Took (S.left source.old) (S.left source.new) taken.old taken.new }
     ensures bound { taken.new ≤ taken.old + length out.old }
     ensures grows { taken.old ≤ taken.new }
+
+    // What the source's faults say, and what else of the source stays.
+    ensures cause { HasCause (S.faults source.old) (S.faults source.new) result }
     ensures rest { S.beside source.new ≡ S.beside source.old }
 {
     let (have, end) = fill(source, out);

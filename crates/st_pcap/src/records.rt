@@ -1,8 +1,8 @@
-ghost use Rattle.std.specs.Prelude.{◌≡◌, ◌+◌, ◌<◌, ◌≤◌, List, ℕ, Some, Err, IfOk, IfErr, MatchResult, length, vec_len, vec_capacity};
+ghost use Rattle.std.specs.Prelude.{◌≡◌, ◌+◌, ◌<◌, ◌≤◌, List, ℕ, Some, Err, IfOk, IfErr, vec_len, vec_capacity};
 ghost use Rattle.st_pcap.specs.Reading.{Counts, HasFaultCause};
-ghost use Rattle.st_pcap.specs.Taking.{Took, TakesHead, TakesRecord, RefusesRecord};
+ghost use Rattle.st_pcap.specs.Taking.{Took, TakesHead, TakesRecord};
 ghost use Rattle.st_pcap.specs.declared.reader.Phase.TheVariants.{Fresh};
-ghost use Rattle.st_pcap.specs.Checks.{GivesForm, GivesBody, GivesRecord, EndsAtLimit, IsNoLimit};
+ghost use Rattle.st_pcap.specs.Checks.{GivesForm, GivesBody, GivesRecord, CountsBody, EndsAtLimit, IsNoLimit};
 
 use crate::checks::{fields_in, form_in};
 use crate::errors::PcapErr;
@@ -19,10 +19,14 @@ pub fn read_form<S: Source>(source: &mut S, taken: &mut u64) -> Result<Form, Pca
     ensures gives { (bytes : List ℕ) → S.left source.old ≡ Some bytes
         → GivesForm bytes (S.left source.new) result }
     ensures below { IfErr result IsNoLimit }
-    ensures cause { HasFaultCause (S.faults source.old) (S.faults source.new) result }
+
+    // How much it took.
     ensures taken { Took (S.left source.old) (S.left source.new) taken.old taken.new }
     ensures takes { TakesHead Fresh taken.old taken.new result }
     ensures bound { taken.new ≤ taken.old + FILE_HEAD_SIZE }
+
+    // What the source's faults say, and what else of the source stays.
+    ensures cause { HasFaultCause (S.faults source.old) (S.faults source.new) result }
     ensures rest { S.beside source.new ≡ S.beside source.old }
 {
     let mut head = [0; FILE_HEAD_SIZE];
@@ -45,11 +49,15 @@ pub fn read_record<S: Source>(
     requires room { taken.old ≤ MAX_INPUT + RECORD_HEAD_SIZE + MAX_BODY }
     ensures gives { (rest : List ℕ) → S.left source.old ≡ Some rest
         → GivesRecord form taken.old number rest (S.left source.new) result }
-    ensures cause { HasFaultCause (S.faults source.old) (S.faults source.new) result }
+    ensures memory { result ≡ Err PcapErr.NoMemory → vec_capacity body < MAX_BODY }
+
+    // How much it took, and that nothing is read after the limit.
     ensures count { Counts (S.left source.old) (S.left source.new) taken.old taken.new result }
     ensures takes { TakesRecord taken.old taken.new result }
-    ensures memory { result ≡ Err PcapErr.NoMemory → vec_capacity body < MAX_BODY }
     ensures limit { EndsAtLimit source.old source.new taken.old taken.new result }
+
+    // What the source's faults say, and what else of the source stays.
+    ensures cause { HasFaultCause (S.faults source.old) (S.faults source.new) result }
     ensures rest { S.beside source.new ≡ S.beside source.old }
 {
     if *taken >= MAX_INPUT {
@@ -93,13 +101,10 @@ fn read_body<S: Source>(
         → GivesBody fields.now number rest (S.left source.new) result }
     ensures below { IfErr result IsNoLimit }
     ensures memory { result ≡ Err PcapErr.NoMemory → vec_capacity body < fields.now.captured }
+
+    // How much it took, what the source's faults say, and what else of the source stays.
+    ensures count { CountsBody (S.left source.old) (S.left source.new) taken.old taken.new result }
     ensures cause { HasFaultCause (S.faults source.old) (S.faults source.new) result }
-    ensures taken { Took (S.left source.old) (S.left source.new) taken.old taken.new }
-    ensures takes { (begin : ℕ) → taken.old ≡ begin + RECORD_HEAD_SIZE
-        → MatchResult result (λ r. taken.new ≡ taken.old + length r.body)
-        (RefusesRecord begin taken.new) }
-    ensures bound { taken.new ≤ MAX_INPUT + RECORD_HEAD_SIZE + MAX_BODY }
-    ensures grows { taken.old ≤ taken.new }
     ensures rest { S.beside source.new ≡ S.beside source.old }
 {
     let mut body = match sized(body, fields.captured as usize) {

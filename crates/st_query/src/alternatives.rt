@@ -19,7 +19,7 @@ use std::alloc::{AllocError, Global};
 
 /// The alternatives of a chain are sorted only if they are at least this many. Of fewer, one after
 /// the other is looked up as fast.
-const MIN_ALTERNATIVES: usize = 4;
+const MIN_ALTERNATIVES: usize = 3;
 
 /// The kind of a key.
 fn kind_of(key: Key) -> KeyKind

@@ -89,17 +89,6 @@ fn is_long(node: &Node) -> bool {
     matches!(left.get(), Node::And { .. } | Node::Or { .. })
 }
 
-/// The keys of a frame, as the first ones in `room`, or None if there is too little room or it does
-/// not pay to gather them for this query.
-fn gather_for(node: &Node, frame: &[u8], room: &mut [Key]) -> Option<usize>
-    ensures { Gathers frame.now room.new result }
-{
-    if is_long(node) {
-        return gather(frame, room);
-    }
-    None
-}
-
 /// Whether the key is of an address in this net.
 fn is_in(key: Key, net: Addr, bits: u8) -> bool
     ensures { IsTrue result ↔ KeyIsIn (network net bits) bits key }
@@ -248,36 +237,37 @@ fn matches_chain(node: &Node, chain: &Chain, now: u64, packet: &Packet<'_>) -> b
     includes_any(&chain.groups, record.body)
 }
 
-/// Whether the packet matches the query, where the clock stands at `now` microseconds since 1970. It
-/// takes no memory.
-pub fn matches(query: &Query, now: u64, r: RecordRef<'_>) -> bool
-    ensures { IsTrue result ↔ Matches query.now now r.entry }
-{
-    let node = query.node();
-    match query.chain() {
-        Some(chain) => {
-            let packet = Packet {
-                record: &r,
-                keys: &[],
-                whole: false,
-            };
-            matches_chain(node, chain, now, &packet)
-        }
-        None => matches_plain(node, now, r),
-    }
-}
-
-/// Whether the packet matches the query of this node, where the clock stands at `now` microseconds
-/// since 1970.
-fn matches_plain(node: &Node, now: u64, r: RecordRef<'_>) -> bool
+/// Whether the packet matches a query of many parts, where the clock stands at `now` microseconds
+/// since 1970: the keys of its frame are gathered once for all parts.
+fn matches_long(node: &Node, now: u64, r: RecordRef<'_>) -> bool
     ensures { IsTrue result ↔ MatchesTree (tree node.now) now r.entry }
 {
     let mut room = [Key::Proto(0); MOST_KEYS];
-    let len = gather_for(node, r.body, &mut room);
+    let len = gather(r.body, &mut room);
     let packet = Packet {
         record: &r,
         keys: &room[..len.unwrap_or(0)],
         whole: len.is_some(),
     };
     matches_part(node, now, &packet)
+}
+
+/// Whether the packet matches the query, where the clock stands at `now` microseconds since 1970. It
+/// takes no memory.
+pub fn matches(query: &Query, now: u64, r: RecordRef<'_>) -> bool
+    ensures { IsTrue result ↔ Matches query.now now r.entry }
+{
+    let node = query.node();
+    if query.chain().is_none() && is_long(node) {
+        return matches_long(node, now, r);
+    }
+    let packet = Packet {
+        record: &r,
+        keys: &[],
+        whole: false,
+    };
+    match query.chain() {
+        Some(chain) => matches_chain(node, chain, now, &packet),
+        None => matches_part(node, now, &packet),
+    }
 }

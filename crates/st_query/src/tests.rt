@@ -1,5 +1,6 @@
-use crate::{Node, matches, parse, print};
+use crate::{Node, QueryErr, matches, parse, print};
 use st_base::RecordRef;
+use std::alloc::{AllocError, Global};
 use std::test::Fail;
 
 /// A frame of Ethernet, IPv4 and UDP, from 10.0.0.1 port 12345 to 10.0.0.2 port 53, with `dns!`.
@@ -10,7 +11,7 @@ const DNS: [u8; 46] = [
 
 /// Texts, the clock in microseconds, and whether they match that frame, captured at second
 /// 1,000,000,000: by hand from the addresses, the ports and the times.
-const ASKED: [(&str, u64, bool); 12] = [
+const ASKED: [(&str, u64, bool); 18] = [
     ("host 10.0.0.2", 0, true),
     ("host 10.0.0.3", 0, false),
     ("net 10.1.2.3 mask 255.0.0.0", 0, true),
@@ -23,6 +24,32 @@ const ASKED: [(&str, u64, bool); 12] = [
     ("after 2001-09-09T03:46:40+02:00", 0, true),
     ("after 45m ago", 1_000_002_700_999_999, true),
     ("before 45m ago", 1_000_002_701_000_000, true),
+    (
+        "host 10.0.0.9 or port 7 or net ::/0 or host 10.0.0.2",
+        0,
+        true,
+    ),
+    (
+        "host 10.0.0.9 or port 7 or net ::/0 or host 10.0.0.3",
+        0,
+        false,
+    ),
+    (
+        "net 10.0.0.4/30 or net 10.0.0.0/30 or vlan 1 or mpls 1",
+        0,
+        true,
+    ),
+    ("udp or vlan 1 or mpls 1 or host ::1 and port 54", 0, false),
+    (
+        "icmp or vlan 1 or mpls 1 or host ::1 or (udp and port 53)",
+        0,
+        true,
+    ),
+    (
+        "icmp or vlan 53 or mpls 53 or host ::53 and port 53",
+        0,
+        false,
+    ),
 ];
 
 #[test]
@@ -48,6 +75,42 @@ fn a_query_is_printed_with_few_parentheses(rt: HostRuntime) -> Result<(), Fail> 
     assert_eq!(rt;
         printed.bytes(),
         b"ip proto 6 or (ip proto 17 and port 53)".as_slice()
+    );
+    Ok(())
+}
+
+/// A chain of `port 53` with spaces after it: this many bytes.
+fn long_text(alloc: Global, len: usize) -> Result<Vec<u8>, AllocError> {
+    let mut text = Vec::new(alloc);
+    text.extend_from_slice(b"port 53")?;
+    for _ in 0..371 {
+        text.extend_from_slice(b" or port 53")?;
+    }
+    for _ in text.len()..len {
+        text.push(b' ')?;
+    }
+    Ok(text)
+}
+
+#[test]
+fn a_text_of_4096_bytes_is_read_and_no_longer_one(rt: HostRuntime) -> Result<(), Fail> {
+    let text = long_text(rt.alloc(), 4096)?;
+    let query = parse(rt.alloc(), &text)?;
+    let printed = print(rt.alloc(), &query)?;
+    assert_eq!(rt; printed.bytes(), text.trim_ascii_end());
+    let packet = RecordRef {
+        sec: 0,
+        nsec: 0,
+        orig: 46,
+        body: &DNS,
+    };
+    assert!(rt; matches(&query, 0, packet));
+    let longer = long_text(rt.alloc(), 4097)?;
+    assert!(rt;
+        matches!(
+            parse(rt.alloc(), &longer),
+            Err(QueryErr::Long { len: 4097 })
+        )
     );
     Ok(())
 }

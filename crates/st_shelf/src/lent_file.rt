@@ -3,8 +3,8 @@ ghost use Rattle.std.specs.Prelude.{◌≡◌};
 use st_base::{Failed, Reader};
 use st_disk::Kind;
 
-/// A file that a shelf has lent: a reader, and the kind that it was lent under. It must be spent, by
-/// `close` of its shelf.
+/// A file that a shelf has lent: a reader, and the kind that it was lent under. It must be spent,
+/// by `close` of its shelf.
 ///
 /// It counts its reads, the bytes that they asked for and its faults by itself, from 0 on.
 pub struct LentFile<R> {
@@ -15,8 +15,8 @@ pub struct LentFile<R> {
     faults: u64,
 }
 
-/// What a shelf counts of a file that came back: its kind, how often it was read, for how many bytes,
-/// and its faults.
+/// What a shelf counts of a file that came back: its kind, how often it was read, for how many
+/// bytes, and its faults.
 #[derive(Clone, Copy, Debug, PartialEq, Eq)]
 pub struct CameBack {
     pub kind: Kind,
@@ -46,7 +46,8 @@ impl<R: Drop> LentFile<R> {
     /// What its shelf counts of the file, which is closed.
     pub fn come_back(self) -> CameBack
         ensures kind { result.kind ≡ self.kind }
-        ensures counts { (result.reads ≡ self.reads) × (result.asked ≡ self.asked) × (result.faults ≡ self.faults) }
+        ensures counts { (result.reads ≡ self.reads) × (result.asked ≡ self.asked)
+            × (result.faults ≡ self.faults) }
     {
         let LentFile {
             kind,

@@ -8,12 +8,13 @@
 //!
 //! # What it promises
 //!
-//! - Each call of a `Shelf` adds to its log what it did, or nothing where it failed (each call's
+//! - Each call of a `Shelf` adds to its log what it did, or that it changed nothing (each call's
 //!   clause `log`); what is read and what a crash may leave are functions of that log.
 //! - A settled file has the bytes that were written, whole, in every image that has its name
 //!   (`Draft::seal`, `Shelf::settle`), and a lent file shows them (`Shelf::reader`).
 //! - A list has just the names that are there, in order (`Shelf::list`).
-//! - A fault is answered only where the count of faults rose (each call's clause `cause`).
+//! - A fault is returned only if the count of faults rose, and a call that succeeds leaves it as it
+//!   was (each call's clause `cause`).
 //! - `MemShelf` does all of this in memory; `MemShelf::crash` gives the image that a choice by
 //!   bits names, after any moment.
 //!
@@ -31,17 +32,14 @@
 mod lent_file;
 mod loans;
 mod memory;
-mod memory_draft;
-mod memory_file;
-mod schedule;
 mod shelves;
 #[cfg(test)]
 mod tests;
 
 pub use lent_file::{CameBack, LentFile};
 pub use loans::Loans;
-pub use memory::MemShelf;
-pub use memory_draft::{MemDraft, MemSealed};
-pub use memory_file::MemFile;
+pub use memory::draft::{MemDraft, MemSealed};
+pub use memory::file::MemFile;
+pub use memory::shelf::MemShelf;
 pub use shelves::{Draft, End, ListErr, SealedPair, Shelf};
 pub use st_disk::{Call, Change, Kind, Name, Names, Update};

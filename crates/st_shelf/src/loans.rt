@@ -4,7 +4,9 @@ ghost use Rattle.st_shelf.specs.Loans.{no_loans, lend, take_back};
 use st_disk::Kind;
 use std::marker::Model;
 
-/// The files that a shelf has out, and how often those of blocks that came back were read.
+/// What a shelf counts of the files that it lends: how many are out and were at most, and how often
+/// those of blocks that came back were read, for how many bytes. Each count stops at the greatest
+/// number of a u64.
 #[derive(Drop)]
 pub struct Loans {
     lent: u64,
@@ -47,7 +49,7 @@ impl Loans {
         self.peak = self.peak.max(self.lent);
     }
 
-    /// A file of this kind came back, which was read so often, and asked for so many bytes.
+    /// A file of this kind came back, which was read so many times, for so many bytes.
     pub fn take_back(&mut self, kind: Kind, reads: u64, asked: u64)
         ensures { self.new ≡ take_back kind reads asked self.old }
     {
@@ -58,7 +60,7 @@ impl Loans {
         }
     }
 
-    /// How many files were out at most.
+    /// The greatest number of files that were out at once.
     pub fn peak(&self) -> u64
         ensures { result ≡ self.now.peak }
     {

@@ -3,7 +3,8 @@ use Rattle.std.proofs.Common.{◌≡◌, ℕ, ◌+◌, ◌-◌, ◌*◌, ◌<◌
 use Rattle.st_tblock.specs.Block.{RowView}
 use Rattle.st_table.specs.Cursor.{CursorView, Advances, most_left}
 
--- within a step: nothing was read yet, or no row was at hand and blocks were passed, each with one read
+-- within a step: nothing was read yet, or no row was at hand and blocks were passed, each with one
+-- read
 pub record Passes (count extent before now : ℕ) (old new : CursorView) : Type 0 where
   pub next : old.next ≤ new.next
   pub within : new.next ≤ max old.next count

@@ -65,7 +65,7 @@ kind_again zero (k ∷ part) e = cc
 kind_again (suc n) [] e = cc
 kind_again (suc n) (k ∷ part) e = kind_again n part e
 
--- nothing is found wrong in a good block: it is stored
+-- nothing is found wrong in a block: it is stored
 pub is_stored : (limit : ℕ) (bytes : List ℕ) (h : Handle) (rows : List RowView) → limit ≤ length bytes → stored_wrong limit bytes h ≡ None → IsBlock (take h.size (drop h.offset bytes)) rows → Stored limit bytes h rows
 is_stored limit bytes h rows l e g =
     let part = take (h.size + 5) (drop h.offset bytes) in

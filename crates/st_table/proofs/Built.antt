@@ -1,4 +1,4 @@
--- A builder stands for one row more, and for one data block more.
+-- A builder represents one row more, and for one data block more.
 use Rattle.std.proofs.Common.{◌≡◌, ℕ, ◌+◌, ◌<◌, ◌≤◌, true, List, [], ◌∷◌, ◌++◌, append_assoc, append-nil, length, length-append, All, Option, Some, None, refl, sym, ap, ◌∙◌, subst, arith, inl}
 use Rattle.std.specs.Prelude.{IsTrue}
 use Rattle.std.proofs.lemmas.List.Elements.{All-push, All-nil}
@@ -15,15 +15,15 @@ use Rattle.st_table.proofs.StoredBlocks.{stored_size, stored_behind, blocks_long
 use Rattle.st_table.proofs.RowKeys.{held_between, held_last}
 use Rattle.st_table.proofs.Rooms.{behind_full, behind_small, next_in_range}
 
--- a draft without entries holds no rows
+-- a builder without entries holds no rows
 pub empty_holds : (interval : ℕ) → HasRows (empty interval) []
 empty_holds interval = record { end = start [] (0 ∷ []); entries = refl; whole = refl; at = refl; left = inl (refl, refl); last = refl }
 
--- what adding an entry to a draft does to the rows that it holds
+-- what adding an entry to a builder does to the rows that it holds
 abbrev pub Takes : EntryBlockView → EntryBlockView → RowView → Type 0
 Takes old new r = (rows : List RowView) → HasRows old rows → HasRows new (rows ++ r ∷ [])
 
--- a builder stands for one row more
+-- a builder represents one row more
 pub filled_builds : (k : TableBuilderView) (r : RowView) (bytes : List ℕ) (rows : List RowView) → IsSteady k → is_above (last_added k) r.0 ≡ true → Takes k.block (filled k r).block r → Builds k bytes rows → Builds (filled k r) bytes (rows ++ r ∷ [])
 filled_builds k r bytes rows steady above takes b =
     record {
@@ -62,7 +62,7 @@ indexes_more k key bytes done here last range good takes at index block above =
       blocks = blocks_push (length all) all None index.entries done e h here earlier named (subst (λ (xs : List ℕ). Stored (length all) xs h here) ends stored) (subst (λ (x : Option (List ℕ)). Between x e.0 here) low (subst (λ (x : List ℕ). Between k.index.last x here) front between));
     }
 
--- a builder whose data block was closed stands for the same rows, and the bytes behind
+-- a builder whose data block was closed represents the same rows, and the bytes after
 pub closed_builds : (k : TableBuilderView) (key bytes : List ℕ) (rows : List RowView) → k.block.last ≡ Some key → InRange (next_handle k.at (block_size k.block)) → ((rs : List RowView) → HasRows k.block rs → IsBlock (block_text k.block) rs) → Takes k.index (closed k).index (index_row k) → Builds k bytes rows → Builds (closed k) (bytes ++ closing k) rows
 closed_builds k key bytes rows last range good takes b =
     let text = block_text k.block in
@@ -77,7 +77,7 @@ closed_builds k key bytes rows last range good takes b =
       above = All-nil (λ (r : RowView). IsTrue (is_above (closed k).index.last r.0));
     }
 
--- behind a row that leaves its data block open
+-- after a row that leaves its data block open
 pub builds_small : (k new : TableBuilderView) (r : RowView) → new ≡ filled k r → block_size new.block < 4096 → IsSteady k → is_above (last_added k) r.0 ≡ true → Takes k.block new.block r → (bytes : List ℕ) (rows : List RowView) → Builds k bytes rows → Builds new (bytes ++ written_by k r) (rows ++ r ∷ [])
 builds_small k new r e small steady above takes bytes rows b =
     let size : block_size (filled k r).block < 4096 = subst (λ (n : TableBuilderView). block_size n.block < 4096) e small in
@@ -92,7 +92,7 @@ closed_is k block index at sound b a x =
     let block_is : block ≡ empty 16 = b ∙ ap empty sound.block in
     λ i. record { block = block_is i; index = x i; at = a i; spent = k.spent }
 
--- behind a row that closes it
+-- after a row that closes it
 pub builds_full : (k full new : TableBuilderView) (r : RowView) → full ≡ filled k r → 4096 ≤ block_size full.block → new ≡ closed full → IsSteady k → IsWithinLimits full → is_above (last_added k) r.0 ≡ true → Takes k.block full.block r → ((rs : List RowView) → HasRows full.block rs → IsBlock (block_text full.block) rs) → Takes full.index new.index (index_row full) → (bytes : List ℕ) (rows : List RowView) → Builds k bytes rows → Builds new (bytes ++ written_by k r) (rows ++ r ∷ [])
 builds_full k full new r f size e steady sound above takes good named bytes rows b =
     let takes_it : Takes k.block (filled k r).block r = subst (λ (n : TableBuilderView). Takes k.block n.block r) f takes in

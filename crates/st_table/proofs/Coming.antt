@@ -83,7 +83,7 @@ none_later limit bytes index more c r e (inr (k, last, b)) h =
     let none = in_range-after c.low c.high h.read behind in
     h.rows ∙ (λ i. e i ++ none i)
 
--- the next block is refused only by the outside
+-- the next block is refused by no check
 next_stands : (limit : ℕ) (bytes : List ℕ) (index rows : List RowView) (n : ℕ) (e : TableErr) → Blocks limit bytes (last_key None (take n index)) (drop n index) rows → RefusesNext limit bytes index n e → NoCheckFailed e
 next_stands limit bytes index rows n e b (inl o) = o
 next_stands limit bytes index rows n e b (inr (a, h, i, refuses)) =
@@ -129,7 +129,7 @@ coming_first bytes low high rows entries n t e a =
     let below = blocks_below limit bytes low None (take n e.index) p.front p.first a in
     record { read = p.back; blocks = p.second; rows = ap (in_range low high) p.split ∙ in_range-before low high p.front p.back below }
 
--- keys that rise end at or behind the key that they rise from
+-- keys that rise end at or after the key that they rise from
 pub last_behind : (k : List ℕ) (index : List RowView) → KeysRiseAbove (Some k) index → is_before (key_or_empty (last_key (Some k) index)) k ≡ false
 last_behind k [] h = not_itself k
 last_behind k (r ∷ index) h =

@@ -48,7 +48,7 @@ ending_size at size index foot =
     let text = block_text_size index in
     omega arith
 
--- an index and the blocks that it names are a table with the ending behind them
+-- an index and the blocks that it names are a table with the ending after them
 pub indexed_table : (at size : ℕ) (index : EntryBlockView) (bytes : List ℕ) (rows : List RowView) → size ≡ block_size index → length (footer_text (next_handle at 8) (next_handle (at + 13) size)) ≡ 48 → footer_in (footer_text (next_handle at 8) (next_handle (at + 13) size)) ≡ Ok (next_handle at 8, next_handle (at + 13) size) → ((rs : List RowView) → HasRows index rs → IsBlock (block_text index) rs) → length bytes ≡ at → Indexes index bytes rows → IsTable (bytes ++ ending_parts at size index) rows
 indexed_table at size index bytes rows e foot read good l x =
     let meta = next_handle at 8 in
@@ -90,7 +90,7 @@ builds_indexed k bytes rows e b =
     let all : b.done ≡ rows = sym (b.split ∙ ap (λ (rs : List RowView). b.done ++ rs) none ∙ append-nil b.done) in
     subst (λ (rs : List RowView). Indexes k.index bytes rs) all b.index
 
--- what a builder stands for doesn't depend on the room that its rows took
+-- what a builder represents doesn't depend on the room that its rows took
 pub builds_at : (k : TableBuilderView) (bytes : List ℕ) (rows : List RowView) → Builds k bytes rows → Builds (builder_view k.block k.index k.at 0) bytes rows
 builds_at k bytes rows b =
     record { done = b.done; here = b.here; split = b.split; at = b.at; index = b.index; block = b.block; above = b.above }

@@ -32,7 +32,7 @@ pub record IsFirst (key : List ℕ) (entries : List IndexEntry) (i : ℕ) : Type
   pub before : (k : ℕ) (e : IndexEntry) → k < i → is_before (get_or entries k e).key key ≡ true
   pub stop : (e : IndexEntry) → i < length entries → is_before (get_or entries i e).key key ≡ false
 
--- what is found behind a row that is before the key
+-- what is found after a row that is before the key
 entry_for_on : (key : List ℕ) (low : Option (List ℕ)) (r : RowView) (index : List RowView) → is_before r.0 key ≡ true → entry_for key low (r ∷ index) ≡ entry_for key (Some r.0) index
 entry_for_on key low r index h = rw h refl
 
@@ -80,7 +80,7 @@ rises_at low (q ∷ index) i zero r h l m = absurd (omega arith)
 rises_at low (q ∷ index) zero (suc j) r h l m = rises_above q.0 index j r h.1 (omega arith)
 rises_at low (q ∷ index) (suc i) (suc j) r h l m = rises_at (Some q.0) index i j r h.1 (omega arith) (omega arith)
 
--- the half that is left: what is before it is before the key, and what is behind it isn't
+-- the half that is left: what is before it is before the key, and what is after it isn't
 pub record Half (key : List ℕ) (entries : List IndexEntry) (low high : ℕ) : Type 0 where
   pub ordered : low ≤ high
   pub within : high ≤ length entries

@@ -71,7 +71,7 @@ all_in_range high (r ∷ rows) a =
     let rest = all_in_range high rows (All-tail (λ (q : RowView). IsTrue (is_at_most high q.0)) r rows a) in
     rw (here, low) (ap (λ (xs : List RowView). r ∷ xs) rest)
 
--- behind a key there is a last key
+-- after a key there is a last key
 last_some : (k : List ℕ) (rows : List RowView) → last_key (Some k) rows ≡ None → ⊥
 last_some k [] e = cc
 last_some k (r ∷ rows) e = last_some r.0 rows e

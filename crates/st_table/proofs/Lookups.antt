@@ -11,11 +11,11 @@ use Rattle.st_table.specs.Rows.{HasRead, StepsOn, ReadsValue, answer_after, row_
 use Rattle.st_tblock.proofs.Order.{at_most_before, not_behind}
 use Rattle.st_table.proofs.Walking.{rows_below, has_read_on, has_read_all}
 
--- a row behind the wanted key changes no answer
+-- a row after the wanted key changes no answer
 passed : (wanted : List ℕ) (r : RowView) (found : Option (List ℕ)) → is_before wanted r.0 ≡ true → answer_after wanted r found ≡ found
 passed wanted r found h = let n = not_behind wanted r.0 h in rw (n, h) refl
 
--- the answer behind one more row, which is above the others
+-- the answer after one more row, which is above the others
 pub lookup_push : (wanted : List ℕ) (rows : List RowView) (r : RowView) → All (λ q. is_before q.0 r.0 ≡ true) rows → lookup wanted (rows ++ r ∷ []) ≡ answer_after wanted r (lookup wanted rows)
 lookup_push wanted [] r a = refl
 lookup_push wanted (q ∷ rows) r a =
@@ -34,7 +34,7 @@ pub record Found (takes : RowView → Bool) (block : List ℕ) (base : ℕ) (wan
   pub here : s.base ≡ base
   pub answer : found ≡ lookup wanted rows
 
--- and behind one more row
+-- and after one more row
 pub found_on : (takes : RowView → Bool) (block : List ℕ) (base : ℕ) (wanted : List ℕ) (old new : EntryCursorView) (found now : Option (List ℕ)) (v : Bor (List ℕ)) (key : List ℕ) → Found takes block base wanted old found → StepsOn takes old new (Ok (Some v)) → key ≡ key_or_empty new.reading.last → now ≡ answer_after wanted (key, v.now) found → Found takes block base wanted new now
 found_on takes block base wanted old new found now v key f s k n =
     let x = s.0 in

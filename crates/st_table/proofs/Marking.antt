@@ -39,11 +39,11 @@ found_once low k q r e =
     let same : ◌≡◌ {A = Option (List ℕ) × RowView} (low, q) (k, r) = cc in
     (ap (λ (x : Option (List ℕ) × RowView). x.0) same, ap (λ (x : Option (List ℕ) × RowView). x.1) same)
 
--- none is found behind the last one
+-- none is found after the last one
 not_found : (k : Option (List ℕ)) (r : RowView) → ◌≡◌ {A = Option (Option (List ℕ) × RowView)} None (Some (k, r)) → ⊥
 not_found k r e = cc
 
--- the index entry of a number in the entries behind the first one
+-- the index entry of a number in the entries after the first one
 found_behind : (k : Option (List ℕ)) (index : List RowView) (i : ℕ) (r : RowView) (key there : List ℕ) → key ≡ there → first_after (last_key (Some there) (take i index)) (drop i index) ≡ Some (k, r) → first_after (last_key (Some key) (take i index)) (drop i index) ≡ Some (k, r)
 found_behind k index i r key there e f =
     ap (λ (x : List ℕ). first_after (last_key (Some x) (take i index)) (drop i index)) e ∙ f

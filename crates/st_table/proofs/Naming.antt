@@ -1,4 +1,4 @@
--- The rows that are read of blocks stand where the index names them.
+-- The rows that are read of blocks are where the index names them.
 use Rattle.std.proofs.Common.{◌≡◌, ℕ, zero, suc, ◌<◌, Bool, true, false, ◌&&◌, List, [], ◌∷◌, ◌++◌, append_assoc, length, take, get_or, All, Option, Some, None, Result, Ok, Err, refl, sym, ap, ◌∙◌, subst, arith}
 use Rattle.std.specs.Prelude.{IsTrue, if◌then◌else◌}
 use Rattle.std.proofs.lemmas.List.{take-append-drop}
@@ -37,7 +37,7 @@ lookup_at low (q ∷ rows) (suc i) d h l =
     let above = rises_above q.0 rows i d h.1 (omega arith) in
     rw above (lookup_at (Some q.0) rows i d h.1 (omega arith))
 
--- the rows of blocks stand where the index names them
+-- the rows of blocks are where the index names them
 blocks_named : (limit : ℕ) (bytes : List ℕ) (index front passed rest rows : List RowView) → index ≡ front ++ (passed ++ rest) → KeysRiseAbove None index → Blocks limit bytes (last_key None front) passed rows → All (λ r. Named limit bytes r.0 (Some r.1) (entry_for r.0 None index)) rows
 blocks_named limit bytes index front [] rest rows s h b =
     All-same (λ r. Named limit bytes r.0 (Some r.1) (entry_for r.0 None index)) rows [] b (All-nil (λ r. Named limit bytes r.0 (Some r.1) (entry_for r.0 None index)))

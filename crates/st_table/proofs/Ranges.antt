@@ -19,7 +19,7 @@ in_range-append low high (r ∷ xs) ys = either (is_at_most high r.0 && is_at_mo
     either true e = ap (λ (rows : List RowView). r ∷ rows) e
     either false e = e
 
--- rows before the range, and rows behind it
+-- rows before the range, and rows after it
 pub in_range-before : (low high : List ℕ) (xs ys : List RowView) → All (λ r. is_before r.0 low ≡ true) xs → in_range low high (xs ++ ys) ≡ in_range low high ys
 in_range-before low high [] ys a = refl
 in_range-before low high (r ∷ xs) ys a =
@@ -45,7 +45,7 @@ pub record Ranged (takes : RowView → Bool) (block : List ℕ) (base : ℕ) (lo
   pub here : s.base ≡ base
   pub keeps : kept ≡ in_range low high rows
 
--- and behind one more row
+-- and after one more row
 pub ranged_on : (takes : RowView → Bool) (block : List ℕ) (base : ℕ) (low high : List ℕ) (old new : EntryCursorView) (kept now : List RowView) (v : Bor (List ℕ)) (key : List ℕ) → Ranged takes block base low high old kept → StepsOn takes old new (Ok (Some v)) → key ≡ key_or_empty new.reading.last → now ≡ kept ++ in_range low high ((key, v.now) ∷ []) → Ranged takes block base low high new now
 ranged_on takes block base low high old new kept now v key f s k n =
     let x = s.0 in

@@ -31,7 +31,8 @@ handle_size h =
     let b = groups_size 9 h.size in
     omega arith
 
--- with one more row a builder keeps below its bounds, and there is room for its block and five bytes behind that
+-- with one more row a builder keeps below its bounds, and there is room for its block and five
+-- bytes after that
 pub filled_sound : (k : TableBuilderView) (r : RowView) → IsSteady k → is_above (last_added k) r.0 ≡ true → length r.0 ≤ 64 → length r.1 < 2 ^ 32 → k.spent + room_of r < 2 ^ 37 → IsWithinLimits (filled k r) × (k.at + block_size (filled k r).block + 5 ≤ (filled k r).spent)
 filled_sound k r steady above lk lv room =
     let sound = steady.sound in
@@ -117,13 +118,13 @@ next_in_range k sound =
     let spent = sound.spent in
     record { offset = omega arith; size = omega arith }
 
--- behind a row that fills its data block that is closed
+-- after a row that fills its data block that is closed
 pub behind_full : (k : TableBuilderView) (r : RowView) → 4096 ≤ block_size (filled k r).block → (after_row k r ≡ closed (filled k r)) × (written_by k r ≡ closing (filled k r))
 behind_full k r l =
     let full : is_full (filled k r) ≡ true = grind (arith, nat_tests) in
     (ap (λ (b : Bool). if b then closed (filled k r) else filled k r) full, ap (λ (b : Bool). if b then closing (filled k r) else []) full)
 
--- behind another it is not
+-- after another it is not
 pub behind_small : (k : TableBuilderView) (r : RowView) → block_size (filled k r).block < 4096 → (after_row k r ≡ filled k r) × (written_by k r ≡ [])
 behind_small k r l =
     let full : is_full (filled k r) ≡ false = grind (arith, nat_tests) in

@@ -31,23 +31,23 @@ at_most_last [] w v key h q = All-nil (λ (r : RowView). IsTrue (is_at_most key 
 at_most_last (r ∷ rows) w v key h q =
     All-cons (λ (s : RowView). IsTrue (is_at_most key s.0)) r rows (last_up rows (past w h.0) v r.0 key h.4 (ap Some h.2) q) (at_most_last rows (past w h.0) v key h.4 q)
 
--- the rows of a draft lie between the key before them and their last one
+-- the rows of a builder lie between the key before them and their last one
 pub held_between : (d : EntryBlockView) (rows : List RowView) (low : Option (List ℕ)) (key : List ℕ) → HasRows d rows → d.last ≡ Some key → All (λ r. IsTrue (is_above low r.0)) rows → Between low key rows
 held_between d rows low key h q above =
     let most = at_most_last rows (start d.text d.restarts) h.end key h.entries (h.last ∙ q) in
     λ k r l. (above k r l, most k r l)
 
--- behind a key there is a last one
+-- after a key there is a last one
 last_some : (rows : List RowView) (a : List ℕ) → last_of (Some a) rows ≡ None → ⊥
 last_some [] a e = cc
 last_some (r ∷ rows) a e = last_some rows r.0 e
 
--- a draft without a last key has no rows
+-- a builder without a last key has no rows
 pub held_none : (d : EntryBlockView) (rows : List RowView) → HasRows d rows → d.last ≡ None → rows ≡ []
 held_none d [] h e = refl
 held_none d (r ∷ rows) h e =
     absurd (last_some rows r.0 (sym (rows_last (r ∷ rows) (start d.text d.restarts) h.end h.entries) ∙ h.last ∙ e))
 
--- the last key of a draft is that of its last row
+-- the last key of a builder is that of its last row
 pub held_last : (d : EntryBlockView) (rows : List RowView) → HasRows d rows → last_of None rows ≡ d.last
 held_last d rows h = sym (rows_last rows (start d.text d.restarts) h.end h.entries) ∙ h.last

@@ -159,7 +159,7 @@ next_read items (Err e) limit bytes block text index next a h low high l i b t r
 pub done_at_end : (index : List RowView) (entries : List IndexEntry) (next : ℕ) (high : List ℕ) → Decodes index entries → length entries ≤ next → IsDone index next high
 done_at_end index entries next high d l = let size = decodes_length index entries d in inl (omega arith)
 
--- or the last index key is behind the range
+-- or the last index key is after the range
 pub done_behind : (index : List RowView) (next : ℕ) (k high : List ℕ) (b : Bool) → Some k ≡ last_key None (take next index) → b ≡ is_before k high → not b ≡ true → IsDone index next high
 done_behind index next k high b e t n = inr (k, sym e, sym t ∙ not_true b n)
 

@@ -1,4 +1,4 @@
--- Blocks as they stand in a file, also in a longer one.
+-- Blocks as they are in a file, also in a longer one.
 use Rattle.std.proofs.Common.{◌≡◌, ℕ, ◌+◌, ◌<◌, ◌≤◌, ◌^◌, List, [], ◌∷◌, ◌++◌, append_assoc, append-nil, length, length-append, take, drop, Option, Some, refl, sym, ap, ◌∙◌, subst, arith}
 use Rattle.std.proofs.lemmas.List.{take_at, drop_at, take-append-le, drop-append-le, length-drop}
 use Rattle.byteorder.specs.Endian.{little_bytes, little_number}
@@ -39,12 +39,12 @@ plain_again block rows good =
       good = subst (λ (xs : List ℕ). IsBlock xs rows) (sym front) good;
     }
 
--- what stands behind some bytes, and before others
+-- what is after some bytes, and before others
 pub part_at : (front part rest : List ℕ) (at size : ℕ) → at ≡ length front → size ≡ length part → take size (drop at (front ++ (part ++ rest))) ≡ part
 part_at front part rest at size a s =
     ap (take size) (drop_at front (part ++ rest) at (sym a)) ∙ take_at part rest size (sym s)
 
--- a good block is stored behind the bytes so far
+-- a block is stored after the bytes so far
 pub stored_behind : (bytes block rest : List ℕ) (limit at size : ℕ) (rows : List RowView) → IsBlock block rows → at ≡ length bytes → size ≡ length block → at + (size + 5) ≤ limit → Stored limit (bytes ++ (stored_text block ++ rest)) (next_handle at size) rows
 stored_behind bytes block rest limit at size rows good a s l =
     let n : size + 5 ≡ length (stored_text block) = ap (λ (m : ℕ). m + 5) s ∙ sym (stored_size block) in

@@ -33,7 +33,7 @@ pub not_true : (b : Bool) → IsTrue (not b) → b ≡ false
 not_true true h = cc
 not_true false h = refl
 
--- no check fails at an entry of a good block whose rows pass
+-- no check fails at an entry of a block whose rows pass
 entry_is_good : (takes : RowView → Bool) (base : ℕ) (w v : BlockReading) (more : List RowView) (f : DamageView) → Rows w more v → v.rest ≡ [] → IsTrue (is_had v.at v.left) → All (λ r. IsTrue (takes r)) more → entry_wrong takes base w ≡ Some f → ⊥
 entry_is_good takes base w v [] f h e t a wrong =
     let rest : w.rest ≡ [] = ap (λ (u : BlockReading). u.rest) h ∙ e in
@@ -55,7 +55,7 @@ pub rest_pass : (P : RowView → Type 0) (xs ys : List RowView) → All P (xs ++
 rest_pass P [] ys a = a
 rest_pass P (x ∷ xs) ys a = rest_pass P xs ys (All-tail P x (xs ++ ys) a)
 
--- no check of a good block fails whose rows pass
+-- no check of a block fails whose rows pass
 pub good_block : (takes : RowView → Bool) (base : ℕ) (block : List ℕ) (rows : List RowView) (f : DamageView) → IsBlock block rows → All (λ r. IsTrue (takes r)) rows → Fails takes base block f → ⊥
 good_block takes base block rows f g a (inl h) =
     let both : ◌≡◌ {A = Option (List ℕ × List ℕ)} (Some (g.text, g.restarts)) None = sym g.split ∙ h.0 in
@@ -65,7 +65,7 @@ good_block takes base block rows f g a (inr (w, done, b, wrong)) =
     let more = rest_pass (λ r. IsTrue (takes r)) done front.0 (All-same (λ r. IsTrue (takes r)) (done ++ front.0) rows (sym front.1) a) in
     entry_is_good takes base w g.end front.0 f front.2 g.whole g.had more wrong
 
--- a stored block whose rows pass is refused only by the outside
+-- a stored block whose rows pass is refused by no check
 pub stored_stands : (takes : RowView → Bool) (limit : ℕ) (bytes : List ℕ) (h : Handle) (rows : List RowView) (e : TableErr) → Stored limit bytes h rows → All (λ r. IsTrue (takes r)) rows → RefusesStored takes limit bytes h e → NoCheckFailed e
 stored_stands takes limit bytes h rows e s a (inl o) = o
 stored_stands takes limit bytes h rows e s a (inr (inl w)) =
@@ -94,7 +94,7 @@ skip_before key (r ∷ here) more a =
     let rest = skip_before key here more (All-tail (λ q. is_before q.0 key ≡ true) r here a) in
     rw low rest
 
--- and rows behind it neither
+-- and rows after it neither
 none_behind : (key : List ℕ) (more : List RowView) → All (λ r. is_before key r.0 ≡ true) more → lookup key more ≡ None
 none_behind key [] a = refl
 none_behind key (r ∷ more) a =
@@ -115,7 +115,7 @@ blocks_above limit bytes k (e ∷ index) rows (here, more, n, split, rest) h =
     let tail = All-weaker (λ r. is_before e.0 r.0 ≡ true) (λ r. is_before k r.0 ≡ true) (λ r p. before_trans k e.0 r.0 h.0 p) more (blocks_above limit bytes e.0 index more rest h.1) in
     All-same (λ r. is_before k r.0 ≡ true) rows (here ++ more) split (All-append (λ r. is_before k r.0 ≡ true) here more front tail)
 
--- a key's value stands in the block that the index names for it, or nowhere
+-- a key's value is in the block that the index names for it, or nowhere
 pub value_is : (limit : ℕ) (bytes key : List ℕ) (low : Option (List ℕ)) (index rows : List RowView) (answer : Option (List ℕ)) → Blocks limit bytes low index rows → KeysRiseAbove low index → Named limit bytes key answer (entry_for key low index) → answer ≡ lookup key rows
 value_is limit bytes key low [] rows answer b h n = n ∙ ap (lookup key) (sym b)
 value_is limit bytes key low (e ∷ index) rows answer (here, more, names, split, rest) h n =
@@ -130,7 +130,7 @@ value_is limit bytes key low (e ∷ index) rows answer (here, more, names, split
         let above = All-weaker (λ r. is_before e.0 r.0 ≡ true) (λ r. is_before key r.0 ≡ true) (λ r p. at_most_before key e.0 r.0 t p) more (blocks_above limit bytes e.0 index more rest h.1) in
         a ∙ ap (lookup key) (sym same) ∙ sym (stop_behind key here more above)
 
--- and that block is refused only by the outside
+-- and that block is refused by no check
 pub named_stands : (limit : ℕ) (bytes key : List ℕ) (low : Option (List ℕ)) (index rows : List RowView) (e : TableErr) → Blocks limit bytes low index rows → RefusesNamed limit bytes (entry_for key low index) e → NoCheckFailed e
 named_stands limit bytes key low [] rows e b n = absurd n
 named_stands limit bytes key low (r ∷ index) rows e (here, more, names, split, rest) n =
@@ -170,7 +170,7 @@ blocks_handles limit bytes low [] rows b = All-nil (λ r. IsTrue (holds_handle r
 blocks_handles limit bytes low (e ∷ index) rows (here, more, n, split, rest) =
     All-cons (λ r. IsTrue (holds_handle r)) e index (handle_passes e.1 n.handle n.named) (blocks_handles limit bytes (Some e.0) index more rest)
 
--- over a table nothing but the outside is in the way of entering it
+-- over a table no check fails at entering it
 pub table_entered : (bytes : List ℕ) (rows : List RowView) (e : TableErr) → IsTable bytes rows → RefusesTable bytes e → NoCheckFailed e
 table_entered bytes rows e t (inl o) = o
 table_entered bytes rows e t (inr (inl w)) =

@@ -1,4 +1,4 @@
--- Laws of putting one text behind another, and of what a call's Ok gives.
+-- Laws of putting one text after another, and of what a call's Ok gives.
 use Rattle.std.proofs.Common.{Option, List, ℕ, ◌++◌, length, Result, Ok, Err, sym, subst, arith}
 use Rattle.std.specs.Prelude.{OnOk}
 use Rattle.std.proofs.lemmas.List.{take_all}
@@ -12,7 +12,7 @@ pub puts_then : {T E : Type 0} (a b c : Option (List ℕ)) (xs ys : List ℕ) (r
 puts_then a b c xs ys (Ok x) first next = Appends-trans a b c xs ys first next
 puts_then a b c xs ys (Err e) first next = prefix-then a b c xs ys first next
 
--- a text is a front of itself
+-- a text is a prefix of itself
 pub whole_front : (a b : Option (List ℕ)) (xs : List ℕ) → Appends a b xs → AppendsPrefix a b xs
 whole_front a b xs put = (length xs, subst (Appends a b) (sym (take_all (length xs) xs (omega arith))) put)
 

@@ -15,7 +15,7 @@ use Rattle.st_table.specs.Rows.{HasRead, RefusesBlock, RefusesEntry, entry_wrong
 use Rattle.st_table.specs.declared.errors.TableErr.{TableErr}
 use Rattle.st_tblock.proofs.Order.{before_trans}
 
--- a new cursor stands behind no rows
+-- a new cursor is after no rows
 pub begun : (takes : RowView → Bool) (block : List ℕ) (base : ℕ) (s : EntryCursorView) → Begins block base (Ok s) → HasRead takes block s.reading [] × (s.base ≡ base)
 begun takes block base s h =
     let reading : s.reading ≡ start h.0.0 h.0.1 = ap (λ (t : EntryCursorView). t.reading) h.2 in
@@ -25,7 +25,7 @@ begun takes block base s h =
 pub not_begun : (takes : RowView → Bool) (block : List ℕ) (base : ℕ) (d : Damage) (e : TableErr) → Begins block base (Err d) → err_view e ≡ view.Damaged (damage_view d) → RefusesBlock takes base block e
 not_begun takes block base d e h r = inr (unmet base, inl (h.0, refl), r ∙ ap view.Damaged h.1)
 
--- a step goes behind one more row
+-- a step goes past one more row
 pub has_read_on : (takes : RowView → Bool) (block : List ℕ) (w v : BlockReading) (rows : List RowView) (x : Entry × List ℕ) → HasRead takes block w rows → next_in w ≡ Some x → IsTrue (takes (row_of w x)) → v ≡ past w x → HasRead takes block v (rows ++ row_of w x ∷ [])
 has_read_on takes block w v rows x b e t p =
     let on = rows_push rows (start b.text b.restarts) w x (row_of w x) b.entries e refl refl in

@@ -47,7 +47,7 @@ pub record IsSteady (k : TableBuilderView) : Type 0 where
   pub sound : IsWithinLimits k
   pub small : block_size k.block < BLOCK_SIZE
 
--- an index block of this draft names whole data blocks of these bytes, which have these rows
+-- an index block of this builder names whole data blocks of these bytes, which have these rows
 pub record Indexes (index : EntryBlockView) (bytes : List ℕ) (rows : List RowView) : Type 0 where
   pub entries : List RowView
   pub held : HasRows index entries
@@ -65,6 +65,7 @@ pub record Builds (k : TableBuilderView) (bytes : List ℕ) (rows : List RowView
   pub above : All (λ r. IsTrue (is_above k.index.last r.0)) here
 
 -- the index names one more block under this key, or after an error it is as it was
-abbrev pub Names : {T E : Type 0} → EntryBlockView → EntryBlockView → List ℕ → Handle → Result T E → Type 0
+abbrev pub Names : {T E : Type 0} → EntryBlockView → EntryBlockView → List ℕ → Handle → Result T E
+    → Type 0
 Names old new key h (Ok x) = new ≡ added old key (handle_text h)
 Names old new key h (Err e) = new ≡ old

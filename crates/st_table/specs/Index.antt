@@ -15,7 +15,7 @@ use Rattle.st_table.specs.TableFile.{HasIndex, footer_at}
 use Rattle.st_table.specs.declared.errors.TableErr.{TableErr}
 use Rattle.st_table.specs.declared.index.IndexEntry.{IndexEntry}
 
--- what was read leaves nothing behind it
+-- what was read leaves nothing after it
 abbrev pub is_whole : {X : Type 0} → Read X → Bool
 is_whole None = false
 is_whole (Some (x, [])) = true
@@ -32,28 +32,35 @@ Decodes [] (e ∷ entries) = ⊥
 Decodes (r ∷ rows) [] = ⊥
 Decodes (r ∷ rows) (e ∷ entries) = (e.key ≡ r.0) × IsHandle r.1 e.handle × Decodes rows entries
 
--- a cursor goes behind the next row, whose value is one handle, or stands at the block's end
-abbrev pub StepsIndex : EntryCursorView → EntryCursorView → Result (Option IndexEntry) TableErr → Type 0
-StepsIndex old new (Ok None) = (old.reading.rest ≡ []) × IsTrue (is_had old.reading.at old.reading.left)
+-- a cursor goes past the next row, whose value is one handle, or is at the block's end
+abbrev pub StepsIndex : EntryCursorView → EntryCursorView → Result (Option IndexEntry) TableErr
+    → Type 0
+StepsIndex old new (Ok None) =
+    (old.reading.rest ≡ []) × IsTrue (is_had old.reading.at old.reading.left)
 StepsIndex old new (Ok (Some e)) =
-    (x : Entry × List ℕ) × (next_in old.reading ≡ Some x) × (e.key ≡ key_of old.reading.last x.0) × IsHandle x.0.value e.handle × (new ≡ past_entry old x)
+    (x : Entry × List ℕ) × (next_in old.reading ≡ Some x) × (e.key ≡ key_of old.reading.last x.0)
+    × IsHandle x.0.value e.handle × (new ≡ past_entry old x)
 StepsIndex old new (Err e) = RefusesEntry holds_handle old e
 
--- a good block's rows with their handles
+-- a block's rows with their handles
 abbrev pub HasEntries : List ℕ → List IndexEntry → Type 0
 HasEntries block entries = (rows : List RowView) × IsBlock block rows × Decodes rows entries
 
--- a refusal of a block that a handle names: the outside, or its first check that fails, the last of which is a test of its rows
+-- an error on a block that a handle names: of no check, or of its first check that fails, the last
+-- of which is a test of its rows
 abbrev pub RefusesStored : (RowView → Bool) → ℕ → List ℕ → Handle → TableErr → Type 0
 RefusesStored takes limit bytes h e =
-    NoCheckFailed e ⊎ ((stored_wrong limit bytes h ≡ Some (err_view e)) ⊎ ((stored_wrong limit bytes h ≡ None) × RefusesBlock takes h.offset (take h.size (drop h.offset bytes)) e))
+    NoCheckFailed e
+    ⊎ ((stored_wrong limit bytes h ≡ Some (err_view e))
+    ⊎ ((stored_wrong limit bytes h ≡ None)
+    × RefusesBlock takes h.offset (take h.size (drop h.offset bytes)) e))
 
 -- the first check of a footer that fails, with its place in the file
 abbrev pub moved : ℕ → Result (Handle × Handle) DamageView → Option TableErrView
 moved at (Ok x) = None
 moved at (Err f) = Some (Damaged (record { place = at + f.place; found = f.found; want = f.want }))
 
--- what is wrong with where a table's footer stands, or with its bytes
+-- what is wrong with where a table's footer is, or with its bytes
 abbrev pub footer_wrong : List ℕ → Option TableErrView
 footer_wrong bytes =
     if nat_lt (length bytes) FOOTER_SIZE then
@@ -62,7 +69,9 @@ footer_wrong bytes =
 
 -- the handle of the index block, from a table's footer
 abbrev pub ReadsFooter : List ℕ → Result Handle TableErr → Type 0
-ReadsFooter bytes (Ok h) = (FOOTER_SIZE ≤ length bytes) × ((meta : Handle) × (footer_in (drop (footer_at bytes) bytes) ≡ Ok (meta, h)))
+ReadsFooter bytes (Ok h) =
+    (FOOTER_SIZE ≤ length bytes)
+    × ((meta : Handle) × (footer_in (drop (footer_at bytes) bytes) ≡ Ok (meta, h)))
 ReadsFooter bytes (Err e) = NoCheckFailed e ⊎ (footer_wrong bytes ≡ Some (err_view e))
 
 -- these entries are those of the index block that the footer names, and both passed their checks
@@ -71,18 +80,21 @@ pub record Entered (bytes : List ℕ) (entries : List IndexEntry) : Type 0 where
   pub has : HasIndex bytes index
   pub decoded : Decodes index entries
 
--- a refusal of a table: the outside, or the first check that fails, of its footer or then of its index block
+-- an error on entering a table: of no check, or of the first check that fails, of its footer or
+-- then of its index block
 abbrev pub RefusesTable : List ℕ → TableErr → Type 0
 RefusesTable bytes e =
     NoCheckFailed e
     ⊎ ((footer_wrong bytes ≡ Some (err_view e))
-    ⊎ ((named : Handle) × ReadsFooter bytes (Ok named) × RefusesStored holds_handle (footer_at bytes) bytes named e))
+    ⊎ ((named : Handle) × ReadsFooter bytes (Ok named)
+    × RefusesStored holds_handle (footer_at bytes) bytes named e))
 
 -- the index keys around the block of an index entry
 abbrev pub around : (Option (List ℕ) × RowView) → BoundsView
 around x = record { low = x.0; high = x.1.0 }
 
--- the index entry of this number names a block by this handle, and these are the index keys around that
+-- the index entry of this number names a block by this handle, and these are the index keys around
+-- that
 pub record IsBlockAt (index : List RowView) (i : ℕ) (a : BoundsView) (h : Handle) : Type 0 where
   pub low : Option (List ℕ)
   pub entry : RowView

@@ -11,7 +11,8 @@ use Rattle.st_table.specs.TableFile.{NamesBlock}
 -- that may have the key
 abbrev pub entry_for : List ℕ → Option (List ℕ) → List RowView → Option (Option (List ℕ) × RowView)
 entry_for key low [] = None
-entry_for key low (e ∷ index) = if is_before e.0 key then entry_for key (Some e.0) index else Some (low, e)
+entry_for key low (e ∷ index) =
+    if is_before e.0 key then entry_for key (Some e.0) index else Some (low, e)
 
 -- the first of the rows that are left, with the key before it
 abbrev pub first_after : Option (List ℕ) → List RowView → Option (Option (List ℕ) × RowView)

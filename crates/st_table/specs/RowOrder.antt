@@ -12,7 +12,7 @@ abbrev pub KeysRiseAbove : Option (List ℕ) → List RowView → Type 0
 KeysRiseAbove low [] = Unit {0}
 KeysRiseAbove low (r ∷ rows) = IsTrue (is_above low r.0) × KeysRiseAbove (Some r.0) rows
 
--- the last key of rows behind a key, where there is one
+-- the last key of rows after a key, where there is one
 abbrev pub last_key : Option (List ℕ) → List RowView → Option (List ℕ)
 last_key low [] = low
 last_key low (r ∷ rows) = last_key (Some r.0) rows
@@ -21,4 +21,5 @@ last_key low (r ∷ rows) = last_key (Some r.0) rows
 abbrev pub in_range : List ℕ → List ℕ → List RowView → List RowView
 in_range low high [] = []
 in_range low high (r ∷ rows) =
-    if is_at_most high r.0 && is_at_most r.0 low then r ∷ in_range low high rows else in_range low high rows
+    if is_at_most high r.0 && is_at_most r.0 low then r ∷ in_range low high rows
+    else in_range low high rows

@@ -19,7 +19,8 @@ stored_sum size part = little_number 4 (drop (size + 1) part)
 -- what is wrong with the sum at this place
 abbrev pub sum_wrong : ℕ → ℕ → ℕ → Option TableErrView
 sum_wrong place found want =
-    if nat_eq found want then None else Some (Damaged (record { place = place; found = found; want = want }))
+    if nat_eq found want then None
+    else Some (Damaged (record { place = place; found = found; want = want }))
 
 -- what is wrong with the type byte at this place, which isn't that of a block as it is
 abbrev pub kind_wrong : ℕ → ℕ → TableErrView
@@ -39,12 +40,14 @@ part_wrong offset size part =
 unfoldable pub handle_wrong : ℕ → Handle → Option TableErrView
 handle_wrong limit h =
     if nat_le (end_of h) limit then None
-    else Some (Damaged (record { place = h.offset; found = min (end_of h) (2 ^ 64 - 1); want = limit }))
+    else Some (Damaged
+    (record { place = h.offset; found = min (end_of h) (2 ^ 64 - 1); want = limit }))
 
 -- what is wrong with the block that a handle names: where it ends, then its type byte and its sum
 abbrev pub stored_wrong : ℕ → List ℕ → Handle → Option TableErrView
 stored_wrong limit bytes h =
-    option_or (handle_wrong limit h) (part_wrong h.offset h.size (take (h.size + TRAILER_SIZE) (drop h.offset bytes)))
+    option_or (handle_wrong limit h)
+    (part_wrong h.offset h.size (take (h.size + TRAILER_SIZE) (drop h.offset bytes)))
 
 -- a block is read where nothing is wrong with it so far, and else refused for that; the file may
 -- fail first, or memory run out

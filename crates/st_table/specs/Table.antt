@@ -19,14 +19,16 @@ Enters bytes entries (Err e) = RefusesTable bytes e
 -- the first check that fails in the block that the index names for a key
 abbrev pub RefusesNamed : ℕ → List ℕ → Option (Option (List ℕ) × RowView) → TableErr → Type 0
 RefusesNamed limit bytes None e = ⊥
-RefusesNamed limit bytes (Some x) e = (h : Handle) × IsHandle x.1.1 h × RefusesStored (lies_in (around x)) limit bytes h e
+RefusesNamed limit bytes (Some x) e =
+    (h : Handle) × IsHandle x.1.1 h × RefusesStored (lies_in (around x)) limit bytes h e
 
 -- what is answered for a key, by the index
 abbrev pub Gets : ℕ → List ℕ → List ℕ → List RowView → Result (Option (List ℕ)) TableErr → Type 0
 Gets limit bytes key index (Ok answer) = Named limit bytes key answer (entry_for key None index)
-Gets limit bytes key index (Err e) = NoCheckFailed e ⊎ RefusesNamed limit bytes (entry_for key None index) e
+Gets limit bytes key index (Err e) =
+    NoCheckFailed e ⊎ RefusesNamed limit bytes (entry_for key None index) e
 
--- what is answered for a key over a table of these rows: its value or none; nothing but the outside is in the way
+-- what is answered for a key over a table of these rows: its value or none, and no check fails
 abbrev pub GetsRow : List ℕ → List RowView → Result (Option (List ℕ)) TableErr → Type 0
 GetsRow key rows (Ok answer) = answer ≡ lookup key rows
 GetsRow key rows (Err e) = NoCheckFailed e

@@ -41,14 +41,15 @@ room_of row = length row.0 + length row.1 + ROW_ROOM
 -- with one more row in its data block
 abbrev pub filled : TableBuilderView → RowView → TableBuilderView
 filled k row =
-    record { block = added k.block row.0 row.1; index = k.index; at = k.at; spent = k.spent + room_of row }
+    builder_view (added k.block row.0 row.1) k.index k.at (k.spent + room_of row)
 
 -- with its data block closed: the index names it under its last key
 abbrev pub closed : TableBuilderView → TableBuilderView
 closed k =
     record {
       block = empty DATA_INTERVAL;
-      index = added k.index (key_or_empty k.block.last) (handle_text (next_handle k.at (block_size k.block)));
+      index = added k.index (key_or_empty k.block.last)
+          (handle_text (next_handle k.at (block_size k.block)));
       at = k.at + (block_size k.block + TRAILER_SIZE);
       spent = k.spent;
     }
@@ -73,13 +74,14 @@ written_by k row = if is_full (filled k row) then closing (filled k row) else []
 abbrev pub metaindex : List ℕ
 metaindex = block_text (empty INDEX_INTERVAL)
 
--- what follows the last data block, from this offset on: the metaindex block, the index block and the
--- footer
+-- what follows the last data block, from this offset on: the metaindex block, the index block and
+-- the footer
 abbrev pub ending_at : ℕ → EntryBlockView → List ℕ
 ending_at at index =
     stored_text metaindex
     ++ (stored_text (block_text index)
-    ++ footer_text (next_handle at (length metaindex)) (next_handle (at + (length metaindex + TRAILER_SIZE)) (block_size index)))
+    ++ footer_text (next_handle at (length metaindex))
+    (next_handle (at + (length metaindex + TRAILER_SIZE)) (block_size index)))
 
 -- what a builder without rows at hand writes at its end
 abbrev pub ending : TableBuilderView → List ℕ

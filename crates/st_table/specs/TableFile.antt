@@ -18,7 +18,8 @@ footer_at bytes = length bytes - FOOTER_SIZE
 unfoldable pub sum_of : ℕ → List ℕ → ℕ
 sum_of kind block = masked (crc_of (block ++ kind ∷ []))
 
--- these bytes are a block of this size that isn't compressed, with its trailer, and it has these rows
+-- these bytes are a block of this size that isn't compressed, with its trailer, and it has these
+-- rows
 pub record IsStoredBlock (part : List ℕ) (size : ℕ) (rows : List RowView) : Type 0 where
   pub whole : length part ≡ size + TRAILER_SIZE
   pub kind : take 1 (drop size part) ≡ PLAIN ∷ []
@@ -40,7 +41,8 @@ Between low high rows = All (λ r. IsTrue (is_above low r.0) × IsTrue (is_at_mo
 
 -- an index entry names a block of these rows, whose keys lie between the index key before it, where
 -- there is one, and its own
-pub record NamesBlock (limit : ℕ) (bytes : List ℕ) (low : Option (List ℕ)) (e : RowView) (rows : List RowView) : Type 0 where
+pub record NamesBlock (limit : ℕ) (bytes : List ℕ) (low : Option (List ℕ)) (e : RowView)
+    (rows : List RowView) : Type 0 where
   pub handle : Handle
   pub named : IsHandle e.1 handle
   pub stored : Stored limit bytes handle rows

@@ -34,10 +34,13 @@ fn put_named<S: Sink>(
     requires above { IsTrue (is_above index.old.last (key_or_empty block.old.last)) }
     requires key { length (key_or_empty block.old.last) ≤ MAX_KEY }
     requires room { block_size index.old < 2 ^ 32 }
-    ensures bytes { Puts (S.written sink.old) (S.written sink.new) (stored_text (block_text block.old)) result }
-    ensures good { OnOk result ((rows : List RowView) → HasRows block.old rows → IsBlock (block_text block.old) rows) }
+    ensures bytes { Puts (S.written sink.old) (S.written sink.new)
+        (stored_text (block_text block.old)) result }
+    ensures good { OnOk result ((rows : List RowView) → HasRows block.old rows
+        → IsBlock (block_text block.old) rows) }
     ensures index { Names index.old index.new (key_or_empty block.old.last) handle result }
-    ensures named { OnOk result ((rows : List RowView) → HasRows index.old rows → HasRows index.new (rows ++ (key_or_empty block.old.last, handle_text handle) ∷ [])) }
+    ensures named { OnOk result ((rows : List RowView) → HasRows index.old rows
+        → HasRows index.new (rows ++ (key_or_empty block.old.last, handle_text handle) ∷ [])) }
     ensures same { block.new ≡ block.old }
     ensures cause { HasCauseOf BuildErr.WriteFault (S.faults sink.old) (S.faults sink.new) result }
     ensures rest { S.beside sink.new ≡ S.beside sink.old }
@@ -63,10 +66,20 @@ fn close<S: Sink>(
     requires key { length (key_or_empty block.old.last) ≤ MAX_KEY }
     requires room { block_size index.old < 2 ^ 32 }
     requires at { at.old + block_size block.old < 2 ^ 63 }
-    ensures bytes { Puts (S.written sink.old) (S.written sink.new) (stored_text (block_text block.old)) result }
-    ensures good { OnOk result ((rows : List RowView) → HasRows block.old rows → IsBlock (block_text block.old) rows) }
-    ensures index { Names index.old index.new (key_or_empty block.old.last) (next_handle at.old (block_size block.old)) result }
-    ensures named { OnOk result ((rows : List RowView) → HasRows index.old rows → HasRows index.new (rows ++ (key_or_empty block.old.last, handle_text (next_handle at.old (block_size block.old))) ∷ [])) }
+    ensures bytes { Puts (S.written sink.old) (S.written sink.new)
+        (stored_text (block_text block.old)) result }
+    ensures good { OnOk result ((rows : List RowView) → HasRows block.old rows
+        → IsBlock (block_text block.old) rows) }
+    ensures index { Names index.old index.new (key_or_empty block.old.last)
+        (next_handle at.old (block_size block.old)) result }
+    ensures named { OnOk result ((rows : List RowView) → HasRows index.old rows
+        → HasRows index.new
+        (rows
+        ++ (
+          key_or_empty block.old.last,
+          handle_text
+              (next_handle at.old (block_size block.old)),
+        ) ∷ [])) }
     ensures block { block.new ≡ empty block.old.interval }
     ensures at { at.new ≡ at.old + (block_size block.old + TRAILER_SIZE) }
     ensures cause { HasCauseOf BuildErr.WriteFault (S.faults sink.old) (S.faults sink.new) result }
@@ -87,8 +100,10 @@ fn put_index<S: Sink>(
     named: Handle,
     sink: &mut S,
 ) -> Result<(), BuildErr>
-    ensures bytes { Puts (S.written sink.old) (S.written sink.new) (stored_text (block_text index.old) ++ footer_text meta named) result }
-    ensures good { OnOk result ((rows : List RowView) → HasRows index.old rows → IsBlock (block_text index.old) rows) }
+    ensures bytes { Puts (S.written sink.old) (S.written sink.new)
+        (stored_text (block_text index.old) ++ footer_text meta named) result }
+    ensures good { OnOk result ((rows : List RowView) → HasRows index.old rows
+        → IsBlock (block_text index.old) rows) }
     ensures size { length (footer_text meta named) ≡ FOOTER_SIZE }
     ensures read { footer_in (footer_text meta named) ≡ Ok (meta, named) }
     ensures cause { HasCauseOf BuildErr.WriteFault (S.faults sink.old) (S.faults sink.new) result }
@@ -110,7 +125,8 @@ fn put_ending<S: Sink>(index: &mut EntryBlock, at: u64, sink: &mut S) -> Result<
     requires room { block_size index.old < 2 ^ 62 }
     ensures bytes { Puts (S.written sink.old) (S.written sink.new) (ending_at at index.old) result }
     ensures length { IfOk result (λ n. n ≡ at + length (ending_at at index.old)) }
-    ensures table { OnOk result ((bytes : List ℕ) (rows : List RowView) → length bytes ≡ at → Indexes index.old bytes rows → IsTable (bytes ++ ending_at at index.old) rows) }
+    ensures table { OnOk result ((bytes : List ℕ) (rows : List RowView) → length bytes ≡ at
+        → Indexes index.old bytes rows → IsTable (bytes ++ ending_at at index.old) rows) }
     ensures cause { HasCauseOf BuildErr.WriteFault (S.faults sink.old) (S.faults sink.new) result }
     ensures rest { S.beside sink.new ≡ S.beside sink.old }
 {
@@ -143,9 +159,12 @@ fn put_rest<S: Sink>(
     requires key { length (key_or_empty block.old.last) ≤ MAX_KEY }
     requires room { block_size index.old < 2 ^ 32 }
     requires at { at + block_size block.old < 2 ^ 61 }
-    ensures bytes { Puts (S.written sink.old) (S.written sink.new) (finishing (builder_view block.old index.old at 0)) result }
-    ensures length { IfOk result (λ n. n ≡ at + length (finishing (builder_view block.old index.old at 0))) }
-    ensures table { OnOk result ((bytes : List ℕ) (rows : List RowView) → Builds (builder_view block.old index.old at 0) bytes rows
+    ensures bytes { Puts (S.written sink.old) (S.written sink.new)
+        (finishing (builder_view block.old index.old at 0)) result }
+    ensures length { IfOk result
+        (λ n. n ≡ at + length (finishing (builder_view block.old index.old at 0))) }
+    ensures table { OnOk result ((bytes : List ℕ) (rows : List RowView)
+        → Builds (builder_view block.old index.old at 0) bytes rows
         → IsTable (bytes ++ finishing (builder_view block.old index.old at 0)) rows) }
     ensures cause { HasCauseOf BuildErr.WriteFault (S.faults sink.old) (S.faults sink.new) result }
     ensures rest { S.beside sink.new ≡ S.beside sink.old }
@@ -233,15 +252,20 @@ impl TableBuilder {
     pub fn add<S: Sink>(&mut self, key: &[u8], value: &[u8], sink: &mut S) -> Result<(), BuildErr>
         requires { MayAdd self.old (key.now, value.now) }
         // What is written, and what the builder then is.
-        ensures bytes { Puts (S.written sink.old) (S.written sink.new) (written_by self.old (key.now, value.now)) result }
+        ensures bytes { Puts (S.written sink.old) (S.written sink.new)
+            (written_by self.old (key.now, value.now)) result }
         ensures kept { OnOk result (self.new ≡ after_row self.old (key.now, value.now)) }
         ensures last { OnOk result (last_added self.new ≡ Some key.now) }
-        ensures spent { OnOk result (self.new.spent ≡ self.old.spent + room_of (key.now, value.now)) }
+        ensures spent { OnOk result
+            (self.new.spent ≡ self.old.spent + room_of (key.now, value.now)) }
         // The rows that it represents.
-        ensures builds { OnOk result ((bytes : List ℕ) (rows : List RowView) → Builds self.old bytes rows
-            → Builds self.new (bytes ++ written_by self.old (key.now, value.now)) (rows ++ (key.now, value.now) ∷ [])) }
+        ensures builds { OnOk result ((bytes : List ℕ) (rows : List RowView)
+            → Builds self.old bytes rows
+            → Builds self.new (bytes ++ written_by self.old (key.now, value.now))
+            (rows ++ (key.now, value.now) ∷ [])) }
         // When it fails, and what stays.
-        ensures cause { HasCauseOf BuildErr.WriteFault (S.faults sink.old) (S.faults sink.new) result }
+        ensures cause { HasCauseOf BuildErr.WriteFault (S.faults sink.old)
+            (S.faults sink.new) result }
         ensures rest { S.beside sink.new ≡ S.beside sink.old }
     {
         match self.block.add(key, value) {
@@ -265,8 +289,10 @@ impl TableBuilder {
     pub fn finish<S: Sink>(self, sink: &mut S) -> Result<u64, BuildErr>
         ensures bytes { Puts (S.written sink.old) (S.written sink.new) (finishing self) result }
         ensures length { IfOk result (λ n. n ≡ self.at + length (finishing self)) }
-        ensures table { OnOk result ((bytes : List ℕ) (rows : List RowView) → Builds self bytes rows → IsTable (bytes ++ finishing self) rows) }
-        ensures cause { HasCauseOf BuildErr.WriteFault (S.faults sink.old) (S.faults sink.new) result }
+        ensures table { OnOk result ((bytes : List ℕ) (rows : List RowView) → Builds self bytes rows
+            → IsTable (bytes ++ finishing self) rows) }
+        ensures cause { HasCauseOf BuildErr.WriteFault (S.faults sink.old)
+            (S.faults sink.new) result }
         ensures rest { S.beside sink.new ≡ S.beside sink.old }
     {
         let TableBuilder {

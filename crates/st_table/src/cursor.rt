@@ -6,7 +6,7 @@ ghost use Rattle.st_base.specs.PlacedReads.{IsSameFile};
 ghost use Rattle.st_tblock.specs.Block.{RowView};
 ghost use Rattle.st_table.specs.TableFile.{footer_at};
 ghost use Rattle.st_table.specs.Index.{Decodes};
-ghost use Rattle.st_table.specs.Cursor.{unread, Advances, Fills, IsDone, ReadsNext, RefusesNext, Steps};
+ghost use Rattle.st_table.specs.Cursor.{unread, with_row, Advances, Fills, IsDone, ReadsNext, RefusesNext, Steps};
 
 use crate::errors::TableErr;
 use crate::index::{IndexEntry, block_at, key_before};
@@ -19,8 +19,8 @@ use std::marker::Model;
 
 /// How far the rows between two keys were read.
 ///
-/// It is seen as `CursorView`: the two keys, the rows of the block at hand that are still to come, and
-/// the number of the index entry that names the next block.
+/// It is seen as `CursorView`: the two keys, the rows of the block at hand that are still to come,
+/// and the number of the index entry that names the next block.
 #[derive(Drop)]
 pub struct Cursor {
     low: Octets,
@@ -56,7 +56,7 @@ impl Cursor {
     /// Takes the first of the rows at hand.
     fn take_row(&mut self) -> Option<Row>
         ensures { MatchOption result ((self.old.rows ≡ []) × (self.new ≡ self.old))
-            (λ r. self.old ≡ record { low = self.new.low; high = self.new.high; rows = r ∷ self.new.rows; next = self.new.next }) }
+            (λ r. self.old ≡ with_row r self.new) }
     {
         self.rows.pop_front()
     }
@@ -86,8 +86,10 @@ impl Cursor {
         ensures few { OnOk result (length self.new.rows ≤ R.extent file.old) }
         ensures err { OnErr result (self.new ≡ self.old) }
         ensures reads { R.reads file.new ≤ R.reads file.old + 1 }
-        ensures cause { HasCauseOf TableErr.ReadFault (R.faults file.old) (R.faults file.new) result }
-        ensures same { IsSameFile (R.content file.old) (R.content file.new) (R.extent file.old) (R.extent file.new) (R.beside file.old) (R.beside file.new) }
+        ensures cause { HasCauseOf TableErr.ReadFault (R.faults file.old)
+            (R.faults file.new) result }
+        ensures same { IsSameFile (R.content file.old) (R.content file.new) (R.extent file.old)
+            (R.extent file.new) (R.beside file.old) (R.beside file.new) }
     {
         let (low, high) = (self.low.bytes(), self.high.bytes());
         match read_rows(alloc, file, entries, block, self.next, low, high) {
@@ -131,12 +133,14 @@ fn read_rows<R: Reader>(
     requires { next < length entries.now }
     ensures rows { (bytes : List ℕ) (index : List RowView) → R.content file.old ≡ Some bytes
         → Decodes index entries.now
-        → MatchResult result (λ kept. ReadsNext (footer_at bytes) bytes index next low.now high.now kept.items)
+        → MatchResult result
+        (λ kept. ReadsNext (footer_at bytes) bytes index next low.now high.now kept.items)
         (λ e. RefusesNext (footer_at bytes) bytes index next e) }
     ensures few { IfOk result (λ kept. length kept.items ≤ R.extent file.old) }
     ensures reads { R.reads file.new ≤ R.reads file.old + 1 }
     ensures cause { HasCauseOf TableErr.ReadFault (R.faults file.old) (R.faults file.new) result }
-    ensures same { IsSameFile (R.content file.old) (R.content file.new) (R.extent file.old) (R.extent file.new) (R.beside file.old) (R.beside file.new) }
+    ensures same { IsSameFile (R.content file.old) (R.content file.new) (R.extent file.old)
+        (R.extent file.new) (R.beside file.old) (R.beside file.new) }
 {
     let (bounds, handle) = block_at(entries, next);
     match read_block(file, handle, block) {
@@ -160,7 +164,8 @@ pub fn step_in<R: Reader>(
     ensures advances { Advances (length entries.now) (R.extent file.old)
         (R.reads file.old) (R.reads file.new) cursor.old cursor.new result }
     ensures cause { HasCauseOf TableErr.ReadFault (R.faults file.old) (R.faults file.new) result }
-    ensures same { IsSameFile (R.content file.old) (R.content file.new) (R.extent file.old) (R.extent file.new) (R.beside file.old) (R.beside file.new) }
+    ensures same { IsSameFile (R.content file.old) (R.content file.new) (R.extent file.old)
+        (R.extent file.new) (R.beside file.old) (R.beside file.new) }
 {
     'steps: loop {
         if let Some(row) = cursor.take_row() {

@@ -27,7 +27,8 @@ pub struct IndexEntry {
 
 /// The handle that `value` is.
 fn handle_of(value: &[u8]) -> Option<Handle>
-    ensures { MatchOption result (is_whole (handle_in value.now) ≡ false) (λ h. IsHandle value.now h) }
+    ensures { MatchOption result (is_whole (handle_in value.now) ≡ false)
+        (λ h. IsHandle value.now h) }
 {
     match get_handle(value) {
         Some((handle, [])) => Some(handle),
@@ -39,7 +40,8 @@ fn handle_of(value: &[u8]) -> Option<Handle>
 /// Goes past the next entry of the index block, and gives it.
 fn next_entry(alloc: Global, cursor: &mut EntryCursor<'_>) -> Result<Option<IndexEntry>, TableErr>
     ensures steps { StepsIndex cursor.old cursor.new result }
-    ensures shorter { IfOk result (λ o. OnSome o (length cursor.new.reading.rest < length cursor.old.reading.rest)) }
+    ensures shorter { IfOk result
+        (λ o. OnSome o (length cursor.new.reading.rest < length cursor.old.reading.rest)) }
     ensures error { IfErr result (λ e. e ≢ TableErr.ReadFault) }
 {
     let place = cursor.offset();
@@ -59,7 +61,8 @@ fn next_entry(alloc: Global, cursor: &mut EntryCursor<'_>) -> Result<Option<Inde
 /// The entries of the index block `block`, which is at the offset `base` of its file.
 fn entries_in(alloc: Global, block: &[u8], base: u64) -> Result<Vec<IndexEntry>, TableErr>
     requires { base + length block.now < 2 ^ 64 }
-    ensures entries { MatchResult result (λ v. HasEntries block.now v.items) (λ e. RefusesBlock holds_handle base block.now e) }
+    ensures entries { MatchResult result (λ v. HasEntries block.now v.items)
+        (λ e. RefusesBlock holds_handle base block.now e) }
     ensures error { IfErr result (λ e. e ≢ TableErr.ReadFault) }
 {
     let mut cursor = match EntryCursor::new(block, base) {
@@ -98,7 +101,8 @@ fn read_handle<R: Reader>(file: &mut R) -> Result<Handle, TableErr>
     ensures footer { (bytes : List ℕ) → R.content file.old ≡ Some bytes → ReadsFooter bytes result }
     ensures cause { HasCauseOf TableErr.ReadFault (R.faults file.old) (R.faults file.new) result }
     ensures reads { R.reads file.new ≤ R.reads file.old + 1 }
-    ensures same { IsSameFile (R.content file.old) (R.content file.new) (R.extent file.old) (R.extent file.new) (R.beside file.old) (R.beside file.new) }
+    ensures same { IsSameFile (R.content file.old) (R.content file.new) (R.extent file.old)
+        (R.extent file.new) (R.beside file.old) (R.beside file.new) }
 {
     let size = file.size();
     if size < FOOTER_SIZE as u64 {
@@ -133,7 +137,8 @@ pub fn read_index<R: Reader>(
         → MatchResult result (λ v. Entered bytes v.items) (λ e. RefusesTable bytes e) }
     ensures cause { HasCauseOf TableErr.ReadFault (R.faults file.old) (R.faults file.new) result }
     ensures reads { R.reads file.new ≤ R.reads file.old + 2 }
-    ensures same { IsSameFile (R.content file.old) (R.content file.new) (R.extent file.old) (R.extent file.new) (R.beside file.old) (R.beside file.new) }
+    ensures same { IsSameFile (R.content file.old) (R.content file.new) (R.extent file.old)
+        (R.extent file.new) (R.beside file.old) (R.beside file.new) }
 {
     let handle = match read_handle(file) {
         Ok(handle) => handle,
@@ -183,7 +188,8 @@ pub fn key_before(entries: &[IndexEntry], i: usize) -> Option<&[u8]>
 /// The index keys around the block that the entry of this number names, and where the block is.
 pub fn block_at(entries: &[IndexEntry], i: usize) -> (Bounds<'_>, Handle)
     requires { i < length entries.now }
-    ensures { (index : List RowView) → Decodes index entries.now → IsBlockAt index i result.0 result.1 }
+    ensures { (index : List RowView) → Decodes index entries.now
+        → IsBlockAt index i result.0 result.1 }
 {
     let low = key_before(entries, i);
     let entry = &entries[i];
@@ -193,7 +199,8 @@ pub fn block_at(entries: &[IndexEntry], i: usize) -> (Bounds<'_>, Handle)
 
 /// The key of the last entry, or no bytes where there is none.
 pub fn last_of(entries: &[IndexEntry]) -> &[u8]
-    ensures { (index : List RowView) → Decodes index entries.now → result.now ≡ key_or_empty (last_key None index) }
+    ensures { (index : List RowView) → Decodes index entries.now
+        → result.now ≡ key_or_empty (last_key None index) }
 {
     if entries.is_empty() {
         return &[];

@@ -15,12 +15,14 @@ pub fn keys_rise()
 
 /// Bytes are a table of one list of rows at most.
 pub fn one_list_of_rows()
-    ensures { (bytes : List ℕ) (rows others : List RowView) → IsTable bytes rows → IsTable bytes others → others ≡ rows }
+    ensures { (bytes : List ℕ) (rows others : List RowView) → IsTable bytes rows
+        → IsTable bytes others → others ≡ rows }
 {}
 
 /// A step after a step is a step over both.
 pub fn steps_join()
-    ensures { (limit : ℕ) (bytes : List ℕ) (index : List RowView) (old mid new : CursorView) (given more : List RowView)
+    ensures { (limit : ℕ) (bytes : List ℕ) (index : List RowView) (old mid new : CursorView)
+        (given more : List RowView)
         → Goes limit bytes index old mid given → Goes limit bytes index mid new more
         → Goes limit bytes index old new (given ++ more) }
 {}
@@ -28,8 +30,10 @@ pub fn steps_join()
 /// A reading of an entered table from no bytes to the last index key, to its end, says that the
 /// bytes are a table of the rows that it gave.
 pub fn whole_reading()
-    ensures { (bytes : List ℕ) (entries : List IndexEntry) (old new : CursorView) (rows : List RowView)
-        → (entered : Entered bytes entries) → ReadsAll (footer_at bytes) bytes entered.index old new rows
+    ensures { (bytes : List ℕ) (entries : List IndexEntry) (old new : CursorView)
+        (rows : List RowView)
+        → (entered : Entered bytes entries)
+        → ReadsAll (footer_at bytes) bytes entered.index old new rows
         → IsTable bytes rows }
 {}
 

@@ -1,8 +1,8 @@
 //! Tables: files of rows in the order of their keys, in LevelDB's format, both ways.
 //!
-//! A row is a key and a value; keys are ordered by bytes, lengths are in bytes. The rows are in data
-//! blocks, which the index block names by keys. The footer ends the file and names the index block
-//! and a metaindex block. The trailer after a block is its type byte and its masked sum.
+//! A row is a key and a value; keys are ordered by bytes, lengths are in bytes. The rows are in
+//! data blocks, which the index block names by keys. The footer ends the file and names the index
+//! block and a metaindex block. The trailer after a block is its type byte and its masked sum.
 //! Source: LevelDB, doc/table_format.md, table/table_builder.cc; docs/FORMAT.md, "Table file".
 //!
 //! # What it promises
@@ -13,8 +13,8 @@
 //!   and the rows between two keys in their order (`Table::range`, `Table::step`). Over other bytes
 //!   it is refused by the first check that fails in what it reads, with its place.
 //! - Over any file a reading between two keys ends, and reads each data block once (`Table::step`).
-//! - A fault of the sink or of the file is answered only if its count rose, and a call that succeeds
-//!   leaves the count as it was.
+//! - A fault of the sink or of the file is answered only if its count rose, and a call that
+//!   succeeds leaves the count as it was.
 //! - Laws: keys rise over all blocks (`keys_rise`); bytes are a table of one list of rows at most
 //!   (`one_list_of_rows`); a step after a step is a step over both (`steps_join`); a reading of all
 //!   rows to the end says that the bytes are a table of them (`whole_reading`, `whole_range`).

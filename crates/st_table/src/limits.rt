@@ -1,4 +1,5 @@
-/// A data block is closed once it takes this many bytes. Source: LevelDB, include/leveldb/options.h.
+/// A data block is closed once it takes this many bytes. Source: LevelDB,
+/// include/leveldb/options.h.
 pub const BLOCK_SIZE: u64 = 4096;
 
 /// How many entries of a data block share one restart. Source: LevelDB,

@@ -61,7 +61,8 @@ fn next_row<'a>(
     bounds: &Bounds<'_>,
 ) -> Result<Option<&'a [u8]>, TableErr>
     ensures steps { StepsOn (lies_in bounds.now) cursor.old cursor.new result }
-    ensures shorter { IfOk result (λ o. OnSome o (length cursor.new.reading.rest < length cursor.old.reading.rest)) }
+    ensures shorter { IfOk result
+        (λ o. OnSome o (length cursor.new.reading.rest < length cursor.old.reading.rest)) }
     ensures error { IfErr result (λ e. e ≢ TableErr.ReadFault) }
 {
     let place = cursor.offset();
@@ -84,7 +85,8 @@ fn chosen<'a>(
     key: &[u8],
     wanted: &[u8],
 ) -> Option<&'a [u8]>
-    ensures { option_map (λ v. v.now) result ≡ answer_after wanted.now (key.now, value.now) (option_map (λ v. v.now) found.entry) }
+    ensures { option_map (λ v. v.now) result ≡ answer_after wanted.now (key.now, value.now)
+        (option_map (λ v. v.now) found.entry) }
 {
     if key.cmp(wanted).is_lt() || wanted.cmp(key).is_lt() {
         return found;
@@ -106,8 +108,8 @@ fn copied(alloc: Global, found: Option<&[u8]>) -> Result<Option<Octets>, TableEr
     }
 }
 
-/// The value of `wanted` in the data block `block`, which is at the offset `base` of its file and is
-/// read to its end.
+/// The value of `wanted` in the data block `block`, which is at the offset `base` of its file and
+/// is read to its end.
 ///
 /// Damage is that of the first check that fails: the restarts, an entry, its key against the index
 /// keys around the block.
@@ -139,7 +141,8 @@ pub fn value_in(
 /// The value of `wanted` in the data block `block`, which was checked to its end before: over bytes
 /// that fail a check the answer says nothing.
 pub fn value_found(alloc: Global, block: &[u8], wanted: &[u8]) -> Result<Option<Octets>, TableErr>
-    ensures value { (rows : List RowView) → IsBlock block.now rows → IfOk result (λ o. o ≡ lookup wanted.now rows) }
+    ensures value { (rows : List RowView) → IsBlock block.now rows
+        → IfOk result (λ o. o ≡ lookup wanted.now rows) }
     ensures error { IfErr result (λ e. e ≡ TableErr.NoMemory) }
 {
     copied(alloc, find(block, wanted))
@@ -169,7 +172,8 @@ fn keep(
     low: &[u8],
     high: &[u8],
 ) -> Result<(), NoMemory>
-    ensures rows { OnOk result (kept.new.items ≡ kept.old.items ++ in_range low.now high.now ((key.now, value.now) ∷ [])) }
+    ensures rows { OnOk result
+        (kept.new.items ≡ kept.old.items ++ in_range low.now high.now ((key.now, value.now) ∷ [])) }
     ensures one { OnOk result (length kept.new.items ≤ length kept.old.items + 1) }
 {
     if high.cmp(key).is_lt() || key.cmp(low).is_lt() {
@@ -197,7 +201,8 @@ pub fn rows_in(
     high: &[u8],
 ) -> Result<VecDeque<Row>, TableErr>
     requires { base + length block.now < 2 ^ 64 }
-    ensures rows { MatchResult result (λ kept. KeepsRange (lies_in bounds.now) block.now low.now high.now kept.items)
+    ensures rows { MatchResult result
+        (λ kept. KeepsRange (lies_in bounds.now) block.now low.now high.now kept.items)
         (λ e. RefusesBlock (lies_in bounds.now) base block.now e) }
     ensures few { IfOk result (λ kept. length kept.items ≤ length block.now) }
     ensures error { IfErr result (λ e. e ≢ TableErr.ReadFault) }

@@ -58,7 +58,8 @@ fn part_refused(handle: Handle, part: &[u8]) -> Option<TableErr>
 fn handle_refused(limit: u64, handle: Handle) -> Option<TableErr>
     requires { limit < 2 ^ 64 - 1 }
     ensures value { option_map err_view result ≡ handle_wrong limit handle }
-    ensures within { MatchOption result (handle.offset + (handle.size + TRAILER_SIZE) ≤ limit) (λ e. e ≢ TableErr.ReadFault) }
+    ensures within { MatchOption result (handle.offset + (handle.size + TRAILER_SIZE) ≤ limit)
+        (λ e. e ≢ TableErr.ReadFault) }
 {
     let end = u128::from(handle.offset) + (u128::from(handle.size) + TRAILER_SIZE as u128);
     if end <= u128::from(limit) {
@@ -84,7 +85,8 @@ fn read_part<R: Reader>(
     ensures error { IfErr result NoCheckFailed }
     ensures cause { HasCauseOf TableErr.ReadFault (R.faults file.old) (R.faults file.new) result }
     ensures reads { R.reads file.new ≤ R.reads file.old + 1 }
-    ensures same { IsSameFile (R.content file.old) (R.content file.new) (R.extent file.old) (R.extent file.new) (R.beside file.old) (R.beside file.new) }
+    ensures same { IsSameFile (R.content file.old) (R.content file.new) (R.extent file.old)
+        (R.extent file.new) (R.beside file.old) (R.beside file.new) }
 {
     if part.resize(len, 0).is_err() {
         return Err(TableErr::NoMemory);
@@ -110,7 +112,8 @@ pub fn read_block<R: Reader>(
     ensures within { OnOk result (vec_len block.new ≤ R.extent file.old) }
     ensures cause { HasCauseOf TableErr.ReadFault (R.faults file.old) (R.faults file.new) result }
     ensures reads { R.reads file.new ≤ R.reads file.old + 1 }
-    ensures same { IsSameFile (R.content file.old) (R.content file.new) (R.extent file.old) (R.extent file.new) (R.beside file.old) (R.beside file.new) }
+    ensures same { IsSameFile (R.content file.old) (R.content file.new) (R.extent file.old)
+        (R.extent file.new) (R.beside file.old) (R.beside file.new) }
 {
     let limit = file.size().saturating_sub(FOOTER_SIZE as u64);
     if let Some(error) = handle_refused(limit, handle) {

@@ -72,7 +72,8 @@ fn get_in<R: Reader>(
         → Checked (footer_at bytes) bytes None entries.now marks.new }
     ensures cause { HasCauseOf TableErr.ReadFault (R.faults file.old) (R.faults file.new) result }
     ensures reads { R.reads file.new ≤ R.reads file.old + 1 }
-    ensures same { IsSameFile (R.content file.old) (R.content file.new) (R.extent file.old) (R.extent file.new) (R.beside file.old) (R.beside file.new) }
+    ensures same { IsSameFile (R.content file.old) (R.content file.new) (R.extent file.old)
+        (R.extent file.new) (R.beside file.old) (R.beside file.new) }
 {
     let i = lower_bound(entries, key);
     if i >= entries.len() {
@@ -124,17 +125,23 @@ impl<'a, R: Reader> Table<'a, R> {
     pub fn enter(&mut self, alloc: Global) -> Result<(), TableErr>
         ensures enters { (bytes : List ℕ) → R.content self.old.file.now ≡ Some bytes
             → Enters bytes self.new.kept.entries.items result }
-        ensures table { (bytes : List ℕ) (rows : List RowView) → R.content self.old.file.now ≡ Some bytes
+        ensures table { (bytes : List ℕ) (rows : List RowView)
+            → R.content self.old.file.now ≡ Some bytes
             → IsTable bytes rows → IfErr result NoCheckFailed }
         ensures checked { OnOk result ((bytes : List ℕ)
-            → Checked (footer_at bytes) bytes None self.new.kept.entries.items self.new.kept.checked.items) }
-        ensures err { OnErr result ((self.new.kept.entries ≡ self.old.kept.entries) × (self.new.kept.checked ≡ self.old.kept.checked)) }
+            → Checked (footer_at bytes) bytes None
+            self.new.kept.entries.items self.new.kept.checked.items) }
+        ensures err { OnErr result ((self.new.kept.entries ≡ self.old.kept.entries)
+            × (self.new.kept.checked ≡ self.old.kept.checked)) }
 
         // What becomes of the file.
         ensures same_reference { self.new.file.ghost_name ≡ self.old.file.ghost_name }
-        ensures cause { HasCauseOf TableErr.ReadFault (R.faults self.old.file.now) (R.faults self.new.file.now) result }
+        ensures cause { HasCauseOf TableErr.ReadFault (R.faults self.old.file.now)
+            (R.faults self.new.file.now) result }
         ensures reads { R.reads self.new.file.now ≤ R.reads self.old.file.now + 2 }
-        ensures same { IsSameFile (R.content self.old.file.now) (R.content self.new.file.now) (R.extent self.old.file.now) (R.extent self.new.file.now) (R.beside self.old.file.now) (R.beside self.new.file.now) }
+        ensures same { IsSameFile (R.content self.old.file.now) (R.content self.new.file.now)
+            (R.extent self.old.file.now) (R.extent self.new.file.now) (R.beside self.old.file.now)
+            (R.beside self.new.file.now) }
     {
         match read_index(alloc, self.file, &mut self.kept.block) {
             Ok(entries) => match unmarked(alloc, entries.len()) {
@@ -162,23 +169,31 @@ impl<'a, R: Reader> Table<'a, R> {
     pub fn get(&mut self, alloc: Global, key: &[u8]) -> Result<Option<Octets>, TableErr>
         ensures gets { (bytes : List ℕ) → R.content self.old.file.now ≡ Some bytes
             → (entered : Entered bytes self.old.kept.entries.items)
-            → Checked (footer_at bytes) bytes None self.old.kept.entries.items self.old.kept.checked.items
+            → Checked (footer_at bytes) bytes None
+            self.old.kept.entries.items self.old.kept.checked.items
             → Gets (footer_at bytes) bytes key.now entered.index result }
-        ensures table { (bytes : List ℕ) (rows : List RowView) → R.content self.old.file.now ≡ Some bytes
+        ensures table { (bytes : List ℕ) (rows : List RowView)
+            → R.content self.old.file.now ≡ Some bytes
             → Entered bytes self.old.kept.entries.items
-            → Checked (footer_at bytes) bytes None self.old.kept.entries.items self.old.kept.checked.items
+            → Checked (footer_at bytes) bytes None
+            self.old.kept.entries.items self.old.kept.checked.items
             → IsTable bytes rows → GetsRow key.now rows result }
         ensures checked { (bytes : List ℕ) → R.content self.old.file.now ≡ Some bytes
             → Entered bytes self.old.kept.entries.items
-            → Checked (footer_at bytes) bytes None self.old.kept.entries.items self.old.kept.checked.items
-            → Checked (footer_at bytes) bytes None self.new.kept.entries.items self.new.kept.checked.items }
+            → Checked (footer_at bytes) bytes None
+            self.old.kept.entries.items self.old.kept.checked.items
+            → Checked (footer_at bytes) bytes None
+            self.new.kept.entries.items self.new.kept.checked.items }
         ensures entries { self.new.kept.entries ≡ self.old.kept.entries }
 
         // What becomes of the file.
         ensures same_reference { self.new.file.ghost_name ≡ self.old.file.ghost_name }
-        ensures cause { HasCauseOf TableErr.ReadFault (R.faults self.old.file.now) (R.faults self.new.file.now) result }
+        ensures cause { HasCauseOf TableErr.ReadFault (R.faults self.old.file.now)
+            (R.faults self.new.file.now) result }
         ensures reads { R.reads self.new.file.now ≤ R.reads self.old.file.now + 1 }
-        ensures same { IsSameFile (R.content self.old.file.now) (R.content self.new.file.now) (R.extent self.old.file.now) (R.extent self.new.file.now) (R.beside self.old.file.now) (R.beside self.new.file.now) }
+        ensures same { IsSameFile (R.content self.old.file.now) (R.content self.new.file.now)
+            (R.extent self.old.file.now) (R.extent self.new.file.now) (R.beside self.old.file.now)
+            (R.beside self.new.file.now) }
     {
         get_in(
             alloc,
@@ -197,10 +212,14 @@ impl<'a, R: Reader> Table<'a, R> {
     pub fn range(&self, alloc: Global, low: &[u8], high: &[u8]) -> Result<Cursor, NoMemory>
         ensures unread { IfOk result (λ c. c ≡ unread low.now high.now c.next) }
         ensures first { (bytes : List ℕ) (entered : Entered bytes self.now.kept.entries.items)
-            → IfOk result (λ c. entry_for low.now None entered.index ≡ found_at entered.index c.next) }
-        ensures table { (bytes : List ℕ) (rows : List RowView) (entered : Entered bytes self.now.kept.entries.items)
+            → IfOk result
+            (λ c. entry_for low.now None entered.index ≡ found_at entered.index c.next) }
+        ensures table { (bytes : List ℕ) (rows : List RowView)
+            (entered : Entered bytes self.now.kept.entries.items)
             → IsTable bytes rows
-            → IfOk result (λ c. Coming (footer_at bytes) bytes entered.index c (in_range low.now high.now rows)) }
+            → IfOk result
+            (λ c. Coming (footer_at bytes) bytes entered.index c
+            (in_range low.now high.now rows)) }
     {
         let next = lower_bound(self.kept.entries.as_slice(), low);
         Cursor::begin(alloc, low, high, next)
@@ -208,37 +227,43 @@ impl<'a, R: Reader> Table<'a, R> {
 
     /// The next row of `cursor`, in the order of the keys, or `None` after the last one.
     ///
-    /// Each data block is read whole, by one read at most, before its first row is given, and once in
-    /// a reading. Damage is
-    /// that of its first check that fails, in the order of docs/FORMAT.md, "Checks": its end, its
-    /// type byte, its sum, its restarts; each entry, its key above the last one and between the
-    /// index keys around the block. `Compressed` comes if and only if the type byte is 1.
-    /// `ReadFault` comes only if the file failed in this call. After an error `cursor` is before
-    /// that block.
+    /// Each data block is read whole, by one read at most, before its first row is given, and once
+    /// in a reading. Damage is that of its first check that fails, in the order of docs/FORMAT.md,
+    /// "Checks": its end, its type byte, its sum, its restarts; each entry, its key above the last
+    /// one and between the index keys around the block. `Compressed` comes if and only if the type
+    /// byte is 1. `ReadFault` comes only if the file failed in this call. After an error `cursor`
+    /// is before that block.
     ///
-    /// Over any file a reading ends: each row that is given leaves fewer to come (`most_left`). A row
-    /// at hand is given without a read; a block is passed over only where none of its rows is in
-    /// the range.
+    /// Over any file a reading ends: each row that is given leaves fewer to come (`most_left`). A
+    /// row at hand is given without a read; a block is passed over only if none of its rows is
+    /// in the range.
     pub fn step(&mut self, alloc: Global, cursor: &mut Cursor) -> Result<Option<Row>, TableErr>
         ensures steps { (bytes : List ℕ) → R.content self.old.file.now ≡ Some bytes
             → (entered : Entered bytes self.old.kept.entries.items)
             → Steps (footer_at bytes) bytes entered.index cursor.old cursor.new result }
-        ensures table { (bytes : List ℕ) (more : List RowView) → R.content self.old.file.now ≡ Some bytes
+        ensures table { (bytes : List ℕ) (more : List RowView)
+            → R.content self.old.file.now ≡ Some bytes
             → (entered : Entered bytes self.old.kept.entries.items)
             → Coming (footer_at bytes) bytes entered.index cursor.old more
             → StepsRow (footer_at bytes) bytes entered.index more cursor.new result }
         ensures sound { (bytes : List ℕ) → R.content self.old.file.now ≡ Some bytes
             → (entered : Entered bytes self.old.kept.entries.items)
             → HoldsNamed (footer_at bytes) bytes entered.index cursor.old
-            → HoldsNamed (footer_at bytes) bytes entered.index cursor.new × GivesNamed (footer_at bytes) bytes entered.index result }
-        ensures advances { Advances (length self.old.kept.entries.items) (R.extent self.old.file.now)
+            → HoldsNamed (footer_at bytes) bytes entered.index cursor.new
+            × GivesNamed (footer_at bytes) bytes entered.index result }
+        ensures advances { Advances (length self.old.kept.entries.items)
+            (R.extent self.old.file.now)
             (R.reads self.old.file.now) (R.reads self.new.file.now) cursor.old cursor.new result }
-        ensures kept { (self.new.kept.entries ≡ self.old.kept.entries) × (self.new.kept.checked ≡ self.old.kept.checked) }
+        ensures kept { (self.new.kept.entries ≡ self.old.kept.entries)
+            × (self.new.kept.checked ≡ self.old.kept.checked) }
 
         // What becomes of the file.
         ensures same_reference { self.new.file.ghost_name ≡ self.old.file.ghost_name }
-        ensures cause { HasCauseOf TableErr.ReadFault (R.faults self.old.file.now) (R.faults self.new.file.now) result }
-        ensures same { IsSameFile (R.content self.old.file.now) (R.content self.new.file.now) (R.extent self.old.file.now) (R.extent self.new.file.now) (R.beside self.old.file.now) (R.beside self.new.file.now) }
+        ensures cause { HasCauseOf TableErr.ReadFault (R.faults self.old.file.now)
+            (R.faults self.new.file.now) result }
+        ensures same { IsSameFile (R.content self.old.file.now) (R.content self.new.file.now)
+            (R.extent self.old.file.now) (R.extent self.new.file.now) (R.beside self.old.file.now)
+            (R.beside self.new.file.now) }
     {
         step_in(
             alloc,
@@ -254,7 +279,8 @@ impl<'a, R: Reader> Table<'a, R> {
     pub fn last_key(&self) -> &[u8]
         ensures last { (bytes : List ℕ) (entered : Entered bytes self.now.kept.entries.items)
             → result.now ≡ key_or_empty (last_key None entered.index) }
-        ensures table { (bytes : List ℕ) (rows : List RowView) → Entered bytes self.now.kept.entries.items
+        ensures table { (bytes : List ℕ) (rows : List RowView)
+            → Entered bytes self.now.kept.entries.items
             → IsTable bytes rows → All (λ r. IsTrue (is_at_most result.now r.0)) rows }
     {
         last_of(self.kept.entries.as_slice())

@@ -1,4 +1,4 @@
--- An entry put behind others.
+-- An entry put after others.
 use Rattle.std.proofs.Common.{◌≡◌, ℕ, zero, suc, ◌+◌, ◌-◌, ◌<◌, ◌≤◌, ◌^◌, Bool, true, false, cond, List, [], ◌∷◌, ◌++◌, append_assoc, append-nil, length, length-append, take, drop, Option, Some, None, refl, sym, ap, ◌∙◌, subst, arith, ◌⊎◌, inl, inr}
 use Rattle.std.specs.Prelude.{nat_eq, nat_lt, nat_le, if◌then◌else◌, IsTrue}
 use Rattle.std.specs.List.{common_prefix_len}
@@ -32,7 +32,7 @@ entry_again last shared key value rest l k lk lv =
     rw (flat, length_again shared (b ++ (c ++ (unshared ++ (value ++ rest)))) (omega arith), length_again (length key - shared) (c ++ (unshared ++ (value ++ rest))) (omega arith), length_again (length value) (unshared ++ (value ++ rest)) lv, size)
     (parts_again last shared unshared value rest l)
 
--- what two keys have in common stands at the front of both
+-- what two keys have in common is at the start of both
 common_front : (last key : List ℕ) → take (common_prefix_len nat_eq last key) last ≡ take (common_prefix_len nat_eq last key) key
 common_front [] key = refl
 common_front (x ∷ xs) [] = refl
@@ -127,7 +127,7 @@ entry_some shared key value k lk lv =
     let same = append-nil text in
     omega (arith, front.1, ap length same)
 
--- with one more entry a draft holds one more row
+-- with one more entry a builder holds one more row
 pub has_added : (d : EntryBlockView) (key value : List ℕ) → IsSound d → IsTrue (is_above d.last key) → length key < 2 ^ 32 → length value < 2 ^ 32 → (rows : List RowView) → HasRows d rows → HasRows (added d key value) (rows ++ (key, value) ∷ [])
 has_added d key value sound above lk lv rows h =
     let w = h.end in

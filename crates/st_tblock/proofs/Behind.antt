@@ -1,4 +1,5 @@
--- What stands behind an entry is an end of its text, and an entry is read behind every key that is long enough.
+-- What is after an entry is an end of its text, and an entry is read after every key that is long
+-- enough.
 use Rattle.std.proofs.Common.{◌≡◌, ℕ, ◌+◌, ◌-◌, ◌<◌, ◌≤◌, ◌^◌, false, List, [], ◌∷◌, length, take, drop, Option, Some, None, refl, sym, ap, ◌∙◌, subst, arith, inl, inr}
 use Rattle.std.specs.Prelude.{nat_lt}
 use Rattle.std.proofs.lemmas.List.{length-drop, drop-drop}
@@ -114,7 +115,7 @@ walk_end (r ∷ rows) w v h =
     let tail = walk_end rows (past w h.0) v h.4 in
     (omega (arith, tail.0, read.1), end_trans w.rest h.0.1 v.rest read tail.1)
 
--- the text to come stands behind as many bytes as a reading has gone
+-- the text to come is after as many bytes as a reading has gone
 pub rest_at : (text restarts : List ℕ) (rows : List RowView) (v : BlockReading) → Rows (start text restarts) rows v → v.rest ≡ drop v.at text
 rest_at text restarts rows v h =
     let gone = walk_end rows (start text restarts) v h in

@@ -1,4 +1,4 @@
--- A draft's text with its restarts behind it is a good block.
+-- A builder's text with its restarts after it is a block.
 use Rattle.std.proofs.Common.{◌≡◌, ℕ, ◌+◌, ◌-◌, ◌*◌, ◌<◌, ◌≤◌, ◌^◌, Bool, false, List, [], ◌∷◌, ◌++◌, length, length-append, take, drop, All, Option, Some, None, refl, ap, ◌∙◌, arith, ◌⊎◌, inl, inr}
 use Rattle.std.specs.Prelude.{nat_lt, if◌then◌else◌, IsTrue}
 use Rattle.std.proofs.lemmas.List.Elements.{All-head, All-tail}
@@ -35,7 +35,7 @@ block_text_size d =
     let restarts = places_size d.restarts in
     omega arith
 
--- the restarts behind a text are read from the block
+-- the restarts after a text are read from the block
 restarts_again : (text : List ℕ) (restarts : List ℕ) → IsTrue (begins restarts) → All (λ n. n < 2 ^ 32) restarts → 4 * length restarts ≤ 2 ^ 32 → restarts_in (text ++ restarts_text restarts ++ little_bytes 4 (length restarts)) ≡ Some (text, restarts)
 unfolding restarts_in halves_in
 restarts_again text restarts b a l =
@@ -65,7 +65,7 @@ restarts_again text restarts b a l =
     ∙ ap (λ (ns : List ℕ). if begins ns then Some (text, ns) else None) again
     ∙ rw b refl
 
--- what a draft holds is a good block of its rows once it is finished
+-- what a builder holds is a block of its rows once it is finished
 pub block_when_finished : (d : EntryBlockView) (rows : List RowView) → IsSound d → HasRows d rows → IsBlock (block_text d) rows
 unfolding block_text
 block_when_finished d rows sound h =

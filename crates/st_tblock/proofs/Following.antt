@@ -1,4 +1,5 @@
--- What a caller of a cursor needs: a block has one list of rows, and what was read so far is a front of it.
+-- What a caller of a cursor needs: a block has one list of rows, and what was read so far is a
+-- prefix of it.
 use Rattle.std.proofs.Common.{◌≡◌, ℕ, List, [], ◌∷◌, ◌++◌, append-nil, length, Option, Some, None, refl, sym, ap, ◌∙◌, subst}
 use Rattle.st_tblock.specs.Parsing.{Read}
 use Rattle.st_tblock.specs.Block.{RowView, Entry, BlockReading, Rows, entry_in, next_in, rising, key_or_empty, key_of, past, start, restarts_in, IsBlock}
@@ -19,7 +20,7 @@ pub ends_here : (w v : BlockReading) (rows : List RowView) → w.rest ≡ [] →
 ends_here w v [] e h = refl
 ends_here w v (r ∷ rows) e h = absurd (let n = no_next w e in let s = h.1 in cc)
 
--- rows that were read are a front of those that stand in the whole text, and the others are to come
+-- rows that were read are a prefix of those that are in the whole text, and the others are to come
 pub prefix_of_all : (done rows : List RowView) (a w end : BlockReading) → Rows a done w → Rows a rows end → end.rest ≡ [] → (more : List RowView) × (rows ≡ done ++ more) × Rows w more end
 prefix_of_all [] rows a w end d r e = (rows, refl, subst (λ (u : BlockReading). Rows u rows end) d r)
 prefix_of_all (q ∷ done) [] a w end d r e =
@@ -44,7 +45,7 @@ parts_same bytes t s p q e f =
     let inner : ◌≡◌ {A = List ℕ × List ℕ} (t, p) (s, q) = cc in
     (ap (λ (x : List ℕ × List ℕ). x.0) inner, ap (λ (x : List ℕ × List ℕ). x.1) inner)
 
--- what was read of a good block is a front of its rows
+-- what was read of a block is a prefix of its rows
 pub prefix_of_block : (bytes text restarts : List ℕ) (done rows : List RowView) (w : BlockReading) → restarts_in bytes ≡ Some (text, restarts) → Rows (start text restarts) done w → (g : IsBlock bytes rows) → (more : List RowView) × (rows ≡ done ++ more) × Rows w more g.end
 prefix_of_block bytes text restarts done rows w e d g =
     let same = parts_same bytes text g.text restarts g.restarts e g.split in
@@ -58,12 +59,12 @@ one_reading bytes rows others g h =
     let none = ends_here g.end h.end front.0 g.whole front.2 in
     sym (front.1 ∙ ap (λ (more : List RowView). rows ++ more) none ∙ append-nil rows)
 
--- the last key of rows behind a key
+-- the last key of rows after a key
 abbrev pub last_of : Option (List ℕ) → List RowView → Option (List ℕ)
 last_of low [] = low
 last_of low (r ∷ rows) = last_of (Some r.0) rows
 
--- behind rows the last key is that of the last row
+-- after rows the last key is that of the last row
 pub rows_last : (rows : List RowView) (w v : BlockReading) → Rows w rows v → v.last ≡ last_of w.last rows
 rows_last [] w v h = ap (λ (u : BlockReading). u.last) (sym h)
 rows_last (r ∷ rows) w v h = rows_last rows (past w h.0) v h.4 ∙ ap (λ (k : List ℕ). last_of (Some k) rows) h.2

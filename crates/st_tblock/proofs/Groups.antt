@@ -39,7 +39,7 @@ power_ten k l = pow-le-pow_right {n = 128} (omega arith) {i = k} {j = 10} l
 
 pub ruleset powers = (power_step, power_some, power_ten)
 
--- a group is written, and those that are left behind it
+-- a group is written, and those that are left after it
 pub groups_written : (out : List ℕ) (len rest : ℕ) → len < 9 → 128 ≤ rest → (out ++ (128 + rest % 128) ∷ []) ++ groups_of (9 - (len + 1)) (rest / 128) ≡ out ++ groups_of (9 - len) rest
 groups_written out len rest l m =
     let one : 9 - len - 1 ≡ 9 - (len + 1) = omega arith in

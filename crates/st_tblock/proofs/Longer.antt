@@ -1,4 +1,4 @@
--- What is read at the front of bytes is read there whatever follows, and so are rows.
+-- What is read at the start of bytes is read there whatever follows, and so are rows.
 use Rattle.std.proofs.Common.{◌≡◌, ℕ, ◌+◌, ◌-◌, ◌*◌, ◌<◌, ◌≤◌, ◌^◌, Bool, true, false, cond, List, [], ◌∷◌, ◌++◌, length, length-append, take, drop, Option, Some, None, refl, sym, ap, ◌∙◌, subst, arith, ◌⊎◌, inl, inr}
 use Rattle.std.specs.Prelude.{nat_eq, nat_lt, ◌&&◌, if◌then◌else◌}
 use Rattle.std.proofs.lemmas.List.{take-append-le, drop-append-le, length-drop}
@@ -14,12 +14,12 @@ pub chosen : {A : Type 0} (b : Bool) (x y z : A) → cond b x y ≡ z → ((b �
 chosen true x y z e = inl (refl, e)
 chosen false x y z e = inr (refl, e)
 
--- what was read first, and what behind it
+-- what was read first, and what after it
 pub go_some : {X Y : Type 0} (o : Read X) (f : X → List ℕ → Read Y) (z : Y × List ℕ) → go o f ≡ Some z → (x : X × List ℕ) × (o ≡ Some x) × (f x.0 x.1 ≡ Some z)
 go_some None f z e = cc
 go_some (Some x) f z e = (x, refl, e)
 
--- the groups behind a first one
+-- the groups after a first one
 behind_some : (b : ℕ) (o : Option Found) (x : Found) → with_group b o ≡ Some x → (y : Found) × (o ≡ Some y) × (◌≡◌ {A = Option Found} (Some (b - 128 + 128 * y.0, y.1 + 1)) (Some x))
 behind_some b None x e = cc
 behind_some b (Some y) x e = (y, refl, e)
@@ -57,7 +57,7 @@ varint32_front bytes ys x e =
     let same : ◌≡◌ {A = Option Found} (groups_in 5 (bytes ++ ys)) (groups_in 5 bytes) = front.0 ∙ sym found in
     (ap (below (2 ^ 32)) same ∙ e, front.1, front.2)
 
--- a number that was found, and the bytes behind it
+-- a number that was found, and the bytes after it
 pub past_some : (bytes : List ℕ) (o : Option Found) (x : ℕ × List ℕ) → past_number bytes o ≡ Some x → (y : Found) × (o ≡ Some y) × (y.0 ≡ x.0) × (drop y.1 bytes ≡ x.1)
 past_some bytes None x e = cc
 past_some bytes (Some y) x e = let same : ◌≡◌ {A = Read ℕ} (Some (y.0, drop y.1 bytes)) (Some x) = e in (y, refl, cc, cc)
@@ -110,7 +110,7 @@ entry_front last bytes ys x e =
     let all = parts_front last shared unshared value three.0.1 ys x three.2 in
     (rw (first.0, second.0, third.0) all.0, omega arith)
 
--- restarts that lie at this place or behind it
+-- restarts that lie at this place or after it
 abbrev pub From : ℕ → List ℕ → Type 0
 From at [] = Unit {0}
 From at (n ∷ ns) = at ≤ n
@@ -119,14 +119,14 @@ From at (n ∷ ns) = at ≤ n
 abbrev pub extended : List ℕ → List ℕ → BlockReading → BlockReading
 extended ys more w = record { at = w.at; last = w.last; left = w.left ++ more; rest = w.rest ++ ys }
 
--- restarts behind an entry stay
+-- restarts after an entry stay
 more_stay : (at shared : ℕ) (more : List ℕ) → From (at + 1) more → restarts_left at shared more ≡ more
 more_stay at shared [] f = refl
 more_stay at shared (n ∷ ns) f =
     let other : nat_eq n at ≡ false = grind (arith, nat_tests) in
     rw other refl
 
--- an entry takes its own restart off, and leaves those behind it
+-- an entry takes its own restart off, and leaves those after it
 left_longer : (at shared : ℕ) (left more : List ℕ) → From (at + 1) more → restarts_left at shared (left ++ more) ≡ restarts_left at shared left ++ more
 left_longer at shared [] more f = more_stay at shared more f
 left_longer at shared (n ∷ ns) more f = either (nat_eq n at && nat_eq shared 0)
@@ -162,7 +162,7 @@ next_longer ys more w x e =
     let front = entry_front (length (key_or_empty w.last)) w.rest ys x read.0 in
     rising_is w.last (entry_in (length (key_or_empty w.last)) (w.rest ++ ys)) (x.0, x.1 ++ ys) front.0 read.1
 
--- and so is the reading behind it
+-- and so is the reading after it
 past_longer : (ys more : List ℕ) (w : BlockReading) (x : Entry × List ℕ) → length x.1 < length w.rest → From (w.at + 1) more → past (extended ys more w) (x.0, x.1 ++ ys) ≡ extended ys more (past w x)
 past_longer ys more w x l f =
     let at : w.at + (length (w.rest ++ ys) - length (x.1 ++ ys)) ≡ w.at + (length w.rest - length x.1) = simp length-append (omega arith) in
@@ -182,7 +182,7 @@ from_less : (m n : ℕ) (more : List ℕ) → m ≤ n → From n more → From m
 from_less m n [] l f = tt
 from_less m n (x ∷ xs) l f = omega arith
 
--- rows of a text are rows of a longer one, and of more restarts where these lie behind them
+-- rows of a text are rows of a longer one, and of more restarts where these lie after them
 pub rows_longer : (ys more : List ℕ) (rows : List RowView) (w v : BlockReading) → Rows w rows v → From v.at more → Rows (extended ys more w) rows (extended ys more v)
 rows_longer ys more [] w v h f = ap (extended ys more) h
 rows_longer ys more (r ∷ rows) w v h f =

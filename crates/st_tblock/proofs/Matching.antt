@@ -1,4 +1,4 @@
--- How the key of an entry stands to another one, by what the key before it has in common with that.
+-- How the key of an entry is to another one, by what the key before it has in common with that.
 use Rattle.std.proofs.Common.{◌≡◌, ℕ, zero, suc, ◌+◌, ◌<◌, ◌≤◌, Bool, true, false, cond, List, [], ◌∷◌, ◌++◌, length, take, drop, Some, None, refl, sym, ap, ◌∙◌, arith, inl, inr}
 use Rattle.std.specs.Prelude.{nat_eq}
 use Rattle.std.specs.List.{common_prefix_len}
@@ -49,7 +49,8 @@ behind_common (x ∷ xs) (y ∷ ys) =
       ]
     ]
 
--- behind what the last key has in common with another, an entry's key stands to that one as what follows does
+-- after what the last key has in common with another, an entry's key is to that one as what follows
+-- does
 near : (last key unshared : List ℕ) (shared : ℕ) → shared ≤ common_prefix_len nat_eq last key → (slice_cmp nat_cmp (take shared last ++ unshared) key ≡ slice_cmp nat_cmp unshared (drop shared key)) × (common_prefix_len nat_eq (take shared last ++ unshared) key ≡ shared + common_prefix_len nat_eq unshared (drop shared key))
 near last key unshared zero l = (refl, omega arith)
 near [] key unshared (suc s) l = absurd (omega arith)
@@ -66,7 +67,8 @@ near (x ∷ xs) (y ∷ ys) unshared (suc s) l = elim (cases_order x y) [
   ]
 ]
 
--- an entry that shares more than the last key has in common with another parts from that where the last key does
+-- an entry that shares more than the last key has in common with another parts from that where the
+-- last key does
 far : (last key unshared : List ℕ) (shared : ℕ) → common_prefix_len nat_eq last key < shared → shared ≤ length last → is_before last key ≡ true → (slice_cmp nat_cmp (take shared last ++ unshared) key ≡ Less) × (common_prefix_len nat_eq (take shared last ++ unshared) key ≡ common_prefix_len nat_eq last key)
 far last key unshared zero c l b = absurd (omega arith)
 far [] key unshared (suc s) c l b = absurd (omega arith)
@@ -91,7 +93,7 @@ compares_far key unshared matched shared l (Some last) a m s =
     let both = far last key unshared shared (omega arith) s a in
     (sym both.0, sym m ∙ sym both.1)
 
--- any other is compared behind what it shares
+-- any other is compared after what it shares
 pub compares_near : (key unshared : List ℕ) (matched shared same : ℕ) (order : Ordering) → shared ≤ matched → same ≡ common_prefix_len nat_eq unshared (drop shared key) → order ≡ slice_cmp nat_cmp (drop same unshared) (drop same (drop shared key)) → Compares key matched shared unshared (order, shared + same)
 compares_near key unshared matched shared same order l c o last a m s =
     let both = near (key_or_empty last) key unshared shared (omega arith) in

@@ -20,7 +20,7 @@ turned Less h k = cc
 turned Equal h k = refl
 turned Greater h k = cc
 
--- a key before another isn't behind it
+-- a key before another isn't after it
 pub not_behind : (a b : List ℕ) → is_before a b ≡ true → is_before b a ≡ false
 not_behind a b h =
     ap is_lt (nat_list_cmp_total.antisymm b a) ∙ not_less (slice_cmp nat_cmp a b) (less (slice_cmp nat_cmp a b) h)

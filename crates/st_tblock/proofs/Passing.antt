@@ -13,7 +13,8 @@ use Rattle.st_tblock.specs.Search.{Compares, AnswersFrom, reading_of}
 use Rattle.st_tblock.proofs.Following.{none_in}
 use Rattle.st_tblock.proofs.Behind.{spelled_next}
 
--- how far a lookup has come among these rows: what is to come, and what the last key has in common with the wanted one, which it is before
+-- how far a lookup has come among these rows: what is to come, and what the last key has in common
+-- with the wanted one, which it is before
 pub record Passed (key rest : List ℕ) (matched : ℕ) (rows : List RowView) : Type 0 where
   pub reading : BlockReading
   pub more : List RowView
@@ -69,19 +70,19 @@ lookup_here key r more e =
     let two : is_before key r.0 ≡ false = ap is_lt (nat_list_cmp_total.antisymm key r.0 ∙ ap ordering_reverse e) in
     rw (one, two) refl
 
--- behind a row that is behind the key there is no answer
+-- after a row that is after the key there is no answer
 lookup_over : (key : List ℕ) (r : RowView) (more : List RowView) → slice_cmp nat_cmp r.0 key ≡ Greater → lookup key (r ∷ more) ≡ None
 lookup_over key r more e =
     let one : is_before r.0 key ≡ false = ap is_lt e in
     let two : is_before key r.0 ≡ true = ap is_lt (nat_list_cmp_total.antisymm key r.0 ∙ ap ordering_reverse e) in
     rw (one, two) refl
 
--- how the next row's key stands to the wanted one
+-- how the next row's key is to the wanted one
 stands : (key rest : List ℕ) (matched : ℕ) (rows : List RowView) (x : Entry × List ℕ) (p : Passed key rest matched rows) (n : NextRow key rows p.reading p.end x) (o : Ordering × ℕ) → Compares key matched x.0.shared x.0.unshared o → slice_cmp nat_cmp n.row.0 key ≡ o.0
 stands key rest matched rows x p n o c =
     ap (λ (k : List ℕ). slice_cmp nat_cmp k key) (sym n.key_is) ∙ sym (c p.reading.last p.above p.matches n.shares).0
 
--- a lookup goes on behind a row before the key
+-- a lookup goes on after a row before the key
 pub pass_on : (limit : ℕ) (text key rest : List ℕ) (matched : ℕ) (x : Entry × List ℕ) (o : Ordering × ℕ) → 2 ^ 32 ≤ limit + 1 → Passes text key rest matched → entry_in limit rest ≡ Some x → Compares key matched x.0.shared x.0.unshared o → o.0 ≡ Less → Passes text key x.1 o.1
 pass_on limit text key rest matched x o l s e c less at left rows end h w =
     let p = s at left rows end h w in
@@ -106,7 +107,7 @@ answers_here limit text key rest matched x o l s e c same at left rows end h w =
     let n = next_row limit key rest matched rows x p l e in
     ap Some n.value_is ∙ sym (lookup_here key n.row n.more (stands key rest matched rows x p n o c ∙ same)) ∙ n.answer
 
--- at a row behind the key there is none
+-- at a row after the key there is none
 pub answers_over : (limit : ℕ) (text key rest : List ℕ) (matched : ℕ) (x : Entry × List ℕ) (o : Ordering × ℕ) → 2 ^ 32 ≤ limit + 1 → Passes text key rest matched → entry_in limit rest ≡ Some x → Compares key matched x.0.shared x.0.unshared o → o.0 ≡ Greater → AnswersFrom text key None
 answers_over limit text key rest matched x o l s e c more at left rows end h w =
     let p = s at left rows end h w in

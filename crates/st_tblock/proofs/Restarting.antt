@@ -1,4 +1,4 @@
--- A lookup that begins at a restart of a good block.
+-- A lookup that begins at a restart of a block.
 use Rattle.std.proofs.Common.{◌≡◌, ℕ, zero, suc, ◌+◌, ◌-◌, ◌*◌, ◌≤◌, Bool, true, false, List, [], ◌∷◌, ◌++◌, length, length-drop, take, drop, Option, Some, None, refl, sym, ap, ◌∙◌, subst, arith, ◌⊎◌, inl, inr}
 use Rattle.std.specs.Prelude.{nat_eq, ◌&&◌, if◌then◌else◌, IsTrue}
 use Rattle.std.proofs.lemmas.List.{drop-drop}
@@ -25,7 +25,7 @@ number_among (suc k) n xs e l =
     let offset : drop (n - 4) (drop 4 xs) ≡ drop n xs = drop-drop (n - 4) 4 xs ∙ ap (λ (m : ℕ). drop m xs) (sym four) in
     subst (λ (ns : List ℕ). IsAmong (little_number 4 (drop n xs)) ns) (sym (numbers_more xs (omega arith))) (inr (subst (λ (ys : List ℕ). IsAmong (little_number 4 ys) (numbers_in (drop 4 xs))) offset tail))
 
--- a restart that is left before an entry is the entry's own, or is left behind it
+-- a restart that is left before an entry is the entry's own, or is left after it
 left_by_one : (at shared offset : ℕ) (left : List ℕ) → IsAmong offset left → ((at ≡ offset) × (shared ≡ 0)) ⊎ IsAmong offset (restarts_left at shared left)
 left_by_one at shared offset [] m = absurd m
 left_by_one at shared offset (n ∷ ns) m = either (nat_eq n at && nat_eq shared 0) refl m
@@ -63,14 +63,14 @@ named (r ∷ rows) w end offset h m = elim (left_by_one w.at h.0.0.shared offset
   ]
 ]
 
--- at the end of a good block none is left but that of a block without entries
+-- at the end of a block none is left but that of a block without entries
 none_left : (at offset : ℕ) (left : List ℕ) → IsTrue (is_had at left) → IsAmong offset left → offset ≡ 0
 none_left at offset [] h m = absurd m
 none_left at offset (n ∷ []) h (inl m) = let none : n ≡ 0 = grind (arith, nat_tests) in sym m ∙ none
 none_left at offset (n ∷ []) h (inr m) = absurd m
 none_left at offset (n ∷ k ∷ ns) h m = cc
 
--- an entry that shares nothing begins the same rows behind no key
+-- an entry that shares nothing begins the same rows after no key
 alone : (w end : BlockReading) (r : RowView) (rows : List RowView) → (h : Rows w (r ∷ rows) end) → h.0.0.shared ≡ 0 → entry_in 0 w.rest ≡ Some h.0
 alone w end r rows h s = (spelled_next w r rows end h).within 0 (omega (arith, s))
 
@@ -99,7 +99,7 @@ lookup_behind (r ∷ front) back w v key h a =
     ap (λ (b : Bool). if b then lookup key (front ++ back) else if is_before key r.0 then None else Some r.1) low
     ∙ lookup_behind front back (past w h.0) v key h.4 a
 
--- what is found behind a restart that is reached is found in the whole text
+-- what is found after a restart that is reached is found in the whole text
 found_behind : (text restarts key : List ℕ) (offset : ℕ) (rows : List RowView) (end : BlockReading) (answer : Option (List ℕ)) → Named (start text restarts) end rows offset → IsReached text key offset → AnswersFrom (drop offset text) key answer → end.rest ≡ [] → answer ≡ lookup key rows
 found_behind text restarts key offset rows end answer n reached a e =
     let w = n.at in
@@ -121,12 +121,12 @@ found_behind text restarts key offset rows end answer n reached a e =
     ∙ sym (lookup_behind n.front (n.row ∷ n.back) (start text restarts) w key n.before above)
     ∙ sym (ap (lookup key) n.split)
 
--- at the front of the text all its rows are found
+-- at the start of the text all its rows are found
 found_first : (text restarts key : List ℕ) (offset : ℕ) (rows : List RowView) (end : BlockReading) (answer : Option (List ℕ)) → offset ≡ 0 → Rows (start text restarts) rows end → AnswersFrom (drop offset text) key answer → end.rest ≡ [] → answer ≡ lookup key rows
 found_first text restarts key offset rows end answer z h a e =
     subst (λ (m : ℕ). AnswersFrom (drop m text) key answer) z a 0 restarts rows end h e
 
--- the halves of a good block are its text and its restarts
+-- the halves of a block are its text and its restarts
 halves_good : (bytes text half t p : List ℕ) → halves_in bytes ≡ Some (text, half) → restarts_in bytes ≡ Some (t, p) → (t ≡ text) × (p ≡ numbers_in half)
 unfolding restarts_in
 halves_good bytes text half t p h r =
@@ -139,7 +139,7 @@ halves_good bytes text half t p h r =
       | inr n ↦ absurd (let impossible : ◌≡◌ {A = Option (List ℕ × List ℕ)} None (Some (t, p)) = n.1 in cc)
     ]
 
--- bytes without these are no good block
+-- bytes without these are no block
 pub no_halves : (bytes key : List ℕ) → halves_in bytes ≡ None → (rows : List RowView) → IsBlock bytes rows → None ≡ lookup key rows
 unfolding restarts_in
 no_halves bytes key e rows g =

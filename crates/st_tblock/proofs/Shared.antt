@@ -12,7 +12,7 @@ common_next x y xs ys e = grind (arith, nat_tests)
 common_parts : (x y : ℕ) (xs ys : List ℕ) → (x ≡ y → ⊥) → common_prefix_len nat_eq (x ∷ xs) (y ∷ ys) ≡ 0
 common_parts x y xs ys d = grind (arith, nat_tests)
 
--- the bytes at a place are in common, and so are those behind them
+-- the bytes at a place are in common, and so are those after them
 pub common_more : (i : ℕ) (xs ys : List ℕ) → i < length xs → i < length ys → get_or xs i 0 ≡ get_or ys i 0 → common_prefix_len nat_eq (drop i xs) (drop i ys) ≡ 1 + common_prefix_len nat_eq (drop (i + 1) xs) (drop (i + 1) ys)
 common_more i xs ys lx ly e =
     rw (add-one, drop-cons xs i 0 lx, drop-cons ys i 0 ly) (common_next (get_or xs i 0) (get_or ys i 0) (drop (suc i) xs) (drop (suc i) ys) e)

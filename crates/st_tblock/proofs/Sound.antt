@@ -1,4 +1,4 @@
--- What every draft of a block keeps.
+-- What every builder of a block keeps.
 use Rattle.std.proofs.Common.{◌≡◌, ℕ, ◌+◌, ◌*◌, ◌<◌, ◌≤◌, ◌^◌, max, Bool, true, false, ◌&&◌, List, [], ◌∷◌, ◌++◌, length, length-append, take, drop, All, Option, Some, refl, sym, ap, ◌∙◌, subst, arith, rules}
 use Rattle.std.specs.Prelude.{nat_eq, nat_lt, nat_le, IsTrue, if◌then◌else◌}
 use Rattle.std.proofs.lemmas.Bool.Decides.{nat_tests}
@@ -8,7 +8,7 @@ use Rattle.st_tblock.specs.Block.{begins, rises_from, key_or_empty}
 use Rattle.st_tblock.specs.Builder.{EntryBlockView, block_view, empty, IsSound, added, since_of, restarts_of, shared_of, entry_text, block_size}
 use Rattle.st_tblock.proofs.Adding.{shared_fits, entry_some, whole_key}
 
--- a draft without entries
+-- a builder without entries
 pub empty_sound : (interval : ℕ) → 1 ≤ interval → IsSound (empty interval)
 unfolding begins rises_from
 empty_sound interval l =
@@ -27,7 +27,7 @@ both_pass : (x y : Bool) → (x && y) ≡ true → (x ≡ true) × (y ≡ true)
 both_pass true y e = (refl, e)
 both_pass false y e = cc
 
--- a number above all others rises behind them
+-- a number above all others rises after them
 rises_push : (n m : ℕ) (ns : List ℕ) → rises_from n ns ≡ true → n < m → All (λ k. k < m) ns → rises_from n (ns ++ m ∷ []) ≡ true
 unfolding rises_from
 rises_push n m [] h l a = grind (arith, nat_tests)
@@ -36,7 +36,7 @@ rises_push n m (k ∷ ns) h l a =
     let tail = rises_push k m ns both.1 (All-head (λ j. j < m) k ns a) (All-tail (λ j. j < m) k ns a) in
     rw (both.0, tail) refl
 
--- and behind a 0 that begins them
+-- and after a 0 that begins them
 begins_push : (m : ℕ) (ns : List ℕ) → begins ns ≡ true → All (λ k. k < m) ns → begins (ns ++ m ∷ []) ≡ true
 unfolding begins
 begins_push m [] h a = cc
@@ -76,7 +76,7 @@ places_sound d more sound room some = either (nat_le d.interval d.since) refl
           count = omega (arith, length-append d.restarts (length d.text ∷ []));
         }
 
--- a draft is sound with one more entry
+-- a builder is sound with one more entry
 pub added_sound : (d : EntryBlockView) (key value : List ℕ) → IsSound d → length key < 2 ^ 32 → length value < 2 ^ 32 → block_size d < 2 ^ 32 → IsSound (added d key value)
 added_sound d key value sound lk lv room =
     let ys = entry_text (shared_of d key) key value in
@@ -102,7 +102,7 @@ begins_first (n ∷ ns) h =
     let zero : n ≡ 0 = let e = both.0 in grind (arith, nat_tests) in
     ap (λ (k : ℕ). k ∷ []) zero
 
--- a draft with one more entry, part by part: no restart
+-- a builder with one more entry, part by part: no restart
 pub added_within : (d : EntryBlockView) (key value text : List ℕ) (last : Option (List ℕ)) (shared : ℕ) → shared ≡ shared_of d key → d.since < d.interval → text ≡ d.text ++ entry_text shared key value → last ≡ Some (take shared (key_or_empty d.last) ++ drop shared key) → block_view d.interval (d.since + 1) text d.restarts last ≡ added d key value
 added_within d key value text last shared s l t k =
     let within : nat_le d.interval d.since ≡ false = grind (arith, nat_tests) in
@@ -126,13 +126,13 @@ added_again d key value text last shared s l t k =
 pub front_size : (n : ℕ) (text : List ℕ) → n ≤ length text → length (take n text) ≡ n
 front_size n text l = simp length-take (omega arith)
 
--- what was put behind a front leaves it
+-- what was put after a front leaves it
 pub kept_front : (n : ℕ) (text cut new : List ℕ) → n ≤ length text → cut ≡ take n text → take (length cut) new ≡ cut → take n new ≡ take n text
 kept_front n text cut new l c k =
     let size : length cut ≡ n = ap length c ∙ front_size n text l in
     ap (λ (m : ℕ). take m new) (sym size) ∙ k ∙ c
 
--- what stands in a block's parts behind one more entry: no restart
+-- what is in a block's parts after one more entry: no restart
 pub appended_within : (d now : EntryBlockView) (key value unshared new restarts : List ℕ) (last : Option (List ℕ)) (n shared : ℕ) → d ≡ now → IsSound d → shared ≡ shared_of now key → length key < 2 ^ 32 → length value < 2 ^ 32 → block_size now < 2 ^ 32 → d.since < d.interval → n ≡ length new → new ≡ d.text ++ entry_text shared key value → restarts ≡ d.restarts → unshared ≡ drop shared key → last ≡ Some (take shared (key_or_empty d.last) ++ unshared) → (block_view d.interval (d.since + 1) (take n new) restarts last ≡ added now key value) × IsSound (block_view d.interval (d.since + 1) (take n new) restarts last)
 appended_within d now key value unshared new restarts last n shared same sound s lk lv room within size t p f k =
     let shared_is : shared ≡ shared_of d key = s ∙ ap (λ (e : EntryBlockView). shared_of e key) (sym same) in

@@ -26,7 +26,12 @@ parts_in last shared unshared value bytes =
     else if nat_lt (length bytes) (unshared + value) then None
     else
     Some (
-      record { shared = shared; unshared = take unshared bytes; value = take value (drop unshared bytes) },
+      record {
+        shared = shared;
+        unshared = take unshared bytes;
+        value = take value
+            (drop unshared bytes);
+      },
       drop value (drop unshared bytes),
     )
 
@@ -73,7 +78,8 @@ rising last (Some x) = if is_above last (key_of last x.0) then Some x else None
 abbrev pub next_in : BlockReading → Read Entry
 next_in w = rising w.last (entry_in (length (key_or_empty w.last)) w.rest)
 
--- the restarts that are left after an entry at this offset: one that shares nothing takes its own off
+-- the restarts that are left after an entry at this offset: one that shares nothing takes its own
+-- off
 abbrev pub restarts_left : ℕ → ℕ → List ℕ → List ℕ
 restarts_left at shared [] = []
 restarts_left at shared (n ∷ ns) = if nat_eq n at && nat_eq shared 0 then ns else n ∷ ns
@@ -88,7 +94,7 @@ past w x =
       rest = x.1;
     }
 
--- these rows stand between two restarts of a reading, one entry each
+-- from one state of a reading to another these rows were read, one entry each
 abbrev pub Rows : BlockReading → List RowView → BlockReading → Type 0
 Rows w [] v = w ≡ v
 Rows w (r ∷ rs) v =
@@ -123,7 +129,11 @@ begins (n ∷ ns) = nat_eq n 0 && rises_from 0 ns
 abbrev pub split_in : ℕ → List ℕ → Option (List ℕ × List ℕ)
 split_in count bytes =
     if nat_lt (length bytes) (RESTART_SIZE * count) then None
-    else Some (take (length bytes - RESTART_SIZE * count) bytes, drop (length bytes - RESTART_SIZE * count) bytes)
+    else Some (
+      take (length bytes - RESTART_SIZE * count) bytes,
+      drop
+          (length bytes - RESTART_SIZE * count) bytes,
+    )
 
 -- parts whose restarts begin with 0 and rise
 abbrev pub begun : Option (List ℕ × List ℕ) → Option (List ℕ × List ℕ)
@@ -134,7 +144,8 @@ begun (Some x) = if begins (numbers_in x.1) then Some (x.0, numbers_in x.1) else
 unfoldable pub halves_in : List ℕ → Option (List ℕ × List ℕ)
 halves_in bytes =
     if nat_lt (length bytes) RESTART_SIZE then None
-    else split_in (little_number 4 (drop (length bytes - RESTART_SIZE) bytes)) (take (length bytes - RESTART_SIZE) bytes)
+    else split_in (little_number 4 (drop (length bytes - RESTART_SIZE) bytes))
+    (take (length bytes - RESTART_SIZE) bytes)
 
 -- a block's text and its restarts, where these fit, begin with 0 and rise
 unfoldable pub restarts_in : List ℕ → Option (List ℕ × List ℕ)

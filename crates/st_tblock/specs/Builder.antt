@@ -6,8 +6,8 @@ use Rattle.st_tblock.specs.declared.format.TheConstants.{RESTART_SIZE}
 use Rattle.st_tblock.specs.Varint.{varint_of}
 use Rattle.st_tblock.specs.Block.{RowView, BlockReading, Rows, start, key_or_empty, begins}
 
--- what contracts see of a builder of blocks: how many entries come to a restart, how many came since
--- the last one, their text, the restarts and the last key
+-- what contracts see of a builder of blocks: how many entries come to a restart, how many came
+-- since the last one, their text, the restarts and the last key
 pub record EntryBlockView : Type 0 where
   pub interval : ℕ
   pub since : ℕ
@@ -22,16 +22,19 @@ block_view interval since text restarts last =
 
 -- no entries; the first restart is there already
 abbrev pub empty : ℕ → EntryBlockView
-empty interval = record { interval = interval; since = 0; text = []; restarts = 0 ∷ []; last = None }
+empty interval =
+    record { interval = interval; since = 0; text = []; restarts = 0 ∷ []; last = None }
 
 -- the text of an entry whose key shares this many bytes with the last one
 unfoldable pub entry_text : ℕ → List ℕ → List ℕ → List ℕ
 entry_text shared key value =
-    varint_of shared ++ varint_of (length key - shared) ++ varint_of (length value) ++ drop shared key ++ value
+    varint_of shared ++ varint_of (length key - shared) ++ varint_of (length value)
+    ++ drop shared key ++ value
 
 -- how many bytes a key shares: none at a restart, else all that it has in common with the last one
 abbrev pub shared_of : EntryBlockView → List ℕ → ℕ
-shared_of d key = if nat_le d.interval d.since then 0 else common_prefix_len nat_eq (key_or_empty d.last) key
+shared_of d key =
+    if nat_le d.interval d.since then 0 else common_prefix_len nat_eq (key_or_empty d.last) key
 
 -- the restarts with this entry's, where it is one
 abbrev pub restarts_of : EntryBlockView → List ℕ
@@ -65,8 +68,8 @@ restarts_text (n ∷ ns) = little_bytes 4 n ++ restarts_text ns
 unfoldable pub block_text : EntryBlockView → List ℕ
 block_text d = d.text ++ restarts_text d.restarts ++ little_bytes 4 (length d.restarts)
 
--- what every builder keeps: the restarts begin with 0, rise, lie within the text and fit four bytes,
--- and so does their number
+-- what every builder keeps: the restarts begin with 0, rise, lie within the text and fit four
+-- bytes, and so does their number
 pub record IsSound (d : EntryBlockView) : Type 0 where
   pub interval : 1 ≤ d.interval
   pub begun : 1 ≤ d.since → 1 ≤ length d.text

@@ -25,7 +25,7 @@ damage_at base w (b ∷ bytes) = entry_damage (base + w.at) (next_in w)
 abbrev pub entry_of : Parts → Entry
 entry_of p = record { shared = p.shared; unshared = p.unshared.now; value = p.value.now }
 
--- the next entry and the text behind it, or the end, or the check that fails there
+-- the next entry and the text after it, or the end, or the check that fails there
 abbrev pub Ahead : EntryCursorView → Result (Option (Parts × Bor (List ℕ))) Damage → Type 0
 Ahead s (Ok None) = (s.reading.rest ≡ []) × IsTrue (is_had s.reading.at s.reading.left)
 Ahead s (Ok (Some x)) = next_in s.reading ≡ Some (entry_of x.0, x.1.now)
@@ -35,12 +35,14 @@ Ahead s (Err d) = damage_at s.base s.reading s.reading.rest ≡ Some (damage_vie
 -- don't begin with 0 and rise
 abbrev pub Begins : List ℕ → ℕ → Result EntryCursorView Damage → Type 0
 Begins bytes base (Ok s) =
-    (x : List ℕ × List ℕ) × (restarts_in bytes ≡ Some x) × (s ≡ record { base = base; reading = start x.0 x.1 })
+    (x : List ℕ × List ℕ) × (restarts_in bytes ≡ Some x)
+    × (s ≡ record { base = base; reading = start x.0 x.1 })
 Begins bytes base (Err d) = (restarts_in bytes ≡ None) × (damage_view d ≡ unmet base)
 
 -- the next entry's key and value are given, and the reading is past it; else it stays
 abbrev pub Gives : EntryCursorView → EntryCursorView → Result (Option RowView) CursorErr → Type 0
-Gives old new (Ok None) = (old.reading.rest ≡ []) × IsTrue (is_had old.reading.at old.reading.left) × (new ≡ old)
+Gives old new (Ok None) =
+    (old.reading.rest ≡ []) × IsTrue (is_had old.reading.at old.reading.left) × (new ≡ old)
 Gives old new (Ok (Some r)) =
     (x : Entry × List ℕ) × (next_in old.reading ≡ Some x)
     × (key_of old.reading.last x.0 ≡ r.0) × (x.0.value ≡ r.1) × (new ≡ past_entry old x)
@@ -49,8 +51,10 @@ Gives old new (Err (Damaged d)) =
 Gives old new (Err NoMemory) = new ≡ old
 
 -- the next entry's value alone is given, where it lies in the block
-abbrev pub Steps : EntryCursorView → EntryCursorView → Result (Option (Bor (List ℕ))) CursorErr → Type 0
-Steps old new (Ok None) = (old.reading.rest ≡ []) × IsTrue (is_had old.reading.at old.reading.left) × (new ≡ old)
+abbrev pub Steps : EntryCursorView → EntryCursorView → Result (Option (Bor (List ℕ))) CursorErr
+    → Type 0
+Steps old new (Ok None) =
+    (old.reading.rest ≡ []) × IsTrue (is_had old.reading.at old.reading.left) × (new ≡ old)
 Steps old new (Ok (Some v)) =
     (x : Entry × List ℕ) × (next_in old.reading ≡ Some x)
     × (x.0.value ≡ v.now) × (new ≡ past_entry old x)

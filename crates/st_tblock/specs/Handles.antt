@@ -10,7 +10,9 @@ use Rattle.st_tblock.specs.declared.format.TheConstants.{MAGIC, MAGIC_OFFSET}
 -- the handle that bytes begin with, and what follows it
 unfoldable pub handle_in : List ℕ → Read Handle
 handle_in bytes =
-    go (number_in bytes) (λ offset more. go (number_in more) (λ size rest. Some (record { offset = offset; size = size }, rest)))
+    go (number_in bytes)
+    (λ offset more. go (number_in more)
+    (λ size rest. Some (record { offset = offset; size = size }, rest)))
 
 -- these bytes are one handle
 abbrev pub IsHandle : List ℕ → Handle → Type 0
@@ -55,5 +57,11 @@ named (Some x) = Ok x
 -- what a footer names, the metaindex block and the index block, or its first check that fails
 unfoldable pub footer_in : List ℕ → Result (Handle × Handle) DamageView
 footer_in bytes =
-    if nat_eq (little_number 8 (drop MAGIC_OFFSET bytes)) MAGIC then named (handles_in (take MAGIC_OFFSET bytes))
-    else Err (record { place = MAGIC_OFFSET; found = little_number 8 (drop MAGIC_OFFSET bytes); want = MAGIC })
+    if nat_eq (little_number 8 (drop MAGIC_OFFSET bytes)) MAGIC then named
+    (handles_in (take MAGIC_OFFSET bytes))
+    else Err (record {
+      place = MAGIC_OFFSET;
+      found = little_number 8
+          (drop MAGIC_OFFSET bytes);
+      want = MAGIC;
+    })

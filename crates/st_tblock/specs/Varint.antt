@@ -1,4 +1,5 @@
--- Varints, as Protocol Buffers' encoding and LevelDB's util/coding.h have them: groups of seven bits, lowest first, each in a byte whose high bit says that more come.
+-- Varints, as Protocol Buffers' encoding and LevelDB's util/coding.h have them: groups of seven
+-- bits, lowest first, each in a byte whose high bit says that more come.
 use Rattle.std.specs.Prelude.{ℕ, zero, suc, ◌+◌, ◌-◌, ◌*◌, ◌/◌, ◌%◌, ◌^◌, List, [], ◌∷◌, Option, Some, None, nat_eq, nat_lt, if◌then◌else◌}
 
 -- a number that was read, and in how many bytes
@@ -10,21 +11,24 @@ abbrev pub with_group : ℕ → Option Found → Option Found
 with_group b None = None
 with_group b (Some x) = Some (b - 128 + 128 * x.0, x.1 + 1)
 
--- the number in the groups at the front, of which there may be so many; leading groups of zeros are allowed
+-- the number in the groups that bytes begin with, of which there may be this many; leading groups
+-- of zeros are allowed
 abbrev pub groups_in : ℕ → List ℕ → Option Found
 groups_in k [] = None
-groups_in k (b ∷ bytes) = if nat_eq k 0 then None else if nat_lt b 128 then Some (b, 1) else with_group b (groups_in (k - 1) bytes)
+groups_in k (b ∷ bytes) =
+    if nat_eq k 0 then None else if nat_lt b 128 then Some (b, 1)
+    else with_group b (groups_in (k - 1) bytes)
 
 -- a number that is below a limit
 abbrev pub below : ℕ → Option Found → Option Found
 below limit None = None
 below limit (Some x) = if nat_lt x.0 limit then Some x else None
 
--- the varint64 at the front: at most ten bytes, below 2 ^ 64
+-- the varint64 that bytes begin with: at most ten bytes, below 2 ^ 64
 abbrev pub varint_in : List ℕ → Option Found
 varint_in bytes = below (2 ^ 64) (groups_in 10 bytes)
 
--- the varint32 at the front: at most five bytes, below 2 ^ 32
+-- the varint32 that bytes begin with: at most five bytes, below 2 ^ 32
 abbrev pub varint32_in : List ℕ → Option Found
 varint32_in bytes = below (2 ^ 32) (groups_in 5 bytes)
 

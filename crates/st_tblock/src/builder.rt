@@ -16,7 +16,8 @@ use std::marker::Model;
 #[tactic(auto, unfolding(crate::specs::Builder::entry_text))]
 fn put_entry(text: &mut Vec<u8>, shared: usize, key: &[u8], value: &[u8]) -> Result<(), NoMemory>
     requires { shared ≤ length key.now }
-    ensures ok { OnOk result (text.new.items ≡ text.old.items ++ entry_text shared key.now value.now) }
+    ensures ok { OnOk result
+        (text.new.items ≡ text.old.items ++ entry_text shared key.now value.now) }
     ensures kept { take (length text.old.items) text.new.items ≡ text.old.items }
 {
     let unshared = key.split_at(shared).1;
@@ -31,7 +32,9 @@ fn put_entry(text: &mut Vec<u8>, shared: usize, key: &[u8], value: &[u8]) -> Res
 /// Puts the restarts and their number after `text`. An error may leave a part of them there.
 fn put_restarts(text: &mut Vec<u8>, restarts: &[u32]) -> Result<(), NoMemory>
     requires { length restarts.now < 2 ^ 32 }
-    ensures ok { OnOk result (text.new.items ≡ text.old.items ++ restarts_text restarts.now ++ little_bytes 4 (length restarts.now)) }
+    ensures ok { OnOk result
+        (text.new.items ≡ text.old.items ++ restarts_text restarts.now
+        ++ little_bytes 4 (length restarts.now)) }
     ensures kept { take (length text.old.items) text.new.items ≡ text.old.items }
 {
     'restarts: for restart in restarts {
@@ -44,8 +47,8 @@ fn put_restarts(text: &mut Vec<u8>, restarts: &[u32]) -> Result<(), NoMemory>
 /// A block that is being built: entries in the order of their keys, each without the bytes that its
 /// key shares with the key before it.
 ///
-/// It is seen as its [`EntryBlockView`]: the text of its entries, the restarts and the last key; `HasRows`
-/// says which rows these spell. Lengths are in bytes.
+/// It is seen as its [`EntryBlockView`]: the text of its entries, the restarts and the last key;
+/// `HasRows` says which rows these spell. Lengths are in bytes.
 ///
 /// Its text has the entries first, and after them what a call that failed or the last
 /// [`EntryBlock::finish`] left there, which the next call cuts off.
@@ -66,9 +69,13 @@ impl Model for EntryBlock {
 
     ghost Value = { EntryBlockView };
 
-    ghost view = { λ a. block_view a.interval a.since (take a.entries a.text.items) a.restarts.items (option_map (λ v. v.items) a.last) };
+    ghost view = { λ a. block_view a.interval a.since (take a.entries a.text.items) a.restarts.items
+        (option_map (λ v. v.items) a.last) };
 
-    ghost invariant = { λ a. (a.entries ≤ length a.text.items) × IsSound (block_view a.interval a.since (take a.entries a.text.items) a.restarts.items (option_map (λ v. v.items) a.last)) };
+    ghost invariant = { λ a. (a.entries ≤ length a.text.items)
+        × IsSound
+        (block_view a.interval a.since (take a.entries a.text.items) a.restarts.items
+        (option_map (λ v. v.items) a.last)) };
 }
 
 /// Puts a restart after the others; there must be room for it.
@@ -183,7 +190,8 @@ impl EntryBlock {
         requires value { length value.now < 2 ^ 32 }
         requires room { block_size self.old < 2 ^ 32 }
         ensures ok { OnOk result (self.new ≡ added self.old key.now value.now) }
-        ensures rows { OnOk result ((rows : List RowView) → HasRows self.old rows → HasRows self.new (rows ++ (key.now, value.now) ∷ [])) }
+        ensures rows { OnOk result ((rows : List RowView) → HasRows self.old rows
+            → HasRows self.new (rows ++ (key.now, value.now) ∷ [])) }
         ensures err { OnErr result (self.new ≡ self.old) }
     {
         let shared = self.shared_with(key);
@@ -210,7 +218,8 @@ impl EntryBlock {
         ensures* after { sem 𝓛 (Rests the_row self.entry (λ d. d ≡ self.old)) }
         ensures text { IfOk result (λ bytes. bytes.now ≡ block_text self.old) }
         ensures size { IfOk result (λ bytes. length bytes.now ≡ block_size self.old) }
-        ensures good { IfOk result (λ bytes. (rows : List RowView) → HasRows self.old rows → IsBlock bytes.now rows) }
+        ensures good { IfOk result (λ bytes. (rows : List RowView) → HasRows self.old rows
+            → IsBlock bytes.now rows) }
     {
         self.text.truncate(self.entries);
         put_restarts(&mut self.text, self.restarts.as_slice())?;

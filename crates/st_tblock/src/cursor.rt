@@ -54,7 +54,8 @@ impl<'a> Model for EntryCursor<'a> {
 #[tactic(auto, using(crate::proofs::Keys::above_shared))]
 fn rises(last: &Option<Vec<u8>>, shared: usize, unshared: &[u8]) -> bool
     requires { shared ≤ length (key_or_empty (option_map (λ v. v.items) last.now)) }
-    ensures { result ≡ is_above (option_map (λ v. v.items) last.now) (take shared (key_or_empty (option_map (λ v. v.items) last.now)) ++ unshared.now) }
+    ensures { result ≡ is_above (option_map (λ v. v.items) last.now)
+        (take shared (key_or_empty (option_map (λ v. v.items) last.now)) ++ unshared.now) }
 {
     match last {
         Some(key) => key.as_slice().split_at(shared).1.cmp(unshared).is_lt(),
@@ -65,7 +66,8 @@ fn rises(last: &Option<Vec<u8>>, shared: usize, unshared: &[u8]) -> bool
 /// Copies of the key of an entry that follows the key `last`, and of its value.
 fn row_of(alloc: Global, last: &[u8], parts: &Parts<'_>) -> Result<(Octets, Octets), NoMemory>
     requires { parts.now.shared ≤ length last.now }
-    ensures { IfOk result (λ r. (r.0 ≡ take parts.now.shared last.now ++ parts.now.unshared.now) × (r.1 ≡ parts.now.value.now)) }
+    ensures { IfOk result (λ r. (r.0 ≡ take parts.now.shared last.now ++ parts.now.unshared.now)
+        × (r.1 ≡ parts.now.value.now)) }
 {
     let mut key = Vec::with_capacity(alloc, parts.shared + parts.unshared.len())?;
     key.extend_from_slice(last.split_at(parts.shared).0)?;
@@ -118,8 +120,10 @@ impl<'a> EntryCursor<'a> {
     /// The parts of the next entry and the text after it, or `None` at the block's end.
     fn ahead(&self) -> Result<Option<(Parts<'a>, &'a [u8])>, Damage>
         ensures ahead { Ahead self.now result }
-        ensures shared { IfOk result (λ o. IfSome o (λ x. x.0.shared ≤ length (key_or_empty self.now.reading.last))) }
-        ensures shorter { IfOk result (λ o. IfSome o (λ x. length x.1.now < length self.now.reading.rest)) }
+        ensures shared { IfOk result
+            (λ o. IfSome o (λ x. x.0.shared ≤ length (key_or_empty self.now.reading.last))) }
+        ensures shorter { IfOk result
+            (λ o. IfSome o (λ x. length x.1.now < length self.now.reading.rest)) }
     {
         if self.rest.is_empty() {
             if all_had(self.at, self.left) {
@@ -160,7 +164,8 @@ impl<'a> EntryCursor<'a> {
     /// the cursor is unchanged. Source: docs/FORMAT.md, "Table file".
     pub fn step(&mut self, alloc: Global) -> Result<Option<&'a [u8]>, CursorErr>
         ensures steps { Steps self.old self.new result }
-        ensures shorter { IfOk result (λ o. OnSome o (length self.new.reading.rest < length self.old.reading.rest)) }
+        ensures shorter { IfOk result
+            (λ o. OnSome o (length self.new.reading.rest < length self.old.reading.rest)) }
     {
         match self.ahead() {
             Err(damage) => Err(CursorErr::Damaged(damage)),
@@ -179,7 +184,8 @@ impl<'a> EntryCursor<'a> {
     /// the cursor is unchanged. Source: docs/FORMAT.md, "Table file".
     pub fn next(&mut self, alloc: Global) -> Result<Option<(Octets, Octets)>, CursorErr>
         ensures gives { Gives self.old self.new result }
-        ensures shorter { IfOk result (λ o. OnSome o (length self.new.reading.rest < length self.old.reading.rest)) }
+        ensures shorter { IfOk result
+            (λ o. OnSome o (length self.new.reading.rest < length self.old.reading.rest)) }
     {
         match self.ahead() {
             Err(damage) => Err(CursorErr::Damaged(damage)),

@@ -3,6 +3,7 @@
 ghost use Rattle.std.specs.Prelude.{◌≡◌, ◌≤◌, ◌<◌, length, IfSome, option_map};
 ghost use Rattle.st_tblock.specs.Parsing.{length_in};
 ghost use Rattle.st_tblock.specs.Block.{Entry, entry_in};
+ghost use Rattle.st_tblock.specs.Cursor.{entry_of};
 
 use crate::varint::get_varint32;
 
@@ -28,7 +29,7 @@ fn length_at(bytes: &[u8]) -> Option<(u32, &[u8])>
 pub fn entry_at(last: usize, bytes: &[u8]) -> Option<(Parts<'_>, &[u8])>
     ensures shared { IfSome result (λ x. x.0.shared ≤ last) }
     ensures shorter { IfSome result (λ x. length x.1.now < length bytes.now) }
-    ensures value { option_map (λ x. (record { shared = x.0.shared; unshared = x.0.unshared.now; value = x.0.value.now }, x.1.now)) result ≡ entry_in last bytes.now }
+    ensures value { option_map (λ x. (entry_of x.0, x.1.now)) result ≡ entry_in last bytes.now }
 {
     let (shared, more) = length_at(bytes)?;
     let (unshared, more) = length_at(more)?;

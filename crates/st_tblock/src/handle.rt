@@ -130,7 +130,8 @@ pub fn footer(meta: Handle, index: Handle) -> [u8; FOOTER_SIZE]
 /// Source: LevelDB, doc/table_format.md; docs/FORMAT.md, "Table file" and "Checks".
 #[tactic(auto, unfolding(crate::specs::Handles::footer_in))]
 pub fn read_footer(bytes: &[u8; FOOTER_SIZE]) -> Result<(Handle, Handle), Damage>
-    ensures { MatchResult result (λ x. footer_in bytes.now ≡ Ok x) (λ d. footer_in bytes.now ≡ Err (damage_view d)) }
+    ensures { MatchResult result (λ x. footer_in bytes.now ≡ Ok x)
+        (λ d. footer_in bytes.now ≡ Err (damage_view d)) }
 {
     let (handles, magic) = bytes.split_at(MAGIC_OFFSET);
     let found = LittleEndian::read_u64(magic);

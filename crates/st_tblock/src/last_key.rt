@@ -36,8 +36,11 @@ pub fn set_key(
     unshared: &[u8],
 ) -> Result<(), NoMemory>
     requires { shared ≤ length (key_or_empty (option_map (λ v. v.items) last.old)) }
-    ensures ok { OnOk result (option_map (λ v. v.items) last.new ≡ Some (take shared (key_or_empty (option_map (λ v. v.items) last.old)) ++ unshared.now)) }
-    ensures err { OnErr result (option_map (λ v. v.items) last.new ≡ option_map (λ v. v.items) last.old) }
+    ensures ok { OnOk result
+        (option_map (λ v. v.items) last.new ≡ Some
+        (take shared (key_or_empty (option_map (λ v. v.items) last.old)) ++ unshared.now)) }
+    ensures err { OnErr result
+        (option_map (λ v. v.items) last.new ≡ option_map (λ v. v.items) last.old) }
 {
     if let Some(key) = last {
         return replace_end(key, shared, unshared);

@@ -1,9 +1,10 @@
 //! Blocks of a table: entries, handles, footers, varints and sums, both ways.
 //!
 //! A block is entries in the order of their keys, each without the bytes that its key shares with
-//! the key before it, then the restarts, and their number. Offsets and sizes are in bytes, numbers little-endian; keys are
-//! ordered by bytes. The format is LevelDB's: doc/table_format.md, table/block_builder.cc,
-//! table/format.h and util/coding.h there, docs/FORMAT.md, "Table file", here.
+//! the key before it, then the restarts, and their number. Offsets and sizes are in bytes, numbers
+//! little-endian; keys are ordered by bytes. The format is LevelDB's: doc/table_format.md,
+//! table/block_builder.cc, table/format.h and util/coding.h there, docs/FORMAT.md, "Table file",
+//! here.
 //!
 //! # What it promises
 //!
@@ -14,8 +15,8 @@
 //!   `EntryBlock::finish`), its bytes are LevelDB's, and a call that fails leaves it unchanged.
 //! - A cursor gives the entries of a block in order, and `Damaged` if and only if a check fails
 //!   there, with its place (`EntryCursor::new`, `EntryCursor::step`, `EntryCursor::next`).
-//! - Over a block of some rows the value of a key, or none, is found by the restarts, without memory
-//!   (`find`).
+//! - Over a block of some rows the value of a key, or none, is found by the restarts, without
+//!   memory (`find`).
 //! - The sum of a block and its type byte is CRC-32C, and is stored masked (`crc32c`, `mask`).
 //!
 //! # What it leaves to others
@@ -25,8 +26,8 @@
 //! # Where to read
 //!
 //! `specs/Block.antt` says what a block is, `specs/Cursor.antt` what a cursor gives,
-//! `specs/Lookup.antt` what a lookup is, `specs/Builder.antt` what a builder has. The numbers of the
-//! format are in `format`. Then `varint`, `handle`, `restarts`, `entry`, `last_key`, `cursor`,
+//! `specs/Lookup.antt` what a lookup is, `specs/Builder.antt` what a builder has. The numbers of
+//! the format are in `format`. Then `varint`, `handle`, `restarts`, `entry`, `last_key`, `cursor`,
 //! `prefix`, `search` and `builder`.
 #![tactic(auto)]
 

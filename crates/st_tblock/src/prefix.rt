@@ -23,8 +23,8 @@ pub fn common(last: &[u8], key: &[u8]) -> usize
     shared
 }
 
-/// How the key of an entry, `unshared` after the first `shared` bytes of the key before it, compares
-/// with `key`, and how many bytes the prefix that the two have in common has.
+/// How the key of an entry, `unshared` after the first `shared` bytes of the key before it,
+/// compares with `key`, and how many bytes the prefix that the two have in common has.
 ///
 /// The key before it must be before `key`, and have `matched` bytes in common with it.
 pub fn against(matched: usize, shared: usize, unshared: &[u8], key: &[u8]) -> (Ordering, usize)

@@ -81,7 +81,8 @@ fn scan<'a>(text: &'a [u8], key: &[u8]) -> Option<&'a [u8]>
 /// `key`.
 /// Source: LevelDB, table/block.cc; docs/FORMAT.md, "Table file".
 pub fn find<'a>(bytes: &'a [u8], key: &[u8]) -> Option<&'a [u8]>
-    ensures { (rows : List RowView) → IsBlock bytes.now rows → option_map (λ v. v.now) result ≡ lookup key.now rows }
+    ensures { (rows : List RowView) → IsBlock bytes.now rows
+        → option_map (λ v. v.now) result ≡ lookup key.now rows }
 {
     let Some((text, restarts)) = halves_at(bytes) else {
         return None;

@@ -4,8 +4,8 @@ ghost use Rattle.st_tblock.specs.Varint.{groups_in, varint_in, varint32_in, vari
 
 use arrayvec::ArrayVec;
 
-/// The number in the groups that `bytes` begin with, of which there may be `room`, and how many bytes
-/// they take.
+/// The number in the groups that `bytes` begin with, of which there may be `room`, and how many
+/// bytes they take.
 #[tactic(auto, using(crate::proofs::Groups::powers))]
 fn groups(bytes: &[u8], room: u32) -> Option<(u128, usize)>
     requires { room ≤ 10 }
@@ -28,7 +28,8 @@ fn groups(bytes: &[u8], room: u32) -> Option<(u128, usize)>
 
 /// The number in the two groups that `bytes` begin with, where no more come.
 fn pair(bytes: &[u8]) -> Option<u16>
-    ensures value { IfSome result (λ n. (room : ℕ) → 2 ≤ room → groups_in room bytes.now ≡ Some (n, 2)) }
+    ensures value { IfSome result (λ n. (room : ℕ) → 2 ≤ room
+        → groups_in room bytes.now ≡ Some (n, 2)) }
     ensures within { IfSome result (λ n. 2 ≤ length bytes.now) }
 {
     let [first, second, ..] = bytes else {
@@ -105,7 +106,8 @@ fn groups_text(value: u64) -> ArrayVec<u8, 10>
 /// It takes no memory. Source: LevelDB, util/coding.h; docs/FORMAT.md, "Table file".
 pub fn put_varint(value: u64) -> ArrayVec<u8, 10>
     ensures text { result.items ≡ varint_of value }
-    ensures read { (rest : List ℕ) → varint_in (result.items ++ rest) ≡ Some (value, length result.items) }
+    ensures read { (rest : List ℕ)
+        → varint_in (result.items ++ rest) ≡ Some (value, length result.items) }
 {
     groups_text(value)
 }

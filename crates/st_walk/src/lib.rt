@@ -8,7 +8,7 @@
 //!
 //! # What it promises
 //!
-//! - A key is found exactly where the walk reaches a layer that carries it (`has_key`).
+//! - A key is found if and only if the walk reaches a layer that carries it (`has_key`).
 //! - The keys of a frame come in walk order, each as often as it is there, and no other (`keys`,
 //!   `Keys::next`); each fits the type of its kind (`keys`, `laws::keys_fit`).
 //! - A key's text is the byte of its kind and its value, the highest byte first (`key_text`).

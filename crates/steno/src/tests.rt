@@ -226,7 +226,7 @@ fn a_message_is_one_write(rt: HostRuntime) -> Result<(), Fail> {
     Ok(())
 }
 
-// Packets that are in order already go out by one write, behind the file head's: a third write,
+// Packets that are in order already go out by one write, after the file head's: a third write,
 // which would fail, isn't made.
 #[test]
 fn packets_in_order_are_one_write(rt: HostRuntime) -> Result<(), Fail> {
@@ -242,6 +242,14 @@ fn packets_in_order_are_one_write(rt: HostRuntime) -> Result<(), Fail> {
     Ok(())
 }
 
+// The record of a packet that was captured in this second.
+fn add_at(text: &mut Vec<u8>, sec: u32) -> Result<(), Fail> {
+    text.extend_from_slice(&sec.to_le_bytes())?;
+    text.extend_from_slice(&DNS_HEAD[4..])?;
+    text.extend_from_slice(DNS)?;
+    Ok(())
+}
+
 // 1,000 packets from the last to the first: the buffer grows many times, and all are sorted.
 #[test]
 fn many_packets_are_kept_and_sorted(rt: HostRuntime) -> Result<(), Fail> {
@@ -249,11 +257,8 @@ fn many_packets_are_kept_and_sorted(rt: HostRuntime) -> Result<(), Fail> {
     let mut input = joined(alloc, &[HEAD])?;
     let mut wanted = joined(alloc, &[HEAD])?;
     for k in 0..1_000u32 {
-        for (text, sec) in [(&mut input, 999 - k), (&mut wanted, k)] {
-            text.extend_from_slice(&sec.to_le_bytes())?;
-            text.extend_from_slice(&DNS_HEAD[4..])?;
-            text.extend_from_slice(DNS)?;
-        }
+        add_at(&mut input, 999 - k)?;
+        add_at(&mut wanted, k)?;
     }
     let got = tried(alloc, once(alloc, "port 53")?, input.as_slice(), &NONE)?;
     assert_eq!(rt; got.status, Status::Done);

@@ -66,7 +66,7 @@ fn bytes_in(block: &Option<Vec<u8>>) -> &[u8]
     }
 }
 
-/// The record at the front, with a copy of its body, in one allocation.
+/// The record at the start, with a copy of its body, in one allocation.
 #[tactic(auto, unfolding(crate::specs::Checks::record_at))]
 fn record_of(alloc: Global, bytes: &[u8]) -> Result<Record, NoMemory>
     requires fits { room_at bytes.now ≤ length bytes.now }

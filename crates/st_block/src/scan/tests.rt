@@ -23,7 +23,8 @@ const VECTOR: [Piece; 1] = [(
 \x0a\x00\x00\x01\x0a\x00\x00\x02\x30\x39\x00\x35\x00\x0c\x00\x00dns!",
 )];
 
-/// Three records in two blocks of 4,096 bytes, of which the first is full: 3,936 zeros, `abc`, `de`.
+/// Three records in two blocks of 4,096 bytes, of which the first is full: 3,936 zeros, `abc`,
+/// `de`.
 const TWO: [Piece; 6] = [
     (
         0,

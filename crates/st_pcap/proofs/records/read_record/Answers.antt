@@ -27,20 +27,20 @@ returns-in-Ok-read_body-clause-gives g c = λ rest told.
 
 pub returns-in-Ok-read_body-clause-count : goal.returns-in-Ok-read_body-clause-count
 returns-in-Ok-read_body-clause-count g c = record {
-  taken = took-then _ _ _ _ _ _ (omega arith) (omega arith) c.in-Ok.ensures.taken c.in-Ok-read_body.ensures.taken;
+  taken = took-then _ _ _ _ _ _ (omega arith) (omega arith) c.in-Ok.ensures.taken c.in-Ok-read_body.ensures.count.taken;
   later = omega arith;
-  grows = omega (arith, c.in-Ok.ensures.came.1, c.in-Ok-read_body.ensures.grows);
+  grows = omega (arith, c.in-Ok.ensures.came.1, c.in-Ok-read_body.ensures.count.grows);
   bound = omega arith;
 }
 
 pub returns-in-Ok-read_body-clause-takes : goal.returns-in-Ok-read_body-clause-takes
 returns-in-Ok-read_body-clause-takes g c =
-    let body = c.in-Ok-read_body.ensures.takes c.args.taken.now (omega (arith, c.in-Ok.ensures.came.1)) in
+    let body = c.in-Ok-read_body.ensures.count.takes c.args.taken.now (omega (arith, c.in-Ok.ensures.came.1)) in
     omega (arith, c.in-Ok.ensures.came.1, body)
 
 pub returns-in-Err-read_body-clause-count : goal.returns-in-Err-read_body-clause-count
 returns-in-Err-read_body-clause-count g c = record {
-  taken = took-then _ _ _ _ _ _ (omega arith) (omega arith) c.in-Ok.ensures.taken c.in-Err-read_body.ensures.taken;
+  taken = took-then _ _ _ _ _ _ (omega arith) (omega arith) c.in-Ok.ensures.taken c.in-Err-read_body.ensures.count.taken;
   later = omega arith;
   grows = tt;
   bound = omega arith;

@@ -6,11 +6,10 @@ use Rattle.st_table.proofs.Stepping.{goes_taken, goes_on, goes_still, skips_same
 use Rattle.st_table.proofs.cursor.step_in.Goals as goal
 
 pub returns-in-Some-clause-steps : goal.returns-in-Some-clause-steps
-returns-in-Some-clause-steps g c = λ bytes index known d.
-    (
-      goes_taken (footer_at bytes) bytes index c.args.cursor.now c.steps.cursor c.take_row.new.self c.in-Some.row (c.steps.invariant.goes bytes index known d) c.in-Some.ensures,
-      skips_same (footer_at bytes) bytes index c.args.cursor.now c.steps.cursor c.take_row.new.self (ap (λ (q : CursorView). q.next) (sym c.in-Some.ensures)) (c.steps.invariant.skips bytes index known d),
-    )
+returns-in-Some-clause-steps g c = λ bytes index known d. (
+  goes_taken (footer_at bytes) bytes index c.args.cursor.now c.steps.cursor c.take_row.new.self c.in-Some.row (c.steps.invariant.goes bytes index known d) c.in-Some.ensures,
+  skips_same (footer_at bytes) bytes index c.args.cursor.now c.steps.cursor c.take_row.new.self (ap (λ (q : CursorView). q.next) (sym c.in-Some.ensures)) (c.steps.invariant.skips bytes index known d),
+)
 
 pub returns-in-Some-clause-advances : goal.returns-in-Some-clause-advances
 returns-in-Some-clause-advances g c =

@@ -1,4 +1,5 @@
--- The frame's walk is followed layer by layer; the rest of it has the key exactly where the whole has.
+-- The frame's walk is followed layer by layer; the rest of it has the key if and only if the whole
+-- has.
 use Rattle.std.proofs.Common.{refl}
 use Rattle.st_walk.specs.declared.header.Layer.TheVariants.{Ether}
 use Rattle.st_walk.proofs.Seconds.{never}

@@ -3,7 +3,7 @@ use Rattle.st_walk.specs.Walk.{FrameHas, HasFrom}
 use Rattle.st_walk.specs.Listing.{steps_left}
 use Rattle.st_walk.proofs.walk.has_key.Given as goal
 
--- the frame has the key exactly where the rest of its walk has it
+-- the frame has the key if and only if the rest of its walk has it
 abbrev pub invariant-layers : goal.invariant-layers
 invariant-layers l = FrameHas l.frame l.key ↔ HasFrom l.frame l.spot.at l.spot.layer l.key
 

@@ -5,7 +5,7 @@ use Rattle.st_tblock.specs.Builder.{EntryBlockView, HasRows, added}
 use Rattle.st_tblock.proofs.Adding.{has_added}
 use Rattle.st_tblock.proofs.builder.EntryBlock.add.Goals as goal
 
--- what holds of the draft that an Ok leaves
+-- what holds of the builder that an Ok leaves
 on_ok : {E : Type 0} (result : Result (Unit {0}) E) (new next : EntryBlockView) (P : EntryBlockView → Type 0) → OnOk result (new ≡ next) → P next → OnOk result (P new)
 on_ok (Ok x) new next P e p = subst P (sym e) p
 on_ok (Err e) new next P h p = tt
