@@ -1,7 +1,6 @@
 -- How often a scan's calls read the file.
-use Rattle.std.proofs.Common.{◌≡◌, ℕ, ◌+◌, ◌*◌, ◌<◌, ◌≤◌, ◌^◌, min, max, List, Option, Some, None, Result, Ok, Err, OnOk, refl, sym, ap, ◌∙◌, subst, arith}
+use Rattle.std.proofs.Common.{◌≡◌, ℕ, ◌+◌, ◌*◌, ◌<◌, List, Option, Some, None, Result, Ok, Err, OnOk, refl, ap, ◌∙◌, arith}
 use Rattle.st_base.specs.Faults.{CountsOn}
-use Rattle.st_base.specs.Records.{Rec}
 use Rattle.st_block.specs.ScanView.{ScanView, LoadsBlock, load_reads, ReadsOnce}
 use Rattle.st_block.specs.Scan.{PositionedRecord, PassesRecord}
 use Rattle.st_block.specs.declared.errors.BlockErr.{BlockErr}

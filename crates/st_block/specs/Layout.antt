@@ -1,6 +1,5 @@
 -- What laying out the records of a block gives.
-use Rattle.std.specs.Prelude.{◌≡◌, ℕ, zero, suc, ◌+◌, ◌<◌, ◌≤◌, List, [], ◌∷◌, length, drop, slice_index}
-use Rattle.st_base.specs.Records.{Rec}
+use Rattle.std.specs.Prelude.{◌≡◌, ℕ, zero, suc, ◌+◌, ◌<◌, ◌≤◌, List, length, drop, slice_index}
 use Rattle.st_block.specs.BlockText.{used_bytes, last_of}
 use Rattle.st_block.specs.Checks.{room_at, record_at, count_of, records_of}
 use Rattle.st_block.specs.declared.scan.layout.Layout.{Layout}
