@@ -5,7 +5,7 @@ use Rattle.std.proofs.lemmas.Nat.{shr-shr}
 use Rattle.st_disk.specs.declared.changes.Change.{Change}
 use Rattle.st_disk.specs.Folders.{Folder, apply}
 use Rattle.st_disk.specs.Disks.{SomeOf}
-use Rattle.st_disk.specs.Choosing.{bit, chosen}
+use Rattle.st_disk.specs.Crashes.{bit, chosen}
 
 some_chosen : (b : Bool) (n choice : ℕ) (c : Change) (cs : List Change) (f : Folder) → ((g : Folder) → SomeOf cs g (chosen n choice cs g)) → SomeOf (c ∷ cs) f (chosen n choice cs (cond b (apply c f) f))
 some_chosen true n choice c cs f rest = inr (rest (apply c f))

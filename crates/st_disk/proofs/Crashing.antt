@@ -4,43 +4,43 @@ use Rattle.std.proofs.lemmas.List.{take_all}
 use Rattle.st_disk.specs.declared.naming.Kind.TheVariants as kind
 use Rattle.st_disk.specs.declared.changes.Change.{Change}
 use Rattle.st_disk.specs.declared.changes.Call.{Call}
-use Rattle.st_disk.specs.declared.changes.Put.{Put}
+use Rattle.st_disk.specs.declared.changes.Update.{Update}
 use Rattle.st_disk.specs.Folders.{Folder, join, folder_of}
-use Rattle.st_disk.specs.Disks.{Log, Side, side, after, fresh_side, SomeOf, reads, Leaves, moment, at_moment}
-use Rattle.st_disk.specs.Books.{log_of, NoDraft, NumbersBelow, IsKept}
-use Rattle.st_disk.specs.Choosing.{chosen, played, IsCrash}
+use Rattle.st_disk.specs.Disks.{Log, Side, side, after, flushed_side, SomeOf, reads, Leaves, moment, at_moment, log_of}
+use Rattle.st_disk.specs.Book.{NoDraft, NumbersBelow, IsKept}
+use Rattle.st_disk.specs.Crashes.{chosen, side_from, IsCrash}
 use Rattle.st_disk.proofs.Images.{is_left}
 use Rattle.st_disk.proofs.Bits.{chosen_some}
 
 pub whole : (n : ℕ) → n ≡ n / 2 ^ 0
 whole n = omega arith
 
--- a folder played again is that folder of the log
-pub block_side : (sb si : List Put) (cs ds : List Call) (s fl : List Put) (la : List Change) (k : ℕ) → ds ≡ take k cs → s ≡ sb → played fl la ≡ after kind.Block (fresh_side (folder_of s)) ds → played fl la ≡ side kind.Block (at_moment k (log_of sb si cs))
+-- a folder side_from again is that folder of the log
+pub block_side : (sb si : List Update) (cs ds : List Call) (s fl : List Update) (la : List Change) (k : ℕ) → ds ≡ take k cs → s ≡ sb → side_from fl la ≡ after kind.Block (flushed_side (folder_of s)) ds → side_from fl la ≡ side kind.Block (at_moment k (log_of sb si cs))
 unfolding side
-block_side sb si cs ds s fl la k e f is = is ∙ ap (λ (xs : List Call). after kind.Block (fresh_side (folder_of s)) xs) e ∙ ap (λ (ps : List Put). after kind.Block (fresh_side (folder_of ps)) (take k cs)) f
+block_side sb si cs ds s fl la k e f is = is ∙ ap (λ (xs : List Call). after kind.Block (flushed_side (folder_of s)) xs) e ∙ ap (λ (ps : List Update). after kind.Block (flushed_side (folder_of ps)) (take k cs)) f
 
-pub index_side : (sb si : List Put) (cs ds : List Call) (s fl : List Put) (la : List Change) (k : ℕ) → ds ≡ take k cs → s ≡ si → played fl la ≡ after kind.Index (fresh_side (folder_of s)) ds → played fl la ≡ side kind.Index (at_moment k (log_of sb si cs))
+pub index_side : (sb si : List Update) (cs ds : List Call) (s fl : List Update) (la : List Change) (k : ℕ) → ds ≡ take k cs → s ≡ si → side_from fl la ≡ after kind.Index (flushed_side (folder_of s)) ds → side_from fl la ≡ side kind.Index (at_moment k (log_of sb si cs))
 unfolding side
-index_side sb si cs ds s fl la k e f is = is ∙ ap (λ (xs : List Call). after kind.Index (fresh_side (folder_of s)) xs) e ∙ ap (λ (ps : List Put). after kind.Index (fresh_side (folder_of ps)) (take k cs)) f
+index_side sb si cs ds s fl la k e f is = is ∙ ap (λ (xs : List Call). after kind.Index (flushed_side (folder_of s)) xs) e ∙ ap (λ (ps : List Update). after kind.Index (flushed_side (folder_of ps)) (take k cs)) f
 
 -- a log with no call yet
-reads_start : (sb si : List Put) → reads (log_of sb si []) ≡ join (folder_of sb) (folder_of si)
+reads_start : (sb si : List Update) → reads (log_of sb si []) ≡ join (folder_of sb) (folder_of si)
 unfolding reads side
 reads_start sb si = refl
 
-leaves_start : (sb si : List Put) (f : Folder) → Leaves (log_of sb si []) f → f ≡ join (folder_of sb) (folder_of si)
+leaves_start : (sb si : List Update) (f : Folder) → Leaves (log_of sb si []) f → f ≡ join (folder_of sb) (folder_of si)
 unfolding Leaves side
 leaves_start sb si f h = h.4 ∙ ap (λ (b : Folder). join b h.1) h.2 ∙ ap (λ (i : Folder). join (folder_of sb) i) h.3
 
-module _ (log : Log) (k choice : ℕ) (fl gl ps ns xs ys : List Put) (la lb las lbs : List Change) (blocks : played fl la ≡ side kind.Block (at_moment k log)) (indexes : played gl lb ≡ side kind.Index (at_moment k log))
-    (same_la : las ≡ la) (same_lb : lbs ≡ lb) (made : folder_of ps ≡ chosen 0 choice las (folder_of fl)) (made_behind : folder_of ns ≡ chosen (0 + length las) choice lbs (folder_of gl)) (same_ps : xs ≡ ps) (same_ns : ys ≡ ns) where
+module _ (log : Log) (k choice : ℕ) (fl gl ps ns xs ys : List Update) (la lb las lbs : List Change) (blocks : side_from fl la ≡ side kind.Block (at_moment k log)) (indexes : side_from gl lb ≡ side kind.Index (at_moment k log))
+    (same_la : las ≡ la) (same_lb : lbs ≡ lb) (made : folder_of ps ≡ chosen 0 choice las (folder_of fl)) (made_after : folder_of ns ≡ chosen (0 + length las) choice lbs (folder_of gl)) (same_ps : xs ≡ ps) (same_ns : ys ≡ ns) where
   of_blocks : folder_of ps ≡ chosen 0 choice (side kind.Block (at_moment k log)).later (side kind.Block (at_moment k log)).flushed
   of_blocks = made ∙ ap (λ (cs : List Change). chosen 0 choice cs (folder_of fl)) same_la ∙ ap (λ (s : Side). chosen 0 choice s.later s.flushed) blocks
 
   of_indexes : folder_of ns ≡ chosen (length (side kind.Block (at_moment k log)).later) choice (side kind.Index (at_moment k log)).later (side kind.Index (at_moment k log)).flushed
   of_indexes =
-      made_behind
+      made_after
       ∙ ap (λ (n : ℕ). chosen n choice lbs (folder_of gl)) (zero-add (length las) ∙ ap length same_la ∙ ap (λ (s : Side). length s.later) blocks)
       ∙ ap (λ (cs : List Change). chosen (length (side kind.Block (at_moment k log)).later) choice cs (folder_of gl)) same_lb
       ∙ ap (λ (s : Side). chosen (length (side kind.Block (at_moment k log)).later) choice s.later s.flushed) indexes
@@ -58,7 +58,7 @@ module _ (log : Log) (k choice : ℕ) (fl gl ps ns xs ys : List Put) (la lb las 
       )
 
   joined : join (folder_of xs) (folder_of ys) ≡ join (folder_of ps) (folder_of ns)
-  joined = ap (λ (qs : List Put). join (folder_of qs) (folder_of ys)) same_ps ∙ ap (λ (qs : List Put). join (folder_of ps) (folder_of qs)) same_ns
+  joined = ap (λ (qs : List Update). join (folder_of qs) (folder_of ys)) same_ps ∙ ap (λ (qs : List Update). join (folder_of ps) (folder_of qs)) same_ns
 
   pub is_crash : (cs : List Call) → cs ≡ [] → IsCrash log k choice (log_of xs ys cs)
   is_crash cs none = record {

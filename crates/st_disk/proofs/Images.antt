@@ -6,8 +6,9 @@ use Rattle.st_disk.specs.declared.naming.Name.{Name}
 use Rattle.st_disk.specs.declared.changes.Change.{Change}
 use Rattle.st_disk.specs.declared.changes.Call.{Call}
 use Rattle.st_disk.specs.declared.changes.Call.TheVariants.{Did, Flush, Other}
-use Rattle.st_disk.specs.Folders.{Folder, by_kind, kind_of, same_kind, join, apply, apply_all, change_kind, folder_of}
-use Rattle.st_disk.specs.Disks.{Log, Side, step, after, fresh_side, side, read_of, reads, SomeOf, Leaves, and_then}
+use Rattle.st_disk.specs.Names.{by_kind, kind_of, same_kind}
+use Rattle.st_disk.specs.Folders.{Folder, join, apply, apply_all, change_kind, folder_of}
+use Rattle.st_disk.specs.Disks.{Log, Side, step, after, flushed_side, side, read_of, reads, SomeOf, Leaves, and_then}
 use Rattle.st_disk.proofs.Joins.{apply_join}
 
 some_snoc : (cs : List Change) (c : Change) (f g : Folder) → SomeOf (cs ++ c ∷ []) f g → (e : Folder) × SomeOf cs f e × ((g ≡ e) ⊎ (g ≡ apply c e))
@@ -29,7 +30,7 @@ after_snoc k s (b ∷ bs) c = after_snoc k (step k s b) bs c
 
 pub side_then : (k : Kind) (log : Log) (call : Call) → side k (and_then log call) ≡ step k (side k log) call
 unfolding side
-side_then k log call = after_snoc k (fresh_side (folder_of (by_kind k log.start_blocks log.start_indexes))) log.calls call
+side_then k log call = after_snoc k (flushed_side (folder_of (by_kind k log.start_blocks log.start_indexes))) log.calls call
 
 -- what a crash may leave of two folders
 abbrev pub LeavesOf : Side → Side → Folder → Type 0
@@ -48,7 +49,7 @@ unfolding Leaves
 is_left log c h = h
 
 -- a change in one of two folders
-abbrev did : Kind → Kind → Change → Side → Side
+abbrev pub did : Kind → Kind → Change → Side → Side
 did j k c s = cond (same_kind j k) (record { flushed = s.flushed; later = s.later ++ c ∷ [] }) s
 
 sides_did : (j : Kind) (c : Change) (x y : Side) (f : Folder) → ((b i : Folder) → apply c (join b i) ≡ by_kind j (join (apply c b) i) (join b (apply c i)))
@@ -60,7 +61,7 @@ sides_did kind.Index c x y f joins h =
     let r = some_snoc y.later c y.flushed h.1 h.3 in
     (join h.0 r.0, (h.0, r.0, h.2, r.1, refl), ⊎_elim (λ (e : h.1 ≡ r.0). inl (h.4 ∙ ap (λ (i : Folder). join h.0 i) e)) (λ (e : h.1 ≡ apply c r.0). inr (h.4 ∙ ap (λ (i : Folder). join h.0 i) e ∙ sym (joins h.0 r.0))) r.2)
 
-read_did : (j : Kind) (c : Change) (x y : Side) → ((b i : Folder) → apply c (join b i) ≡ by_kind j (join (apply c b) i) (join b (apply c i)))
+pub read_did : (j : Kind) (c : Change) (x y : Side) → ((b i : Folder) → apply c (join b i) ≡ by_kind j (join (apply c b) i) (join b (apply c i)))
     → join (read_of (did j kind.Block c x)) (read_of (did j kind.Index c y)) ≡ apply c (join (read_of x) (read_of y))
 read_did kind.Block c x y joins = ap (λ (b : Folder). join b (read_of y)) (all_snoc x.later c x.flushed) ∙ sym (joins (read_of x) (read_of y))
 read_did kind.Index c x y joins = ap (λ (i : Folder). join (read_of x) i) (all_snoc y.later c y.flushed) ∙ sym (joins (read_of x) (read_of y))

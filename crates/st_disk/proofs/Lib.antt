@@ -1,12 +1,13 @@
 pub mod Joins
 pub mod Images
+pub mod Eventful
 pub mod Moments
 pub mod Keeping
 pub mod Order
 pub mod Gathering
 mod Placing
-pub mod Settling
 pub mod Bits
 pub mod Crashing
-pub mod Runs
 pub mod OneSet
+pub mod Runs
+pub mod Reading

@@ -3,8 +3,7 @@ use Rattle.std.proofs.Common.{◌≡◌, ◌≤◌, ◌+◌, ◌⊎◌, ℕ, Lis
 use Rattle.std.proofs.lemmas.List.{take_all, take-append-le}
 use Rattle.st_disk.specs.declared.changes.Call.{Call}
 use Rattle.st_disk.specs.Folders.{Folder}
-use Rattle.st_disk.specs.Books.{log_of}
-use Rattle.st_disk.specs.Disks.{Log, Leaves, and_then, moment, Since}
+use Rattle.st_disk.specs.Disks.{log_of, Log, Leaves, and_then, moment, Since}
 
 with_calls : (log : Log) (calls : List Call) (f : Folder) → log.calls ≡ calls → Leaves log f → Leaves (log_of log.start_blocks log.start_indexes calls) f
 with_calls log calls f same h = subst (λ (cs : List Call). Leaves (log_of log.start_blocks log.start_indexes cs) f) same h

@@ -20,8 +20,8 @@ files_here e es =
     let same : nat_eq e.stamp e.stamp ≡ true = grind (arith, nat_tests) in
     ap (λ (b : Bool). cond b (Some (files_of e)) (files_at e.stamp es)) same
 
-files_behind : (s : ℕ) (e : Entry) (es : List Entry) → nat_eq e.stamp s ≡ false → files_at s (e ∷ es) ≡ files_at s es
-files_behind s e es other = ap (λ (b : Bool). cond b (Some (files_of e)) (files_at s es)) other
+files_after : (s : ℕ) (e : Entry) (es : List Entry) → nat_eq e.stamp s ≡ false → files_at s (e ∷ es) ≡ files_at s es
+files_after s e es other = ap (λ (b : Bool). cond b (Some (files_of e)) (files_at s es)) other
 
 not_none : (x : Files) → ◌≡◌ {A = Option Files} (Some x) None → ⊥
 not_none x e = cc
@@ -46,7 +46,7 @@ tails s d e ds es first h k same true here =
     rw (sym is) (none_at e.stamp ds (rw (sym (ap (λ (x : Entry). x.stamp) first)) h.0) ∙ sym (none_at e.stamp es k.0))
 tails s d e ds es first h k same false there =
     let was : nat_eq d.stamp s ≡ false = ap (λ (x : Entry). nat_eq x.stamp s) first ∙ there in
-    sym (files_behind s d ds was) ∙ same ∙ files_behind s e es there
+    sym (files_after s d ds was) ∙ same ∙ files_after s e es there
 
 one_list : (a b : List Entry) → IsFileSet a → IsFileSet b → ((s : ℕ) → files_at s a ≡ files_at s b) → a ≡ b
 one_list [] [] h k same = refl

@@ -6,12 +6,10 @@ use Rattle.std.specs.List.{insert}
 use Rattle.st_disk.specs.declared.naming.Kind.TheVariants as kind
 use Rattle.st_disk.specs.declared.naming.Name.{Name}
 use Rattle.st_disk.specs.declared.naming.Name.TheVariants.{Block, Index, Parked, Draft}
-use Rattle.st_disk.specs.Folders.{same_name}
-use Rattle.st_disk.specs.Calls.{number_of}
-use Rattle.st_disk.specs.Listing.{sort_of, Before, Rises}
+use Rattle.st_disk.specs.Names.{same_name, number_of, rank_of, Before, AreSorted}
 
--- sort and number tell the name
-pub one_name : (m n : Name) → sort_of m ≡ sort_of n → number_of m ≡ number_of n → m ≡ n
+-- rank and number determine the name
+pub one_name : (m n : Name) → rank_of m ≡ rank_of n → number_of m ≡ number_of n → m ≡ n
 one_name (Block s) (Block t) e f = ap Block f
 one_name (Index s) (Index t) e f = ap Index f
 one_name (Parked s) (Parked t) e f = ap Parked f
@@ -55,13 +53,13 @@ is_same (Draft kind.Index s) = grind (arith, nat_tests)
 
 before_by : (m n : Name) → same_name m n ≡ false → (Before m n → ⊥) → Before n m
 before_by m n other not =
-    let cases : (sort_of m < sort_of n) ⊎ ((sort_of m ≡ sort_of n) ⊎ (sort_of n < sort_of m)) = grind arith in
-    let by_number : sort_of m ≡ sort_of n → (number_of m < number_of n) ⊎ ((number_of m ≡ number_of n) ⊎ (number_of n < number_of m)) = λ e. grind arith in
+    let cases : (rank_of m < rank_of n) ⊎ ((rank_of m ≡ rank_of n) ⊎ (rank_of n < rank_of m)) = grind arith in
+    let by_number : rank_of m ≡ rank_of n → (number_of m < number_of n) ⊎ ((number_of m ≡ number_of n) ⊎ (number_of n < number_of m)) = λ e. grind arith in
     let differ : m ≡ n → ⊥ = λ e. let t : same_name m n ≡ true = subst (λ (k : Name). same_name m k ≡ true) e (is_same m) in cc in
     ⊎_elim
     (λ lt. absurd (not (inl lt)))
     (λ rest. ⊎_elim
-    (λ (e : sort_of m ≡ sort_of n). ⊎_elim (λ lt. absurd (not (inr (e, lt)))) (λ more. ⊎_elim (λ same. absurd (differ (one_name m n e same))) (λ gt. inr (sym e, gt)) more) (by_number e))
+    (λ (e : rank_of m ≡ rank_of n). ⊎_elim (λ lt. absurd (not (inr (e, lt)))) (λ more. ⊎_elim (λ same. absurd (differ (one_name m n e same))) (λ gt. inr (sym e, gt)) more) (by_number e))
     (λ gt. inl gt)
     rest)
     cases
@@ -74,10 +72,10 @@ get_or_any (x ∷ xs) (suc k) d e lt = get_or_any xs k d e (omega arith)
 before_trans : (l m n : Name) → Before l m → Before m n → Before l n
 before_trans l m n a b =
     let number : (i j k x y z : ℕ) → ((i < j) ⊎ ((i ≡ j) × (x < y))) → ((j < k) ⊎ ((j ≡ k) × (y < z))) → (i < k) ⊎ ((i ≡ k) × (x < z)) = λ i j k x y z a b. grind arith in
-    number (sort_of l) (sort_of m) (sort_of n) (number_of l) (number_of m) (number_of n) a b
+    number (rank_of l) (rank_of m) (rank_of n) (number_of l) (number_of m) (number_of n) a b
 
 module _ (xs : List Name) (i : ℕ) (n : Name) (le : i ≤ length xs) where
-  -- at each place of the longer list
+  -- at each index of the longer list
   at_below : (k : ℕ) (d : Name) → k < i → get_or (insert xs i n) k d ≡ get_or xs k d
   at_below k d lt = get_or-insert_below xs i n d k lt le
 
@@ -86,8 +84,8 @@ module _ (xs : List Name) (i : ℕ) (n : Name) (le : i ≤ length xs) where
       let e : k - 1 + 1 ≡ k = omega arith in
       ap (λ (j : ℕ). get_or (insert xs i n) j d) (sym e) ∙ get_or-insert_above xs i n d (k - 1) (omega arith) le
 
-  at_place : (k : ℕ) (d : Name) → k ≡ i → get_or (insert xs i n) k d ≡ n
-  at_place k d e = ap (λ (j : ℕ). get_or (insert xs i n) j d) e ∙ get_or-insert_at xs i n d le
+  at_index : (k : ℕ) (d : Name) → k ≡ i → get_or (insert xs i n) k d ≡ n
+  at_index k d e = ap (λ (j : ℕ). get_or (insert xs i n) j d) e ∙ get_or-insert_at xs i n d le
 
   pub has_insert : (m : Name) → Contains (insert xs i n) m → Contains xs m ⊎ (m ≡ n)
   has_insert m h =
@@ -98,7 +96,7 @@ module _ (xs : List Name) (i : ℕ) (n : Name) (le : i ≤ length xs) where
       let cases : (k < i) ⊎ ((k ≡ i) ⊎ (i < k)) = grind arith in
       ⊎_elim
       (λ (below : k < i). inl (k, omega arith, sym (at_below k m below) ∙ at))
-      (λ rest. ⊎_elim (λ (e : k ≡ i). inr (sym at ∙ at_place k m e)) (λ (above : i < k). inl (k - 1, omega arith, sym (at_above k m above) ∙ at)) rest)
+      (λ rest. ⊎_elim (λ (e : k ≡ i). inr (sym at ∙ at_index k m e)) (λ (above : i < k). inl (k - 1, omega arith, sym (at_above k m above) ∙ at)) rest)
       cases
 
   pub has_still : (m : Name) → Contains xs m → Contains (insert xs i n) m
@@ -112,12 +110,12 @@ module _ (xs : List Name) (i : ℕ) (n : Name) (le : i ≤ length xs) where
   pub has_new : (m : Name) → m ≡ n → Contains (insert xs i n) m
   has_new m e =
       let long : length (insert xs i n) ≡ length xs + 1 = length-insert xs i n le in
-      (i, omega arith, at_place i m refl ∙ sym e)
+      (i, omega arith, at_index i m refl ∙ sym e)
 
-module _ (xs : List Name) (i : ℕ) (n : Name) (le : i ≤ length xs) (rises : Rises xs) (before : (k : ℕ) (d : Name) → k < i → Before (get_or xs k d) n)
+module _ (xs : List Name) (i : ℕ) (n : Name) (le : i ≤ length xs) (rises : AreSorted xs) (before : (k : ℕ) (d : Name) → k < i → Before (get_or xs k d) n)
     (not_same : (d : Name) → i < length xs → same_name (get_or xs i d) n ≡ false) (not_before : (d : Name) → i < length xs → Before (get_or xs i d) n → ⊥) where
-  behind : (k : ℕ) (d : Name) → i ≤ k → k < length xs → Before n (get_or xs k d)
-  behind k d ge lt =
+  following : (k : ℕ) (d : Name) → i ≤ k → k < length xs → Before n (get_or xs k d)
+  following k d ge lt =
       let at : Before n (get_or xs i d) = before_by (get_or xs i d) n (not_same d (omega arith)) (not_before d (omega arith)) in
       let cases : (i ≡ k) ⊎ (i < k) = grind arith in
       ⊎_elim (λ (e : i ≡ k). subst (λ (j : ℕ). Before n (get_or xs j d)) e at) (λ (more : i < k). before_trans n (get_or xs i d) (get_or xs k d) at (rises i k d more lt)) cases
@@ -125,7 +123,7 @@ module _ (xs : List Name) (i : ℕ) (n : Name) (le : i ≤ length xs) (rises : R
   both : (p q : ℕ) (d : Name) (a b : Name) → get_or (insert xs i n) p d ≡ a → get_or (insert xs i n) q d ≡ b → Before a b → Before (get_or (insert xs i n) p d) (get_or (insert xs i n) q d)
   both p q d a b e f h = subst (λ (x : Name). Before x (get_or (insert xs i n) q d)) (sym e) (subst (λ (y : Name). Before a y) (sym f) h)
 
-  pub rises_insert : Rises (insert xs i n)
+  pub rises_insert : AreSorted (insert xs i n)
   rises_insert p q d lt less =
       let long : length (insert xs i n) ≡ length xs + 1 = length-insert xs i n le in
       let end : q < length xs + 1 = omega arith in
@@ -134,20 +132,20 @@ module _ (xs : List Name) (i : ℕ) (n : Name) (le : i ≤ length xs) (rises : R
       ⊎_elim
       (λ (q_below : q < i). both p q d (get_or xs p d) (get_or xs q d) (at_below xs i n le p d (omega arith)) (at_below xs i n le q d q_below) (rises p q d lt (omega arith)))
       (λ rest. ⊎_elim
-      (λ (e : q ≡ i). both p q d (get_or xs p d) n (at_below xs i n le p d (omega arith)) (at_place xs i n le q d e) (before p d (omega arith)))
+      (λ (e : q ≡ i). both p q d (get_or xs p d) n (at_below xs i n le p d (omega arith)) (at_index xs i n le q d e) (before p d (omega arith)))
       (λ (q_above : i < q). ⊎_elim
       (λ (p_below : p < i). both p q d (get_or xs p d) (get_or xs (q - 1) d) (at_below xs i n le p d p_below) (at_above xs i n le q d q_above) (rises p (q - 1) d (omega arith) (omega arith)))
       (λ more. ⊎_elim
-      (λ (e : p ≡ i). both p q d n (get_or xs (q - 1) d) (at_place xs i n le p d e) (at_above xs i n le q d q_above) (behind (q - 1) d (omega arith) (omega arith)))
+      (λ (e : p ≡ i). both p q d n (get_or xs (q - 1) d) (at_index xs i n le p d e) (at_above xs i n le q d q_above) (following (q - 1) d (omega arith) (omega arith)))
       (λ (p_above : i < p). both p q d (get_or xs (p - 1) d) (get_or xs (q - 1) d) (at_above xs i n le p d p_above) (at_above xs i n le q d q_above) (rises (p - 1) (q - 1) d (omega arith) (omega arith)))
       more)
       where_p)
       rest)
       where_q
 
--- what stands behind the last of rising names stands behind all
-pub behind_all : (xs : List Name) (n e : Name) → Before (get_or xs (length xs - 1) e) n → Rises xs → (k : ℕ) (d : Name) → k < length xs → Before (get_or xs k d) n
-behind_all xs n e before rises k d lt =
+-- what comes after the last of sorted names comes after all
+pub after_all : (xs : List Name) (n e : Name) → Before (get_or xs (length xs - 1) e) n → AreSorted xs → (k : ℕ) (d : Name) → k < length xs → Before (get_or xs k d) n
+after_all xs n e before rises k d lt =
     let last = length xs - 1 in
     let at : get_or xs last e ≡ get_or xs last d = get_or_any xs last e d (omega arith) in
     let cases : (k ≡ length xs - 1) ⊎ (k < length xs - 1) = grind arith in

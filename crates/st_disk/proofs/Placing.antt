@@ -1,14 +1,14 @@
--- Names that are put into their places, one after another.
+-- Names that are added in their order, one after another.
 use Rattle.std.proofs.Common.{◌≡◌, ◌⊎◌, List, [], ◌∷◌, ◌<◌, length, sym, ap, subst, arith, inl, inr, ⊎_elim, Contains}
 use Rattle.std.proofs.lemmas.List.Elements.{Contains-append_left, Contains-append_right, Contains-append_cases, Contains-push, Contains-push_cases}
 use Rattle.st_disk.specs.declared.naming.Name.{Name}
-use Rattle.st_disk.specs.Listing.{Rises}
+use Rattle.st_disk.specs.Names.{AreSorted}
 
 -- no name is among none
 pub none_among : (ns : List Name) (n : Name) → length ns < 1 → Contains ns n → ⊥
 none_among ns n none h = omega (arith, h.1)
 
--- a name is the first, or among those behind it
+-- a name is the first, or among those after it
 pub first_or_rest : (ns rest : List Name) (m n : Name) → ns ≡ m ∷ rest → Contains ns n → Contains rest n ⊎ (n ≡ m)
 first_or_rest ns rest m n e h =
     ⊎_elim
@@ -26,5 +26,5 @@ among_all ns rest m n e h =
     h)
 
 -- none rise
-pub none_rise : (ns : List Name) → ns ≡ [] → Rises ns
+pub none_rise : (ns : List Name) → ns ≡ [] → AreSorted ns
 none_rise ns e i j d l m = let none : length ns ≡ 0 = ap length e in absurd (omega arith)

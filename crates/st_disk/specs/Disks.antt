@@ -5,14 +5,19 @@ use Rattle.st_disk.specs.declared.naming.Kind.TheVariants as kind
 use Rattle.st_disk.specs.declared.changes.Change.{Change}
 use Rattle.st_disk.specs.declared.changes.Call.{Call}
 use Rattle.st_disk.specs.declared.changes.Call.TheVariants.{Did, Flush, Other}
-use Rattle.st_disk.specs.declared.changes.Put.{Put}
-use Rattle.st_disk.specs.Folders.{Folder, apply, apply_all, change_kind, same_kind, by_kind, join, folder_of}
+use Rattle.st_disk.specs.declared.changes.Update.{Update}
+use Rattle.st_disk.specs.Names.{same_kind, by_kind}
+use Rattle.st_disk.specs.Folders.{Folder, apply, apply_all, change_kind, join, folder_of}
 
 -- what stood in each folder as the shelf was made, and what each call did since
 pub record Log : Type 0 where
-  pub start_blocks : List Put
-  pub start_indexes : List Put
+  pub start_blocks : List Update
+  pub start_indexes : List Update
   pub calls : List Call
+
+-- a log by its parts
+abbrev pub log_of : List Update → List Update → List Call → Log
+log_of blocks indexes calls = record { start_blocks = blocks; start_indexes = indexes; calls = calls }
 
 -- one folder on the disk: as last flushed, and the changes since
 pub record Side : Type 0 where
@@ -29,12 +34,12 @@ abbrev pub after : Kind → Side → List Call → Side
 after k side [] = side
 after k side (c ∷ cs) = after k (step k side c) cs
 
-abbrev pub fresh_side : Folder → Side
-fresh_side f = record { flushed = f; later = [] }
+abbrev pub flushed_side : Folder → Side
+flushed_side f = record { flushed = f; later = [] }
 
 -- a folder of the shelf, after all calls
 unfoldable pub side : Kind → Log → Side
-side k log = after k (fresh_side (folder_of (by_kind k log.start_blocks log.start_indexes))) log.calls
+side k log = after k (flushed_side (folder_of (by_kind k log.start_blocks log.start_indexes))) log.calls
 
 -- what is read of one folder: all its changes are made
 abbrev pub read_of : Side → Folder

@@ -1,8 +1,10 @@
+pub mod Names
 pub mod Folders
 pub mod Disks
-pub mod Calls
-pub mod Books
-pub mod Choosing
-pub mod Listing
-pub mod Runs
 pub mod Pairs
+pub mod Events
+pub mod LoggedCalls
+pub mod Runs
+pub mod Book
+pub mod Crashes
+pub mod Listing

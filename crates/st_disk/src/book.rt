@@ -1,19 +1,19 @@
 ghost use Rattle.std.specs.Prelude.{Option, ◌≡◌, ◌++◌, ◌∷◌, [], None, option_map, OnOk, OnErr, IfOk, IfErr, ℕ, List, ◌≤◌, ◌<◌, vec_len, vec_capacity, option_to_list, ◌↔◌, IsSome, Contains, Some, length};
 ghost use Rattle.st_disk.specs.declared.changes.Change.TheVariants as change;
 ghost use Rattle.st_disk.specs.declared.changes.Call.TheVariants as call;
-ghost use Rattle.st_disk.specs.Folders.{Folder, apply, folder_of, published};
+ghost use Rattle.st_disk.specs.Names.{published, AreSorted};
+ghost use Rattle.st_disk.specs.Folders.{Folder, apply, folder_of};
 ghost use Rattle.st_disk.specs.declared.naming.Name.{Name};
-ghost use Rattle.st_disk.specs.Listing.{Rises};
-ghost use Rattle.st_disk.specs.Calls.{removal};
-ghost use Rattle.st_disk.specs.Choosing.{IsCrash};
-ghost use Rattle.st_disk.specs.Disks.{reads, and_then, Leaves, moment};
+ghost use Rattle.st_disk.specs.LoggedCalls.{removal};
+ghost use Rattle.st_disk.specs.Crashes.{IsCrash};
+ghost use Rattle.st_disk.specs.Disks.{reads, and_then, Leaves, moment, log_of};
 ghost use Rattle.st_disk.specs.declared.naming.Name.TheVariants as name;
-ghost use Rattle.st_disk.specs.declared.changes.Put.{Put};
-ghost use Rattle.st_disk.specs.Books.{MakesBelow, ChangesNothing, IsKept, log_of};
+ghost use Rattle.st_disk.specs.declared.changes.Update.{Update};
+ghost use Rattle.st_disk.specs.Book.{MakesBelow, ChangesNothing, IsKept};
 
-use crate::changes::{Call, Change, Put};
-use crate::crashes::{choose, copy_puts, play_all};
-use crate::folders::{find, kind_of_change, kind_of_name, put_of};
+use crate::changes::{Call, Change, Update};
+use crate::crashes::{choose, copy_updates, replay};
+use crate::folders::{find, kind_of_change, kind_of_name, update_of};
 use crate::listing::gather;
 use crate::naming::{Kind, Name, Names};
 use st_base::{NoMemory, Octets};
@@ -25,17 +25,17 @@ use std::marker::Model;
 /// Each call either adds one call to the log or, where it finds no memory, leaves the log as it was.
 #[derive(Drop)]
 pub struct Book {
-    start_blocks: Vec<Put>,
-    start_indexes: Vec<Put>,
+    start_blocks: Vec<Update>,
+    start_indexes: Vec<Update>,
     calls: Vec<Call>,
-    blocks: Vec<Put>,
-    indexes: Vec<Put>,
+    blocks: Vec<Update>,
+    indexes: Vec<Update>,
     next: u64,
 }
 
 impl Model for Book {
     ghost use Rattle.st_disk.specs.Disks.{Log};
-    ghost use Rattle.st_disk.specs.Books.{IsKept};
+    ghost use Rattle.st_disk.specs.Book.{IsKept};
 
     ghost Value = { Log };
 
@@ -71,7 +71,7 @@ impl Book {
 
     /// All names that are there, in order, each once.
     pub fn list(&self, alloc: Global) -> Result<Names, NoMemory>
-        ensures sorted { IfOk result Rises }
+        ensures sorted { IfOk result AreSorted }
         ensures all { IfOk result (λ names. (n : Name) → Contains names n ↔ IsSome (reads self.now n)) }
     {
         let mut items = Vec::new(alloc);
@@ -125,13 +125,13 @@ impl Book {
         ensures { IfOk result (IsCrash self.now moment choice) }
     {
         let calls = self.calls.as_slice().split_at(moment as usize).0;
-        let mut blocks = play_all(alloc, Kind::Block, &self.start_blocks, calls)?;
+        let mut blocks = replay(alloc, Kind::Block, &self.start_blocks, calls)?;
         let left = choose(alloc, choice, &mut blocks.flushed, &blocks.later)?;
-        let mut indexes = play_all(alloc, Kind::Index, &self.start_indexes, calls)?;
+        let mut indexes = replay(alloc, Kind::Index, &self.start_indexes, calls)?;
         choose(alloc, left, &mut indexes.flushed, &indexes.later)?;
         Ok(Book {
-            start_blocks: copy_puts(alloc, &blocks.flushed)?,
-            start_indexes: copy_puts(alloc, &indexes.flushed)?,
+            start_blocks: copy_updates(alloc, &blocks.flushed)?,
+            start_indexes: copy_updates(alloc, &indexes.flushed)?,
             calls: Vec::new(alloc),
             blocks: blocks.flushed,
             indexes: indexes.flushed,
@@ -207,7 +207,7 @@ impl Book {
     /// `NoMemory` comes at the draft with the number 2^64 - 1, too.
     pub fn make(&mut self, alloc: Global, kind: Kind) -> Result<u64, NoMemory>
         ensures ok { IfOk result (λ n. self.new ≡ and_then self.old (call.Did (change.Make kind n))) }
-        ensures fresh { IfOk result (λ n. (c : Folder) → Leaves self.old c → c (name.Draft kind n) ≡ None) }
+        ensures unused { IfOk result (λ n. (c : Folder) → Leaves self.old c → c (name.Draft kind n) ≡ None) }
         ensures err { OnErr result (self.new ≡ self.old) }
     {
         let number = self.next;
@@ -228,15 +228,15 @@ impl Book {
     }
 }
 
-// Puts a change behind the calls, and into its folder.
+// Adds a change to the calls, and to its folder.
 fn record_in(
     alloc: Global,
     calls: &mut Vec<Call>,
-    blocks: &mut Vec<Put>,
-    indexes: &mut Vec<Put>,
+    blocks: &mut Vec<Update>,
+    indexes: &mut Vec<Update>,
     change: Change,
 ) -> Result<(), Change>
-    ensures kept { (b i : List Put) (n m : ℕ) → n ≤ m → MakesBelow m change → IsKept (log_of b i calls.old.items) blocks.old.items indexes.old.items n → IsKept (log_of b i calls.new.items) blocks.new.items indexes.new.items m }
+    ensures kept { (b i : List Update) (n m : ℕ) → n ≤ m → MakesBelow m change → IsKept (log_of b i calls.old.items) blocks.old.items indexes.old.items n → IsKept (log_of b i calls.new.items) blocks.new.items indexes.new.items m }
     ensures ok { OnOk result (calls.new.items ≡ calls.old.items ++ call.Did change ∷ []) }
     ensures err { IfErr result (λ c. (c ≡ change) × (calls.new.items ≡ calls.old.items)) }
 {
@@ -246,25 +246,25 @@ fn record_in(
     }
 }
 
-// Puts a change behind the calls, and behind the puts of its folder.
+// Adds a change to the calls, and the update that it is to its folder.
 fn record_change(
     alloc: Global,
     calls: &mut Vec<Call>,
-    puts: &mut Vec<Put>,
+    updates: &mut Vec<Update>,
     change: Change,
 ) -> Result<(), Change>
     ensures calls { OnOk result (calls.new.items ≡ calls.old.items ++ call.Did change ∷ []) }
-    ensures puts { OnOk result (folder_of puts.new.items ≡ apply change (folder_of puts.old.items)) }
-    ensures err { IfErr result (λ c. (c ≡ change) × (calls.new.items ≡ calls.old.items) × (puts.new.items ≡ puts.old.items)) }
+    ensures updates { OnOk result (folder_of updates.new.items ≡ apply change (folder_of updates.old.items)) }
+    ensures err { IfErr result (λ c. (c ≡ change) × (calls.new.items ≡ calls.old.items) × (updates.new.items ≡ updates.old.items)) }
 {
-    let Ok(put) = put_of(alloc, puts, &change) else {
+    let Ok(update) = update_of(alloc, updates, &change) else {
         return Err(change);
     };
-    if calls.reserve(1).is_err() || puts.reserve(1).is_err() {
+    if calls.reserve(1).is_err() || updates.reserve(1).is_err() {
         return Err(change);
     }
     push_call(calls, Call::Did(change));
-    push_put(puts, put);
+    push_update(updates, update);
     Ok(())
 }
 
@@ -275,11 +275,11 @@ fn push_call(calls: &mut Vec<Call>, call: Call)
     let _ = calls.push(call);
 }
 
-fn push_put(puts: &mut Vec<Put>, put: Option<Put>)
-    requires { vec_len puts.old < vec_capacity puts.old }
-    ensures { puts.new.items ≡ puts.old.items ++ option_to_list put }
+fn push_update(updates: &mut Vec<Update>, update: Option<Update>)
+    requires { vec_len updates.old < vec_capacity updates.old }
+    ensures { updates.new.items ≡ updates.old.items ++ option_to_list update }
 {
-    if let Some(put) = put {
-        let _ = puts.push(put);
+    if let Some(update) = update {
+        let _ = updates.push(update);
     }
 }

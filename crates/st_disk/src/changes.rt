@@ -34,9 +34,9 @@ pub enum Call {
     Other,
 }
 
-/// A part of what a folder has: of several puts of a name the last one counts.
+/// A part of what a folder has: of several updates of a name the last one counts.
 #[derive(Drop)]
-pub enum Put {
+pub enum Update {
     /// The name has these bytes, or isn't there.
     Set { name: Name, bytes: Option<Octets> },
     /// The first name isn't there, and the second has these bytes.

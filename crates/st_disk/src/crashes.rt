@@ -1,42 +1,42 @@
 // What a crash leaves of one folder, by playing the calls again.
 ghost use Rattle.std.specs.Prelude.{◌≡◌, ◌+◌, ◌/◌, ◌%◌, ◌^◌, ◌∷◌, ◌++◌, [], ℕ, length, cond, nat_eq, IfOk, OnOk, option_to_list};
 ghost use Rattle.st_disk.specs.Folders.{apply, apply_all, folder_of};
-ghost use Rattle.st_disk.specs.Disks.{step, after, fresh_side};
-ghost use Rattle.st_disk.specs.Choosing.{chosen, played};
+ghost use Rattle.st_disk.specs.Disks.{step, after, flushed_side};
+ghost use Rattle.st_disk.specs.Crashes.{chosen, side_from};
 
-use crate::changes::{Call, Change, Put};
-use crate::folders::{is_same_kind, kind_of_change, put_of};
+use crate::changes::{Call, Change, Update};
+use crate::folders::{is_same_kind, kind_of_change, update_of};
 use crate::naming::Kind;
 use st_base::{NoMemory, Octets};
 use std::alloc::Global;
 
 // A folder as last flushed, and the changes since.
 #[derive(Drop)]
-pub(crate) struct Played {
-    pub(crate) flushed: Vec<Put>,
+pub(crate) struct MemSide {
+    pub(crate) flushed: Vec<Update>,
     pub(crate) later: Vec<Change>,
 }
 
-fn copy_put(alloc: Global, put: &Put) -> Result<Put, NoMemory>
-    ensures { IfOk result (λ p. p ≡ put.now) }
+fn copy_update(alloc: Global, update: &Update) -> Result<Update, NoMemory>
+    ensures { IfOk result (λ p. p ≡ update.now) }
 {
-    match put {
-        Put::Set { name, bytes: None } => Ok(Put::Set {
+    match update {
+        Update::Set { name, bytes: None } => Ok(Update::Set {
             name: *name,
             bytes: None,
         }),
-        Put::Set {
+        Update::Set {
             name,
             bytes: Some(bytes),
         } => match Octets::copy_of(alloc, bytes.bytes()) {
-            Ok(copy) => Ok(Put::Set {
+            Ok(copy) => Ok(Update::Set {
                 name: *name,
                 bytes: Some(copy),
             }),
             Err(error) => Err(error),
         },
-        Put::Move { from, to, bytes } => match Octets::copy_of(alloc, bytes.bytes()) {
-            Ok(copy) => Ok(Put::Move {
+        Update::Move { from, to, bytes } => match Octets::copy_of(alloc, bytes.bytes()) {
+            Ok(copy) => Ok(Update::Move {
                 from: *from,
                 to: *to,
                 bytes: copy,
@@ -46,24 +46,24 @@ fn copy_put(alloc: Global, put: &Put) -> Result<Put, NoMemory>
     }
 }
 
-fn push_put(puts: &mut Vec<Put>, put: Option<Put>) -> Result<(), NoMemory>
-    ensures { OnOk result (puts.new.items ≡ puts.old.items ++ option_to_list put) }
+fn push_update(updates: &mut Vec<Update>, update: Option<Update>) -> Result<(), NoMemory>
+    ensures { OnOk result (updates.new.items ≡ updates.old.items ++ option_to_list update) }
 {
-    let Some(put) = put else {
+    let Some(update) = update else {
         return Ok(());
     };
-    match puts.push(put) {
+    match updates.push(update) {
         Ok(()) => Ok(()),
         Err(_) => Err(NoMemory),
     }
 }
 
-pub(crate) fn copy_puts(alloc: Global, puts: &[Put]) -> Result<Vec<Put>, NoMemory>
-    ensures { IfOk result (λ v. v.items ≡ puts.now) }
+pub(crate) fn copy_updates(alloc: Global, updates: &[Update]) -> Result<Vec<Update>, NoMemory>
+    ensures { IfOk result (λ v. v.items ≡ updates.now) }
 {
     let mut copy = Vec::new(alloc);
-    for put in puts {
-        push_put(&mut copy, Some(copy_put(alloc, put)?))?;
+    for update in updates {
+        push_update(&mut copy, Some(copy_update(alloc, update)?))?;
     }
     Ok(copy)
 }
@@ -96,28 +96,28 @@ fn copy_change(alloc: Global, change: &Change) -> Result<Change, NoMemory>
 }
 
 // Makes a change.
-fn make(alloc: Global, puts: &mut Vec<Put>, change: &Change) -> Result<(), NoMemory>
-    ensures { OnOk result (folder_of puts.new.items ≡ apply change.now (folder_of puts.old.items)) }
+fn make(alloc: Global, updates: &mut Vec<Update>, change: &Change) -> Result<(), NoMemory>
+    ensures { OnOk result (folder_of updates.new.items ≡ apply change.now (folder_of updates.old.items)) }
 {
-    match put_of(alloc, puts, change) {
-        Ok(put) => push_put(puts, put),
+    match update_of(alloc, updates, change) {
+        Ok(update) => push_update(updates, update),
         Err(error) => Err(error),
     }
 }
 
-fn make_all(alloc: Global, puts: &mut Vec<Put>, changes: &[Change]) -> Result<(), NoMemory>
-    ensures { OnOk result (folder_of puts.new.items ≡ apply_all changes.now (folder_of puts.old.items)) }
+fn make_all(alloc: Global, updates: &mut Vec<Update>, changes: &[Change]) -> Result<(), NoMemory>
+    ensures { OnOk result (folder_of updates.new.items ≡ apply_all changes.now (folder_of updates.old.items)) }
 {
     let mut rest = changes;
     'changes: while let [change, after @ ..] = rest {
-        make(alloc, puts, change)?;
+        make(alloc, updates, change)?;
         rest = after;
     }
     Ok(())
 }
 
-fn play(alloc: Global, kind: Kind, side: &mut Played, call: &Call) -> Result<(), NoMemory>
-    ensures { OnOk result (played side.new.flushed.items side.new.later.items ≡ step kind (played side.old.flushed.items side.old.later.items) call.now) }
+fn replay_call(alloc: Global, kind: Kind, side: &mut MemSide, call: &Call) -> Result<(), NoMemory>
+    ensures { OnOk result (side_from side.new.flushed.items side.new.later.items ≡ step kind (side_from side.old.flushed.items side.old.later.items) call.now) }
 {
     match call {
         Call::Did(change) => {
@@ -142,22 +142,22 @@ fn play(alloc: Global, kind: Kind, side: &mut Played, call: &Call) -> Result<(),
 }
 
 // One folder after all of these calls.
-pub(crate) fn play_all(
+pub(crate) fn replay(
     alloc: Global,
     kind: Kind,
-    start: &[Put],
+    start: &[Update],
     calls: &[Call],
-) -> Result<Played, NoMemory>
-    ensures { IfOk result (λ s. played s.flushed.items s.later.items ≡ after kind (fresh_side (folder_of start.now)) calls.now) }
+) -> Result<MemSide, NoMemory>
+    ensures { IfOk result (λ s. side_from s.flushed.items s.later.items ≡ after kind (flushed_side (folder_of start.now)) calls.now) }
 {
-    let mut side = Played {
-        flushed: copy_puts(alloc, start)?,
+    let mut side = MemSide {
+        flushed: copy_updates(alloc, start)?,
         later: Vec::new(alloc),
     };
     let mut rest = calls;
-    'calls: while let [call, behind @ ..] = rest {
-        play(alloc, kind, &mut side, call)?;
-        rest = behind;
+    'calls: while let [call, after @ ..] = rest {
+        replay_call(alloc, kind, &mut side, call)?;
+        rest = after;
     }
     Ok(side)
 }
@@ -166,13 +166,13 @@ pub(crate) fn play_all(
 fn choose_one(
     alloc: Global,
     bits: u64,
-    puts: &mut Vec<Put>,
+    updates: &mut Vec<Update>,
     change: &Change,
 ) -> Result<(), NoMemory>
-    ensures { OnOk result (folder_of puts.new.items ≡ cond (nat_eq (bits % 2) 1) (apply change.now (folder_of puts.old.items)) (folder_of puts.old.items)) }
+    ensures { OnOk result (folder_of updates.new.items ≡ cond (nat_eq (bits % 2) 1) (apply change.now (folder_of updates.old.items)) (folder_of updates.old.items)) }
 {
     if bits % 2 == 1 {
-        make(alloc, puts, change)
+        make(alloc, updates, change)
     } else {
         Ok(())
     }
@@ -182,16 +182,16 @@ fn choose_one(
 pub(crate) fn choose(
     alloc: Global,
     bits: u64,
-    puts: &mut Vec<Put>,
+    updates: &mut Vec<Update>,
     changes: &[Change],
 ) -> Result<u64, NoMemory>
-    ensures made { (choice n : ℕ) → bits ≡ choice / 2 ^ n → OnOk result (folder_of puts.new.items ≡ chosen n choice changes.now (folder_of puts.old.items)) }
+    ensures made { (choice n : ℕ) → bits ≡ choice / 2 ^ n → OnOk result (folder_of updates.new.items ≡ chosen n choice changes.now (folder_of updates.old.items)) }
     ensures left { (choice n : ℕ) → bits ≡ choice / 2 ^ n → IfOk result (λ b. b ≡ choice / 2 ^ (n + length changes.now)) }
 {
     let mut left = bits;
     let mut rest = changes;
     'changes: while let [change, after @ ..] = rest {
-        choose_one(alloc, left, puts, change)?;
+        choose_one(alloc, left, updates, change)?;
         left /= 2;
         rest = after;
     }

@@ -1,8 +1,9 @@
-// A folder in memory: a list of puts, of which the last of a name counts.
+// A folder in memory: a list of updates, of which the last of a name counts.
 ghost use Rattle.std.specs.Prelude.{Option, ◌≡◌, None, Some, option_map, IfOk, IfSome, MatchOption};
-ghost use Rattle.st_disk.specs.Folders.{Folder, apply, folder_of, kind_of, published, put_on, same_kind, same_name, change_kind, join};
+ghost use Rattle.st_disk.specs.Names.{kind_of, published, same_kind, same_name};
+ghost use Rattle.st_disk.specs.Folders.{Folder, apply, folder_of, update_on, change_kind, join};
 
-use crate::changes::{Change, Put};
+use crate::changes::{Change, Update};
 use crate::naming::{Kind, Name};
 use st_base::{NoMemory, Octets};
 use std::alloc::Global;
@@ -66,31 +67,31 @@ pub(crate) fn is_same(one: Name, other: Name) -> bool
 }
 
 // The bytes under a name.
-pub(crate) fn find(puts: &[Put], name: Name) -> Option<&Octets>
-    ensures { option_map (λ b. b.now) result ≡ folder_of puts.now name }
+pub(crate) fn find(updates: &[Update], name: Name) -> Option<&Octets>
+    ensures { option_map (λ b. b.now) result ≡ folder_of updates.now name }
 {
     let mut found = None;
-    let mut rest = puts;
-    'puts: while let [put, after @ ..] = rest {
-        found = found_after(put, name, found);
+    let mut rest = updates;
+    'updates: while let [update, after @ ..] = rest {
+        found = found_after(update, name, found);
         rest = after;
     }
     found
 }
 
-// What stands under a name after one put more.
-fn found_after<'a>(put: &'a Put, name: Name, before: Option<&'a Octets>) -> Option<&'a Octets>
-    ensures { (f : Folder) → option_map (λ b. b.now) before.entry ≡ f name → option_map (λ b. b.now) result ≡ put_on f put.now name }
+// What stands under a name after one update more.
+fn found_after<'a>(update: &'a Update, name: Name, before: Option<&'a Octets>) -> Option<&'a Octets>
+    ensures { (f : Folder) → option_map (λ b. b.now) before.entry ≡ f name → option_map (λ b. b.now) result ≡ update_on f update.now name }
 {
-    match put {
-        Put::Set { name: set, bytes } => {
+    match update {
+        Update::Set { name: set, bytes } => {
             if is_same(*set, name) {
                 bytes.as_ref()
             } else {
                 before
             }
         }
-        Put::Move { from, to, bytes } => {
+        Update::Move { from, to, bytes } => {
             if is_same(*to, name) {
                 Some(bytes)
             } else if is_same(*from, name) {
@@ -102,12 +103,12 @@ fn found_after<'a>(put: &'a Put, name: Name, before: Option<&'a Octets>) -> Opti
     }
 }
 
-// The put that a change is, or none where it no longer applies.
-pub(crate) fn put_of(alloc: Global, puts: &[Put], change: &Change) -> Result<Option<Put>, NoMemory>
-    ensures { IfOk result (λ o. (f : Folder) → f ≡ folder_of puts.now → MatchOption o (apply change.now f ≡ f) (λ p. apply change.now f ≡ put_on f p)) }
+// The update that a change is, or none where it no longer applies.
+pub(crate) fn update_of(alloc: Global, updates: &[Update], change: &Change) -> Result<Option<Update>, NoMemory>
+    ensures { IfOk result (λ o. (f : Folder) → f ≡ folder_of updates.now → MatchOption o (apply change.now f ≡ f) (λ p. apply change.now f ≡ update_on f p)) }
 {
     match change {
-        Change::Make { kind, number } => Ok(Some(Put::Set {
+        Change::Make { kind, number } => Ok(Some(Update::Set {
             name: Name::Draft {
                 kind: *kind,
                 number: *number,
@@ -124,8 +125,8 @@ pub(crate) fn put_of(alloc: Global, puts: &[Put], change: &Change) -> Result<Opt
                 kind: *kind,
                 number: *number,
             };
-            match find(puts, draft) {
-                Some(_) => Ok(Some(Put::Move {
+            match find(updates, draft) {
+                Some(_) => Ok(Some(Update::Move {
                     from: draft,
                     to: published_name(*kind, *stamp),
                     bytes: Octets::copy_of(alloc, bytes.bytes())?,
@@ -133,15 +134,15 @@ pub(crate) fn put_of(alloc: Global, puts: &[Put], change: &Change) -> Result<Opt
                 None => Ok(None),
             }
         }
-        Change::Hide { stamp } => match find(puts, Name::Index(*stamp)) {
-            Some(bytes) => Ok(Some(Put::Move {
+        Change::Hide { stamp } => match find(updates, Name::Index(*stamp)) {
+            Some(bytes) => Ok(Some(Update::Move {
                 from: Name::Index(*stamp),
                 to: Name::Parked(*stamp),
                 bytes: Octets::copy_of(alloc, bytes.bytes())?,
             })),
             None => Ok(None),
         },
-        Change::Remove { name } => Ok(Some(Put::Set {
+        Change::Remove { name } => Ok(Some(Update::Set {
             name: *name,
             bytes: None,
         })),

@@ -11,7 +11,7 @@
 //!
 //! - A log goes on by what a call did, and by nothing where memory was wanting (`Book::change`,
 //!   `note`, `settle`, `remove`, `make`).
-//! - A draft's number is one that no image has (`Book::make`, clause `fresh`).
+//! - A draft's number is one that no image has (`Book::make`, clause `unused`).
 //! - A list has just the names that are there, in order (`Book::list`).
 //! - `Book::crash` gives the image that a choice by bits names, after any moment.
 //!
@@ -23,7 +23,8 @@
 //! # Where to read
 //!
 //! `specs/Folders.antt` says what a change does to a folder, `specs/Disks.antt` what a crash may
-//! leave, `specs/Calls.antt` what is said of a call, `specs/Pairs.antt` which pairs a folder has.
+//! leave, `specs/LoggedCalls.antt` what a call adds to a log, `specs/Pairs.antt` which pairs a folder
+//! has.
 //! Callers prove with `proofs/Images.antt` and `proofs/Runs.antt`.
 #![tactic(auto)]
 
@@ -36,8 +37,8 @@ mod listing;
 mod naming;
 
 pub use book::Book;
-pub use changes::{Call, Change, Put};
+pub use changes::{Call, Change, Update};
 pub use folders::{kind_of_name, published_name};
 pub use laws::one_file_set;
-pub use listing::{number, rising};
+pub use listing::{number_of_name, sorted_names};
 pub use naming::{Kind, Name, Names};

@@ -1,9 +1,12 @@
-pub mod Marks
+pub mod Origins
+pub mod Loans
 pub mod Ends
+pub use Rattle.st_disk.specs.Names
 pub use Rattle.st_disk.specs.Folders
 pub use Rattle.st_disk.specs.Disks
-pub use Rattle.st_disk.specs.Calls
-pub use Rattle.st_disk.specs.Listing
-pub use Rattle.st_disk.specs.Choosing
-pub use Rattle.st_disk.specs.Runs
 pub use Rattle.st_disk.specs.Pairs
+pub use Rattle.st_disk.specs.Events
+pub use Rattle.st_disk.specs.LoggedCalls
+pub use Rattle.st_disk.specs.Runs
+pub use Rattle.st_disk.specs.Crashes
+pub use Rattle.st_disk.specs.Listing

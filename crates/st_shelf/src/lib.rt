@@ -13,7 +13,7 @@
 //! - A settled file has the bytes that were written, whole, in every image that has its name
 //!   (`Draft::seal`, `Shelf::settle`), and a lent file shows them (`Shelf::reader`).
 //! - A list has just the names that are there, in order (`Shelf::list`).
-//! - A fault is told only where the count of faults rose (each call's clause `cause`).
+//! - A fault is answered only where the count of faults rose (each call's clause `cause`).
 //! - `MemShelf` does all of this in memory; `MemShelf::crash` gives the image that a choice by
 //!   bits names, after any moment.
 //!
@@ -25,7 +25,7 @@
 //! # Where to read
 //!
 //! The disk model is st_disk's: its `specs/Disks.antt` says what a crash may leave, its
-//! `specs/Calls.antt` what is said of a call. Then `shelves`, `memory`.
+//! `specs/LoggedCalls.antt` what a call adds to a log. Then `shelves`, `memory`.
 #![tactic(auto)]
 
 mod loans;
@@ -42,4 +42,4 @@ pub use memory::MemShelf;
 pub use memory_draft::{MemDraft, MemSealed};
 pub use memory_file::MemFile;
 pub use shelves::{Draft, End, ListErr, SealedPair, Shelf};
-pub use st_disk::{Call, Change, Kind, Name, Names, Put};
+pub use st_disk::{Call, Change, Kind, Name, Names, Update};

@@ -1,5 +1,5 @@
 ghost use Rattle.std.specs.Prelude.{◌≡◌};
-ghost use Rattle.st_shelf.specs.Marks.{none_lent, lend, take_back};
+ghost use Rattle.st_shelf.specs.Loans.{no_loans, lend, take_back};
 
 use st_disk::Kind;
 use std::marker::Model;
@@ -14,9 +14,9 @@ pub struct Loans {
 }
 
 impl Model for Loans {
-    ghost use Rattle.st_shelf.specs.Marks.{Lending};
+    ghost use Rattle.st_shelf.specs.Loans.{LoansView};
 
-    ghost Value = { Lending };
+    ghost Value = { LoansView };
 
     ghost view = { λ a. record {
       lent = a.lent;
@@ -29,7 +29,7 @@ impl Model for Loans {
 impl Loans {
     /// No file was ever lent.
     pub fn none() -> Loans
-        ensures { result ≡ none_lent }
+        ensures { result ≡ no_loans }
     {
         Loans {
             lent: 0,

@@ -3,13 +3,13 @@ ghost use Rattle.st_base.specs.Faults.{Rose, HasCause};
 ghost use Rattle.st_disk.specs.declared.changes.Call.TheVariants as call;
 ghost use Rattle.st_disk.specs.declared.changes.Change.TheVariants as change;
 ghost use Rattle.st_disk.specs.declared.naming.Name.TheVariants as name;
-ghost use Rattle.st_disk.specs.Folders.{published};
-ghost use Rattle.st_disk.specs.Disks.{Log, moment as moments, reads};
-ghost use Rattle.st_disk.specs.Choosing.{IsCrash};
-ghost use Rattle.st_disk.specs.Calls.{Looks, Adds, Does, Abandons, removal};
-ghost use Rattle.st_shelf.specs.Marks.{none_lent, draft_name, TakesFaults};
-ghost use Rattle.st_shelf.specs.Ends.{end_mark, end_faults};
-ghost use Rattle.st_disk.specs.Books.{log_of};
+ghost use Rattle.st_disk.specs.Names.{published};
+ghost use Rattle.st_disk.specs.Disks.{Log, moment as moments, reads, log_of};
+ghost use Rattle.st_disk.specs.Crashes.{IsCrash};
+ghost use Rattle.st_disk.specs.LoggedCalls.{Looks, Adds, Does, Abandons, removal};
+ghost use Rattle.st_shelf.specs.Loans.{no_loans};
+ghost use Rattle.st_shelf.specs.Origins.{draft_name};
+ghost use Rattle.st_shelf.specs.Ends.{end_origin, end_faults, TakesFaults};
 
 use crate::loans::Loans;
 use crate::memory_draft::{MemDraft, MemSealed};
@@ -17,7 +17,7 @@ use crate::memory_file::MemFile;
 use crate::schedule::Schedule;
 use crate::shelves::{Draft, End, ListErr, Shelf};
 use st_base::{Failed, NoMemory, Octets};
-use st_disk::{Book, Call, Change, Kind, Name, Names, kind_of_name, number};
+use st_disk::{Book, Call, Change, Kind, Name, Names, kind_of_name, number_of_name};
 use std::alloc::Global;
 
 /// A shelf in memory, which tells its log and keeps it whole, so that a crash at any moment can be
@@ -38,16 +38,16 @@ impl MemShelf {
     /// An empty shelf on which no call fails but for want of memory.
     pub fn empty(alloc: Global) -> MemShelf
         ensures log { ⟦<MemShelf as Shelf>⟧.log result ≡ Some (log_of [] [] []) }
-        ensures counts { (⟦<MemShelf as Shelf>⟧.faults result ≡ 0) × (⟦<MemShelf as Shelf>⟧.lending result ≡ none_lent) }
+        ensures counts { (⟦<MemShelf as Shelf>⟧.faults result ≡ 0) × (⟦<MemShelf as Shelf>⟧.loans result ≡ no_loans) }
     {
         MemShelf::over(alloc, Book::empty(alloc), Schedule::none())
     }
 
-    /// An empty shelf that fails where it is told to. Each call of the shelf, of its drafts and of
+    /// An empty shelf that fails at the calls that it is given. Each call of the shelf, of its drafts and of
     /// its files has a number, the first of them 0; those in `fails` fail, and all from `stop` on.
     pub fn with(alloc: Global, fails: &[u64], stop: Option<u64>) -> Result<MemShelf, NoMemory>
         ensures log { IfOk result (λ s. ⟦<MemShelf as Shelf>⟧.log s ≡ Some (log_of [] [] [])) }
-        ensures counts { IfOk result (λ s. (⟦<MemShelf as Shelf>⟧.faults s ≡ 0) × (⟦<MemShelf as Shelf>⟧.lending s ≡ none_lent)) }
+        ensures counts { IfOk result (λ s. (⟦<MemShelf as Shelf>⟧.faults s ≡ 0) × (⟦<MemShelf as Shelf>⟧.loans s ≡ no_loans)) }
     {
         match Schedule::of(alloc, fails, stop) {
             Ok(schedule) => Ok(MemShelf::over(alloc, Book::empty(alloc), schedule)),
@@ -63,7 +63,7 @@ impl MemShelf {
     pub fn crash(&self, alloc: Global, moment: u64, choice: u64) -> Result<MemShelf, NoMemory>
         requires { (log : Log) → ⟦<MemShelf as Shelf>⟧.log self.now ≡ Some log → moment ≤ moments log }
         ensures image { (log : Log) → ⟦<MemShelf as Shelf>⟧.log self.now ≡ Some log → IfOk result (λ s. (new : Log) × (⟦<MemShelf as Shelf>⟧.log s ≡ Some new) × IsCrash log moment choice new) }
-        ensures counts { IfOk result (λ s. (⟦<MemShelf as Shelf>⟧.faults s ≡ 0) × (⟦<MemShelf as Shelf>⟧.lending s ≡ none_lent)) }
+        ensures counts { IfOk result (λ s. (⟦<MemShelf as Shelf>⟧.faults s ≡ 0) × (⟦<MemShelf as Shelf>⟧.loans s ≡ no_loans)) }
     {
         match self.book.crash(alloc, moment, choice) {
             Ok(book) => Ok(MemShelf::over(alloc, book, Schedule::none())),
@@ -80,7 +80,7 @@ impl MemShelf {
 
     /// How many files were out at most.
     pub fn peak_lent(&self) -> u64
-        ensures { result ≡ (⟦<MemShelf as Shelf>⟧.lending self.now).peak }
+        ensures { result ≡ (⟦<MemShelf as Shelf>⟧.loans self.now).peak }
     {
         self.loans.peak()
     }
@@ -92,7 +92,7 @@ impl MemShelf {
 
     fn over(alloc: Global, book: Book, schedule: Schedule) -> MemShelf
         ensures book { result.book ≡ book }
-        ensures counts { (result.faults ≡ 0) × (result.loans ≡ none_lent) }
+        ensures counts { (result.faults ≡ 0) × (result.loans ≡ no_loans) }
     {
         MemShelf {
             alloc,
@@ -120,7 +120,7 @@ impl Shelf for MemShelf {
 
     type File = MemFile;
 
-    ghost use Rattle.st_shelf.specs.Marks.{Loan};
+    ghost use Rattle.st_shelf.specs.Origins.{FileOrigin};
     ghost use Rattle.std.proofs.Common.{refl};
 
     ghost id = { λ s. 0 };
@@ -129,15 +129,15 @@ impl Shelf for MemShelf {
 
     ghost faults = { λ s. s.faults };
 
-    ghost lending = { λ s. s.loans };
+    ghost loans = { λ s. s.loans };
 
-    ghost loan = { λ f. record { kind = f.kind; home = 0 } };
+    ghost file_origin = { λ f. record { kind = f.kind; home = 0 } };
 
-    ghost drafts_tell = { λ shelf l d told. refl };
+    ghost drafts_known = { λ shelf l d known. refl };
 
-    ghost sealed_tell = { λ shelf l s told. refl };
+    ghost sealed_known = { λ shelf l s known. refl };
 
-    ghost files_tell = { λ shelf l f told. refl };
+    ghost files_known = { λ shelf l f known. refl };
 
     ghost keeps = { λ a b same. same };
 
@@ -168,7 +168,7 @@ impl Shelf for MemShelf {
             faults,
             schedule,
         } = sealed;
-        let stamp = number(name);
+        let stamp = number_of_name(name);
         let bytes = match self.put_under(kind, draft, stamp, bytes) {
             Ok(()) => return Ok(()),
             Err(bytes) => bytes,
@@ -270,8 +270,8 @@ impl Shelf for MemShelf {
     }
 
     fn abandon(&mut self, end: End<MemDraft>)
-        requires { (end_mark (λ d. record { kind = d.kind; number = d.number; home = 0 }) (λ s. record { kind = s.kind; number = s.number; home = 0 }) end).home ≡ 0 }
-        ensures log { Abandons (Some self.old.book) (Some self.new.book) (draft_name (end_mark (λ d. record { kind = d.kind; number = d.number; home = 0 }) (λ s. record { kind = s.kind; number = s.number; home = 0 }) end)) self.old.faults self.new.faults }
+        requires { (end_origin (λ d. record { kind = d.kind; number = d.number; home = 0 }) (λ s. record { kind = s.kind; number = s.number; home = 0 }) end).home ≡ 0 }
+        ensures log { Abandons (Some self.old.book) (Some self.new.book) (draft_name (end_origin (λ d. record { kind = d.kind; number = d.number; home = 0 }) (λ s. record { kind = s.kind; number = s.number; home = 0 }) end)) self.old.faults self.new.faults }
         ensures cause { TakesFaults (end_faults (λ d. d.faults) (λ s. s.faults) end) self.old.faults self.new.faults }
         ensures loans { self.new.loans ≡ self.old.loans }
     {

@@ -24,9 +24,9 @@ pub struct MemSealed {
 }
 
 impl Sink for MemDraft {
-    ghost use Rattle.st_shelf.specs.Marks.{Mark};
+    ghost use Rattle.st_shelf.specs.Origins.{DraftOrigin};
 
-    ghost Beside = { Mark };
+    ghost Beside = { DraftOrigin };
 
     ghost written = { λ d. Some d.bytes.items };
 
@@ -46,9 +46,9 @@ impl Sink for MemDraft {
 impl Draft for MemDraft {
     type Sealed = MemSealed;
 
-    ghost mark = { λ d. record { kind = d.kind; number = d.number; home = 0 } };
+    ghost origin = { λ d. record { kind = d.kind; number = d.number; home = 0 } };
 
-    ghost sealed_mark = { λ s. record { kind = s.kind; number = s.number; home = 0 } };
+    ghost sealed_origin = { λ s. record { kind = s.kind; number = s.number; home = 0 } };
 
     ghost sealed_bytes = { λ s. Some s.bytes };
 

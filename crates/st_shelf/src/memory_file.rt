@@ -17,9 +17,9 @@ pub struct MemFile {
 impl Reader for MemFile {
     ghost use Rattle.std.specs.Prelude.{Some, length};
     ghost use Rattle.std.proofs.Common.{rules};
-    ghost use Rattle.st_shelf.specs.Marks.{Loan};
+    ghost use Rattle.st_shelf.specs.Origins.{FileOrigin};
 
-    ghost Beside = { Loan };
+    ghost Beside = { FileOrigin };
 
     ghost content = { λ f. Some f.content };
 

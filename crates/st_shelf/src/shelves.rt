@@ -3,12 +3,13 @@ ghost use Rattle.st_base.specs.Faults.{Rose, HasCause, HasCauseOf};
 ghost use Rattle.st_disk.specs.declared.naming.Name.TheVariants as name;
 ghost use Rattle.st_disk.specs.declared.changes.Change.TheVariants as change;
 ghost use Rattle.st_disk.specs.declared.changes.Call.TheVariants as call;
-ghost use Rattle.st_disk.specs.Folders.{kind_of};
+ghost use Rattle.st_disk.specs.Names.{kind_of, IsPublished, number_of, AreSorted};
 ghost use Rattle.st_disk.specs.Disks.{Log};
-ghost use Rattle.st_disk.specs.Calls.{Looks, Does, Reads, given, removal, Abandons, IsFresh, IsPublished, number_of, Shows};
-ghost use Rattle.st_shelf.specs.Marks.{Mark, Loan, Lending, lend, take_back, draft_name, TakesFaults};
-ghost use Rattle.st_disk.specs.Listing.{Rises, AreAll};
-ghost use Rattle.st_shelf.specs.Ends.{end_mark, end_faults};
+ghost use Rattle.st_disk.specs.LoggedCalls.{Looks, Does, Reads, given, removal, Abandons, IsUnused, Shows};
+ghost use Rattle.st_shelf.specs.Origins.{DraftOrigin, FileOrigin, draft_name};
+ghost use Rattle.st_shelf.specs.Loans.{LoansView, lend, take_back};
+ghost use Rattle.st_disk.specs.Listing.{AreAll};
+ghost use Rattle.st_shelf.specs.Ends.{end_origin, end_faults, TakesFaults};
 
 use st_base::{Failed, Reader, Sink};
 use st_disk::{Kind, Name, Names};
@@ -26,15 +27,15 @@ pub enum ListErr {
 /// A file that is being written, under a draft's name. It must be spent: by `seal`, or by
 /// `abandon` of its shelf.
 ///
-/// `mark` is its kind, the number of its name and its shelf; no call but the shelf's own ever
-/// changes them. `sealed_mark`, `sealed_bytes` and `sealed_faults` are those of a sealed file.
+/// `origin` is its kind, the number of its name and its shelf; no call but the shelf's own ever
+/// changes them. `sealed_origin`, `sealed_bytes` and `sealed_faults` are those of a sealed file.
 pub trait Draft: Sink {
     /// The file with its bytes whole. It must be spent: by `settle`, or by `abandon`.
     type Sealed;
 
-    ghost mark: { Self → Mark };
+    ghost origin: { Self → DraftOrigin };
 
-    ghost sealed_mark: { Self.Sealed → Mark };
+    ghost sealed_origin: { Self.Sealed → DraftOrigin };
 
     ghost sealed_bytes: { Self.Sealed → Option (List ℕ) };
 
@@ -48,12 +49,12 @@ pub trait Draft: Sink {
     fn seal(self) -> Result<Self::Sealed, Self>
     where
         Self: Sized,
-        ensures mark { MatchResult result (λ s. sealed_mark s ≡ mark self) (λ d. mark d ≡ mark self) }
+        ensures origin { MatchResult result (λ s. sealed_origin s ≡ origin self) (λ d. origin d ≡ origin self) }
         ensures bytes { MatchResult result (λ s. sealed_bytes s ≡ Self.written self) (λ d. Self.written d ≡ Self.written self) }
         ensures cause { MatchResult result (λ s. sealed_faults s ≡ Self.faults self) (λ d. Rose (Self.faults self) (Self.faults d)) };
 
-    // what leaves `beside` leaves the mark
-    ghost keeps: { (a b : Self) → Self.beside a ≡ Self.beside b → mark a ≡ mark b };
+    // what leaves `beside` leaves the origin
+    ghost keeps: { (a b : Self) → Self.beside a ≡ Self.beside b → origin a ≡ origin b };
 }
 
 /// A draft as it comes back to its shelf.
@@ -73,7 +74,7 @@ pub struct SealedPair<T: Draft> {
 /// `log` is what stood there as the shelf was made and what each call did since, where the shelf
 /// tells it; what is read now, and what a crash now or at an earlier moment may leave, are
 /// functions of it (`specs/Disks.antt`). `faults` counts the disk's failures and never falls.
-/// `lending` is how many files are out, how many were at most, and how often the block files that
+/// `loans` is how many files are out, how many were at most, and how often the block files that
 /// came back were read and for how many bytes. `id` is which shelf this is, and `loan` which shelf
 /// lent a file, and its kind.
 ///
@@ -89,21 +90,21 @@ pub trait Shelf {
 
     ghost faults: { Self → ℕ };
 
-    ghost lending: { Self → Lending };
+    ghost loans: { Self → LoansView };
 
-    ghost loan: { Self.File → Loan };
+    ghost file_origin: { Self.File → FileOrigin };
 
     /// Makes an empty draft of this kind, under a number that the draft's name has in no image
     /// that a crash may leave now. Its count of faults begins at 0.
     ///
     /// `Failed` comes only where `faults` rose.
     fn create(&mut self, kind: Kind) -> Result<Self::Draft, Failed>
-        ensures log { Does (log self.old) (log self.new) result (λ d. call.Did (change.Make kind (Self.Draft.mark d).number)) }
-        ensures fresh { IfOk result (λ d. IsFresh (log self.old) kind (Self.Draft.mark d).number) }
-        ensures mark { IfOk result (λ d. ((Self.Draft.mark d).kind ≡ kind) × ((Self.Draft.mark d).home ≡ id self.old)) }
+        ensures log { Does (log self.old) (log self.new) result (λ d. call.Did (change.Make kind (Self.Draft.origin d).number)) }
+        ensures unused { IfOk result (λ d. IsUnused (log self.old) kind (Self.Draft.origin d).number) }
+        ensures origin { IfOk result (λ d. ((Self.Draft.origin d).kind ≡ kind) × ((Self.Draft.origin d).home ≡ id self.old)) }
         ensures empty { IfOk result (λ d. (given (Self.Draft.written d) ≡ []) × (Self.Draft.faults d ≡ 0)) }
         ensures cause { HasCause (faults self.old) (faults self.new) result }
-        ensures rest { (id self.new ≡ id self.old) × (lending self.new ≡ lending self.old) };
+        ensures rest { (id self.new ≡ id self.old) × (loans self.new ≡ loans self.old) };
 
     /// Renames a sealed file of this shelf to `name`, which is a name of its kind and isn't there.
     ///
@@ -113,14 +114,14 @@ pub trait Shelf {
         sealed: <Self::Draft as Draft>::Sealed,
         name: Name,
     ) -> Result<(), <Self::Draft as Draft>::Sealed>
-        requires home { (Self.Draft.sealed_mark sealed).home ≡ id self.old }
-        requires name { IsPublished (Self.Draft.sealed_mark sealed).kind name }
+        requires home { (Self.Draft.sealed_origin sealed).home ≡ id self.old }
+        requires name { IsPublished (Self.Draft.sealed_origin sealed).kind name }
         requires free { Reads (log self.old) name (λ v. v ≡ None) }
-        ensures log { Does (log self.old) (log self.new) result (λ _. call.Did (change.Settle (Self.Draft.sealed_mark sealed).kind (Self.Draft.sealed_mark sealed).number (number_of name) (given (Self.Draft.sealed_bytes sealed)))) }
+        ensures log { Does (log self.old) (log self.new) result (λ _. call.Did (change.Settle (Self.Draft.sealed_origin sealed).kind (Self.Draft.sealed_origin sealed).number (number_of name) (given (Self.Draft.sealed_bytes sealed)))) }
         ensures there { OnOk result (Reads (log self.new) name (λ v. v ≡ Some (given (Self.Draft.sealed_bytes sealed)))) }
         ensures back { IfErr result (λ s. s ≡ sealed) }
         ensures cause { HasCause (faults self.old) (faults self.new) result }
-        ensures rest { (id self.new ≡ id self.old) × (lending self.new ≡ lending self.old) };
+        ensures rest { (id self.new ≡ id self.old) × (loans self.new ≡ loans self.old) };
 
     /// Renames the index of this stamp, which is there, to its parked name, which isn't.
     ///
@@ -130,7 +131,7 @@ pub trait Shelf {
         requires free { Reads (log self.old) (name.Parked stamp) (λ v. v ≡ None) }
         ensures log { Does (log self.old) (log self.new) result (λ _. call.Did (change.Hide stamp)) }
         ensures cause { HasCause (faults self.old) (faults self.new) result }
-        ensures rest { (id self.new ≡ id self.old) × (lending self.new ≡ lending self.old) };
+        ensures rest { (id self.new ≡ id self.old) × (loans self.new ≡ loans self.old) };
 
     /// Takes a name away. Where it isn't there the call is Ok and changes nothing.
     ///
@@ -138,7 +139,7 @@ pub trait Shelf {
     fn remove(&mut self, name: Name) -> Result<(), Failed>
         ensures log { Does (log self.old) (log self.new) result (λ _. removal (log self.old) name) }
         ensures cause { HasCause (faults self.old) (faults self.new) result }
-        ensures rest { (id self.new ≡ id self.old) × (lending self.new ≡ lending self.old) };
+        ensures rest { (id self.new ≡ id self.old) × (loans self.new ≡ loans self.old) };
 
     /// Has all changes of the folder of this kind so far stand in every image.
     ///
@@ -146,7 +147,7 @@ pub trait Shelf {
     fn flush(&mut self, kind: Kind) -> Result<(), Failed>
         ensures log { Does (log self.old) (log self.new) result (λ _. call.Flush kind) }
         ensures cause { HasCause (faults self.old) (faults self.new) result }
-        ensures rest { (id self.new ≡ id self.old) × (lending self.new ≡ lending self.old) };
+        ensures rest { (id self.new ≡ id self.old) × (loans self.new ≡ loans self.old) };
 
     /// All names that are there, each once: blocks, indexes, parked indexes, drafts of blocks and
     /// drafts of indexes, each by stamp or number. Files of other names are passed over.
@@ -154,10 +155,10 @@ pub trait Shelf {
     /// `DiskFault` comes only where `faults` rose.
     fn list(&mut self, alloc: Global) -> Result<Names, ListErr>
         ensures log { Does (log self.old) (log self.new) result (λ _. call.Other) }
-        ensures sorted { IfOk result Rises }
+        ensures sorted { IfOk result AreSorted }
         ensures all { IfOk result (AreAll (log self.old)) }
         ensures cause { HasCauseOf ListErr.DiskFault (faults self.old) (faults self.new) result }
-        ensures rest { (id self.new ≡ id self.old) × (lending self.new ≡ lending self.old) };
+        ensures rest { (id self.new ≡ id self.old) × (loans self.new ≡ loans self.old) };
 
     /// Lends the file under a name that is there. It must be spent, by `close` of this shelf. Its
     /// counts begin at 0.
@@ -167,40 +168,40 @@ pub trait Shelf {
         requires there { Reads (log self.old) name IsSome }
         ensures log { Does (log self.old) (log self.new) result (λ _. call.Other) }
         ensures content { IfOk result (λ f. Reads (log self.old) name (Shows name (Self.File.content f))) }
-        ensures loan { IfOk result (λ f. ((loan f).kind ≡ kind_of name) × ((loan f).home ≡ id self.old)) }
+        ensures origin { IfOk result (λ f. ((file_origin f).kind ≡ kind_of name) × ((file_origin f).home ≡ id self.old)) }
         ensures unread { IfOk result (λ f. (Self.File.reads f ≡ 0) × (Self.File.asked f ≡ 0) × (Self.File.faults f ≡ 0)) }
         ensures cause { HasCause (faults self.old) (faults self.new) result }
         ensures id { id self.new ≡ id self.old }
-        ensures lending { MatchResult result (λ _. lending self.new ≡ lend (lending self.old)) (λ _. lending self.new ≡ lending self.old) };
+        ensures loans { MatchResult result (λ _. loans self.new ≡ lend (loans self.old)) (λ _. loans self.new ≡ loans self.old) };
 
     /// Takes a file back that this shelf lent. Where the file's count of faults had risen, `faults`
     /// rises.
     fn close(&mut self, file: Self::File)
-        requires { (loan file).home ≡ id self.old }
+        requires { (file_origin file).home ≡ id self.old }
         ensures log { Looks (log self.old) (log self.new) }
         ensures cause { TakesFaults (Self.File.faults file) (faults self.old) (faults self.new) }
         ensures id { id self.new ≡ id self.old }
-        ensures lending { lending self.new ≡ take_back (loan file).kind (Self.File.reads file) (Self.File.asked file) (lending self.old) };
+        ensures loans { loans self.new ≡ take_back (file_origin file).kind (Self.File.reads file) (Self.File.asked file) (loans self.old) };
 
     /// Takes a draft or a sealed file of this shelf back and tries to remove it. Where that fails,
     /// or where the file's own count of faults had risen, `faults` rises.
     fn abandon(&mut self, end: End<Self::Draft>)
-        requires { (end_mark Self.Draft.mark Self.Draft.sealed_mark end).home ≡ id self.old }
-        ensures log { Abandons (log self.old) (log self.new) (draft_name (end_mark Self.Draft.mark Self.Draft.sealed_mark end)) (faults self.old) (faults self.new) }
+        requires { (end_origin Self.Draft.origin Self.Draft.sealed_origin end).home ≡ id self.old }
+        ensures log { Abandons (log self.old) (log self.new) (draft_name (end_origin Self.Draft.origin Self.Draft.sealed_origin end)) (faults self.old) (faults self.new) }
         ensures cause { TakesFaults (end_faults Self.Draft.faults Self.Draft.sealed_faults end) (faults self.old) (faults self.new) }
-        ensures rest { (id self.new ≡ id self.old) × (lending self.new ≡ lending self.old) };
+        ensures rest { (id self.new ≡ id self.old) × (loans self.new ≡ loans self.old) };
 
     /// The count of faults, which stops at the last value of a u64. This is no moment of the log.
     fn fault_count(&self) -> u64
         ensures { result ≡ faults self.now };
 
     // a shelf that tells its log has drafts, sealed files and files that tell their bytes
-    ghost drafts_tell: { (shelf : Self) (l : Log) (d : Self.Draft) → log shelf ≡ Some l → IsSome (Self.Draft.written d) };
+    ghost drafts_known: { (shelf : Self) (l : Log) (d : Self.Draft) → log shelf ≡ Some l → IsSome (Self.Draft.written d) };
 
-    ghost sealed_tell: { (shelf : Self) (l : Log) (s : Self.Draft.Sealed) → log shelf ≡ Some l → IsSome (Self.Draft.sealed_bytes s) };
+    ghost sealed_known: { (shelf : Self) (l : Log) (s : Self.Draft.Sealed) → log shelf ≡ Some l → IsSome (Self.Draft.sealed_bytes s) };
 
-    ghost files_tell: { (shelf : Self) (l : Log) (f : Self.File) → log shelf ≡ Some l → IsSome (Self.File.content f) };
+    ghost files_known: { (shelf : Self) (l : Log) (f : Self.File) → log shelf ≡ Some l → IsSome (Self.File.content f) };
 
     // what leaves `beside` leaves the loan
-    ghost keeps: { (a b : Self.File) → Self.File.beside a ≡ Self.File.beside b → loan a ≡ loan b };
+    ghost keeps: { (a b : Self.File) → Self.File.beside a ≡ Self.File.beside b → file_origin a ≡ file_origin b };
 }

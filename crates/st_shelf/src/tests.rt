@@ -1,5 +1,5 @@
 ghost use Rattle.std.specs.Prelude.{◌≡◌, ◌↔◌, IsTrue, IsSome};
-ghost use Rattle.st_disk.specs.Calls.{Reads};
+ghost use Rattle.st_disk.specs.LoggedCalls.{Reads};
 
 use super::*;
 use st_base::{Failed, Reader, put};

@@ -21,9 +21,9 @@ pub struct RealSealed {
 }
 
 impl Sink for RealDraft {
-    ghost use Rattle.st_shelf.specs.Marks.{Mark};
+    ghost use Rattle.st_shelf.specs.Origins.{DraftOrigin};
 
-    ghost Beside = { Mark };
+    ghost Beside = { DraftOrigin };
 
     ghost written = { λ d. None };
 
@@ -54,9 +54,9 @@ impl Sink for RealDraft {
 impl Draft for RealDraft {
     type Sealed = RealSealed;
 
-    ghost mark = { λ d. record { kind = d.kind; number = d.number; home = 0 } };
+    ghost origin = { λ d. record { kind = d.kind; number = d.number; home = 0 } };
 
-    ghost sealed_mark = { λ s. record { kind = s.kind; number = s.number; home = 0 } };
+    ghost sealed_origin = { λ s. record { kind = s.kind; number = s.number; home = 0 } };
 
     ghost sealed_bytes = { λ s. None };
 

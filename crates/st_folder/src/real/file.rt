@@ -13,9 +13,9 @@ pub struct RealFile {
 }
 
 impl Reader for RealFile {
-    ghost use Rattle.st_shelf.specs.Marks.{Loan};
+    ghost use Rattle.st_shelf.specs.Origins.{FileOrigin};
 
-    ghost Beside = { Loan };
+    ghost Beside = { FileOrigin };
 
     ghost content = { λ f. None };
 

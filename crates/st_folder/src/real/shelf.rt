@@ -1,15 +1,16 @@
 ghost use Rattle.std.specs.Prelude.{Option, ◌≡◌, ◌≤◌, ◌+◌, ◌⊎◌, ◌<◌, ℕ, List, None, Some, IfOk};
 ghost use Rattle.st_base.specs.Faults.{Rose};
-ghost use Rattle.st_disk.specs.Calls.{Abandons};
-ghost use Rattle.st_shelf.specs.Marks.{none_lent, draft_name, TakesFaults};
-ghost use Rattle.st_shelf.specs.Ends.{end_mark, end_faults};
+ghost use Rattle.st_disk.specs.LoggedCalls.{Abandons};
+ghost use Rattle.st_shelf.specs.Loans.{no_loans};
+ghost use Rattle.st_shelf.specs.Origins.{draft_name};
+ghost use Rattle.st_shelf.specs.Ends.{end_origin, end_faults, TakesFaults};
 
 use crate::real_draft::{RealDraft, RealSealed};
 use crate::real_file::RealFile;
 use crate::real_folders::{RealFolders, read_names};
 use crate::real_names::path_of;
 use st_base::{Failed, FileReader, NoMemory};
-use st_disk::{kind_of_name, rising};
+use st_disk::{kind_of_name, sorted_names};
 use st_shelf::{Draft, End, Kind, ListErr, Loans, Name, Names, Shelf};
 use std::alloc::Global;
 use std::fs::{File, OpenOptions};
@@ -36,7 +37,7 @@ pub struct RealShelf {
 impl RealShelf {
     /// A shelf in the folder `path`, which is not touched before the first call.
     pub fn at(rt: &HostRuntime, alloc: Global, path: &str) -> Result<RealShelf, NoMemory>
-        ensures counts { IfOk result (λ s. (⟦<RealShelf as Shelf>⟧.faults s ≡ 0) × (⟦<RealShelf as Shelf>⟧.lending s ≡ none_lent)) }
+        ensures counts { IfOk result (λ s. (⟦<RealShelf as Shelf>⟧.faults s ≡ 0) × (⟦<RealShelf as Shelf>⟧.loans s ≡ no_loans)) }
     {
         match String::from_str(alloc, path) {
             Ok(root) => Ok(RealShelf {
@@ -174,15 +175,15 @@ impl Shelf for RealShelf {
 
     ghost faults = { λ s. s.faults };
 
-    ghost lending = { λ s. s.loans };
+    ghost loans = { λ s. s.loans };
 
-    ghost loan = { λ f. record { kind = f.kind; home = 0 } };
+    ghost file_origin = { λ f. record { kind = f.kind; home = 0 } };
 
-    ghost drafts_tell = { λ shelf l d told. Prim.cc };
+    ghost drafts_known = { λ shelf l d known. Prim.cc };
 
-    ghost sealed_tell = { λ shelf l s told. Prim.cc };
+    ghost sealed_known = { λ shelf l s known. Prim.cc };
 
-    ghost files_tell = { λ shelf l f told. Prim.cc };
+    ghost files_known = { λ shelf l f known. Prim.cc };
 
     ghost keeps = { λ a b same. same };
 
@@ -235,7 +236,7 @@ impl Shelf for RealShelf {
 
     fn list(&mut self, alloc: Global) -> Result<Names, ListErr> {
         match self.gather(alloc) {
-            Ok(names) => match rising(alloc, names) {
+            Ok(names) => match sorted_names(alloc, names) {
                 Ok(names) => Ok(names),
                 Err(_) => Err(ListErr::NoMemory),
             },
@@ -278,7 +279,7 @@ impl Shelf for RealShelf {
     }
 
     fn abandon(&mut self, end: End<RealDraft>)
-        ensures log { Abandons None None (draft_name (end_mark (λ d. record { kind = d.kind; number = d.number; home = 0 }) (λ s. record { kind = s.kind; number = s.number; home = 0 }) end)) self.old.faults self.new.faults }
+        ensures log { Abandons None None (draft_name (end_origin (λ d. record { kind = d.kind; number = d.number; home = 0 }) (λ s. record { kind = s.kind; number = s.number; home = 0 }) end)) self.old.faults self.new.faults }
         ensures cause { TakesFaults (end_faults (λ d. d.faults) (λ s. s.faults) end) self.old.faults self.new.faults }
         ensures loans { self.new.loans ≡ self.old.loans }
     {

@@ -1,31 +1,23 @@
-use Rattle.std.proofs.Common.{◌≡◌, ◌<◌, ◌≤◌, ℕ, List, length, get_or, false, sym, ◌∙◌, subst, rules, Contains, ⊎_elim}
-use Rattle.std.specs.List.{insert}
+use Rattle.std.proofs.Common.{◌≡◌, List, [], ◌∷◌, ◌++◌, sym, subst, rules, IsTrue, Contains, inl, inr, ⊎_elim}
+use Rattle.std.specs.List.{All}
+use Rattle.std.proofs.lemmas.List.Quantifiers.{all_pairs_push}
+use Rattle.std.proofs.lemmas.List.Elements.{Contains-append_left, Contains-push, Contains-push_cases}
 use Rattle.st_disk.specs.declared.naming.Name.{Name}
-use Rattle.st_disk.specs.Folders.{same_name}
-use Rattle.st_disk.specs.Listing.{Before, Rises}
-use Rattle.st_disk.proofs.Order.{rises_insert, has_insert, has_still, has_new}
+use Rattle.st_disk.specs.Names.{Before, AreSorted}
 use Rattle.st_disk.proofs.listing.add_name.Goals as goal
 
 pub returns-in-Ok-clause-rises : goal.returns-in-Ok-clause-rises
 returns-in-Ok-clause-rises c rises =
     let xs = c.args.names.now.items in
-    let i = c.place_of-place.result in
-    let same : c.deref.result.now ≡ xs = c.deref.ensures.value in
-    let again : c.deref-2.result.now ≡ xs = c.deref-2.ensures.value in
-    let le : i ≤ length xs = subst (λ ys. i ≤ length ys) same c.place_of-place.ensures.bound in
-    let new : c.insert.new.self.items ≡ insert xs i c.args.name = search rules in
-    let before : (k : ℕ) (d : Name) → k < i → Before (get_or xs k d) c.args.name = subst (λ (ys : List Name). (k : ℕ) (d : Name) → k < i → Before (get_or ys k d) c.args.name) same c.place_of-place.ensures.before in
-    let not_before : (d : Name) → i < length xs → Before (get_or xs i d) c.args.name → ⊥ = subst (λ (ys : List Name). (d : Name) → i < length ys → Before (get_or ys i d) c.args.name → ⊥) same c.place_of-place.ensures.not_before in
-    let not_same : (d : Name) → i < length xs → same_name (get_or xs i d) c.args.name ≡ false = λ d lt.
-    subst (λ (ys : List Name). (d : Name) → i < length ys → same_name (get_or ys i d) c.args.name ≡ c.stands_at.result) again c.stands_at.ensures.at d lt ∙ c.if-stands_at.false in
-    subst Rises (sym new) (rises_insert xs i c.args.name le rises before not_same not_before)
+    let new : c.push.new.self.items ≡ xs ++ c.args.name ∷ [] = search rules in
+    let after : IsTrue c.is_after_all.result = search rules in
+    let all : All (λ m. Before m c.args.name) xs = subst (λ (ys : List Name). AreSorted ys → All (λ m. Before m c.args.name) ys) c.deref.ensures.value (c.is_after_all.ensures after) rises in
+    subst AreSorted (sym new) (all_pairs_push Before xs c.args.name rises all)
 
 pub returns-in-Ok-clause-has : goal.returns-in-Ok-clause-has
 returns-in-Ok-clause-has c n =
     let xs = c.args.names.now.items in
-    let i = c.place_of-place.result in
-    let le : i ≤ length xs = subst (λ ys. i ≤ length ys) c.deref.ensures.value c.place_of-place.ensures.bound in
-    let new : c.insert.new.self.items ≡ insert xs i c.args.name = search rules in (
-      λ h. has_insert xs i c.args.name le n (subst (λ (ys : List Name). Contains ys n) new h),
-      λ h. subst (λ (ys : List Name). Contains ys n) (sym new) (⊎_elim (λ old. has_still xs i c.args.name le n old) (λ e. has_new xs i c.args.name le n e) h),
+    let new : c.push.new.self.items ≡ xs ++ c.args.name ∷ [] = search rules in (
+      λ h. ⊎_elim (λ was. inl was) (λ (e : c.args.name ≡ n). inr (sym e)) (Contains-push_cases xs c.args.name n (subst (λ (ys : List Name). Contains ys n) new h)),
+      λ h. subst (λ (ys : List Name). Contains ys n) (sym new) (⊎_elim (λ old. Contains-append_left xs (c.args.name ∷ []) n old) (λ (e : n ≡ c.args.name). subst (λ (k : Name). Contains (xs ++ c.args.name ∷ []) k) (sym e) (Contains-push xs c.args.name)) h),
     )

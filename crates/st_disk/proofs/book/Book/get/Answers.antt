@@ -1,8 +1,8 @@
 use Rattle.std.proofs.Common.{◌≡◌, rules, ◌∙◌, ap}
 use Rattle.st_disk.specs.declared.naming.Kind.TheVariants as kind
-use Rattle.st_disk.specs.Folders.{kind_of, folder_of}
-use Rattle.st_disk.specs.Disks.{Log, reads}
-use Rattle.st_disk.specs.Books.{log_of}
+use Rattle.st_disk.specs.Names.{kind_of}
+use Rattle.st_disk.specs.Folders.{folder_of}
+use Rattle.st_disk.specs.Disks.{Log, reads, log_of}
 use Rattle.st_disk.proofs.Keeping.{read_block, read_index}
 use Rattle.st_disk.proofs.book.Book.get.Goals as goal
 

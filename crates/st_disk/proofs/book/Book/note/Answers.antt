@@ -1,6 +1,7 @@
 use Rattle.std.proofs.Common.{◌≡◌, rules, List, ◌∷◌, ◌++◌, [], sym, subst}
 use Rattle.st_disk.specs.declared.changes.Call.{Call}
-use Rattle.st_disk.specs.Books.{IsKept, log_of}
+use Rattle.st_disk.specs.Disks.{log_of}
+use Rattle.st_disk.specs.Book.{IsKept}
 use Rattle.st_disk.proofs.Keeping.{kept_still}
 use Rattle.st_disk.proofs.book.Book.note.Goals as goal
 

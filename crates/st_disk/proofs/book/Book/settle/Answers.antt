@@ -1,8 +1,8 @@
 use Rattle.std.proofs.Common.{IsSome, ◌∙◌, ap, rules}
 use Rattle.st_disk.specs.declared.naming.Name.TheVariants as name
-use Rattle.st_disk.specs.Folders.{published}
+use Rattle.st_disk.specs.Names.{published}
 use Rattle.st_disk.specs.Disks.{Log, reads}
-use Rattle.st_disk.proofs.Settling.{reads_settled}
+use Rattle.st_disk.proofs.Reading.{reads_settled}
 use Rattle.st_disk.proofs.book.Book.settle.Goals as goal
 
 pub returns-in-Ok-clause-there : goal.returns-in-Ok-clause-there

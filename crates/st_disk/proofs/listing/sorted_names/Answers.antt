@@ -2,10 +2,10 @@ use Rattle.std.proofs.Common.{◌≡◌, List, IsPermutation, length, ap, arith,
 use Rattle.std.proofs.lemmas.List.Sorted.{Contains-permutation, IsPermutation-sym}
 use Rattle.st_disk.specs.declared.naming.Name.{Name}
 use Rattle.st_disk.proofs.Placing.{none_rise, none_among}
-use Rattle.st_disk.proofs.listing.rising.Goals as goal
+use Rattle.st_disk.proofs.listing.sorted_names.Goals as goal
 
 pub returns-clause-sorted : goal.returns-clause-sorted
-returns-clause-sorted c = c.in_ok-put_all.ensures.rises (none_rise c.new-items.result.items c.new-items.ensures.items)
+returns-clause-sorted c = c.in_ok-add_all.ensures.rises (none_rise c.new-items.result.items c.new-items.ensures.items)
 
 pub returns-clause-all : goal.returns-clause-all
 returns-clause-all c n =
@@ -16,6 +16,6 @@ returns-clause-all c n =
       λ h. ⊎_elim
           (λ none. absurd (none_among c.new-items.result.items n (let empty : length c.new-items.result.items ≡ 0 = ap length c.new-items.ensures.items in omega arith) none))
           (λ there. Contains-permutation sorted given n (IsPermutation-sym given sorted moved) (subst (λ (xs : List Name). Contains xs n) all there))
-          ((c.in_ok-put_all.ensures.has n).0 h),
-      λ h. (c.in_ok-put_all.ensures.has n).1 (inr (subst (λ (xs : List Name). Contains xs n) (sym all) (Contains-permutation given sorted n moved h))),
+          ((c.in_ok-add_all.ensures.has n).0 h),
+      λ h. (c.in_ok-add_all.ensures.has n).1 (inr (subst (λ (xs : List Name). Contains xs n) (sym all) (Contains-permutation given sorted n moved h))),
     )

@@ -1,11 +1,11 @@
 use Rattle.std.proofs.Common.{◌⊎◌, ◌↔◌, length, Contains}
 use Rattle.st_disk.specs.declared.naming.Name.{Name}
-use Rattle.st_disk.specs.Listing.{Rises}
-use Rattle.st_disk.proofs.listing.put_all.Given as goal
+use Rattle.st_disk.specs.Names.{AreSorted}
+use Rattle.st_disk.proofs.listing.add_all.Given as goal
 
 abbrev pub invariant-found : goal.invariant-found
 invariant-found l = record {
-  rises : Rises l.fn.names.items → Rises l.names.items;
+  rises : AreSorted l.fn.names.items → AreSorted l.names.items;
   has : (n : Name) → (Contains l.names.items n ⊎ Contains l.rest n) ↔ (Contains l.fn.names.items n ⊎ Contains l.found n);
 }
 

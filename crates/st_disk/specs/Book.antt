@@ -7,17 +7,13 @@ use Rattle.st_disk.specs.declared.changes.Change.{Change}
 use Rattle.st_disk.specs.declared.changes.Change.TheVariants.{Make, Settle, Hide, Remove}
 use Rattle.st_disk.specs.declared.changes.Call.{Call}
 use Rattle.st_disk.specs.declared.changes.Call.TheVariants.{Did, Flush, Other}
-use Rattle.st_disk.specs.declared.changes.Put.{Put}
+use Rattle.st_disk.specs.declared.changes.Update.{Update}
 use Rattle.st_disk.specs.Folders.{Folder, folder_of}
 use Rattle.st_disk.specs.Disks.{Log, side, read_of, Since}
 
--- a log by its parts
-abbrev pub log_of : List Put → List Put → List Call → Log
-log_of blocks indexes calls = record { start_blocks = blocks; start_indexes = indexes; calls = calls }
-
--- these puts make what is read of the folder of this kind
-abbrev pub ReadsAs : Kind → Log → List Put → Type 0
-ReadsAs k log puts = folder_of puts ≡ read_of (side k log)
+-- these updates make what is read of the folder of this kind
+abbrev pub ReadsAs : Kind → Log → List Update → Type 0
+ReadsAs k log updates = folder_of updates ≡ read_of (side k log)
 
 -- no draft's number is this or greater
 abbrev pub NoDraft : ℕ → Folder → Type 0
@@ -41,7 +37,7 @@ ChangesNothing (Flush k) = ⊤
 ChangesNothing Other = ⊤
 
 -- the folders as they are read, and a number above those of all drafts
-pub record IsKept (log : Log) (blocks indexes : List Put) (next : ℕ) : Type 0 where
+pub record IsKept (log : Log) (blocks indexes : List Update) (next : ℕ) : Type 0 where
   pub of_blocks : ReadsAs kind.Block log blocks
   pub of_indexes : ReadsAs kind.Index log indexes
   pub numbers : NumbersBelow next log

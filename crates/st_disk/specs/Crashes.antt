@@ -2,7 +2,7 @@
 use Rattle.std.specs.Prelude.{◌≡◌, ℕ, ◌+◌, ◌/◌, ◌%◌, ◌^◌, List, [], ◌∷◌, length, Bool, cond, nat_eq}
 use Rattle.st_disk.specs.declared.naming.Kind.TheVariants as kind
 use Rattle.st_disk.specs.declared.changes.Change.{Change}
-use Rattle.st_disk.specs.declared.changes.Put.{Put}
+use Rattle.st_disk.specs.declared.changes.Update.{Update}
 use Rattle.st_disk.specs.Folders.{Folder, apply, folder_of}
 use Rattle.st_disk.specs.Disks.{Log, Side, side, reads, Leaves, at_moment}
 
@@ -15,9 +15,9 @@ abbrev pub chosen : ℕ → ℕ → List Change → Folder → Folder
 chosen n choice [] f = f
 chosen n choice (c ∷ cs) f = chosen (n + 1) choice cs (cond (bit choice n) (apply c f) f)
 
--- one folder by its puts and the changes since
-abbrev pub played : List Put → List Change → Side
-played flushed later = record { flushed = folder_of flushed; later = later }
+-- one folder by its updates and the changes since
+abbrev pub side_from : List Update → List Change → Side
+side_from flushed later = record { flushed = folder_of flushed; later = later }
 
 -- the second log begins with what a crash of the first after so many calls leaves by this choice; the changes that
 -- were not flushed are numbered from 0, those of the block folder first
