@@ -76,12 +76,14 @@ def short_disk():
 class Session:
     """The program, asked call by call."""
 
-    def __init__(self, program, folder):
-        self.process = subprocess.Popen([program, folder], stdin=subprocess.PIPE, stdout=subprocess.PIPE, text=True)
+    def __init__(self, program, folder, env=None):
+        self.process = subprocess.Popen([program, folder], stdin=subprocess.PIPE, stdout=subprocess.PIPE, text=True, env=env)
 
-    def ask(self, call):
-        self.process.stdin.write(call + "\n")
-        self.process.stdin.flush()
+    def ask(self, call=None):
+        """The first line that it answers to a call; with no call the next one."""
+        if call is not None:
+            self.process.stdin.write(call + "\n")
+            self.process.stdin.flush()
         return self.process.stdout.readline().rstrip("\n")
 
     def end(self, kill=False):

@@ -8,9 +8,9 @@ use Rattle.byteorder.specs.Endian.{little_number}
 use Rattle.byteorder.specs.Numbers.{little_number-reads_back}
 use Rattle.st_base.specs.Records.{Rec, InRange}
 use Rattle.st_base.specs.Damages.{damage_view}
-use Rattle.st_block.specs.Fields.{Number, text, above, first_wrong}
-use Rattle.st_block.specs.BlockText.{padded, record_head, BlockText}
-use Rattle.st_block.specs.Reading.{head_outside, body_outside, record_outside, head_wrong, HeadStands, GivesHead, GivesBody, StandsAt, HeadOf, BodyOf}
+use Rattle.st_block.specs.Fields.{text, not_same, above}
+use Rattle.st_block.specs.BlockText.{padded_len, record_head, BlockText}
+use Rattle.st_block.specs.Record.{head_outside, body_outside, record_outside, head_wrong, IsHeadAt, GivesHead, GivesBody, IsRecordAt, GivesHeadOf, GivesBodyOf}
 use Rattle.st_block.specs.declared.record.Head.{Head}
 use Rattle.st_block.specs.declared.errors.HeadErr.{HeadErr}
 use Rattle.st_block.specs.declared.errors.HeadErr.TheVariants as head_err
@@ -19,7 +19,7 @@ use Rattle.st_block.specs.declared.errors.BlockErr.TheVariants as block_err
 use Rattle.st_block.proofs.Texts.{length-text}
 use Rattle.st_block.proofs.Standing.{Part, record_split, size_head, in_file}
 
--- a head and the body behind it stand at this place
+-- a head and the body after it stand at this place
 record Laid (bytes : List ℕ) (position : ℕ) (r : Rec) : Type 0 where
   next : ℕ
   front : List ℕ
@@ -29,7 +29,7 @@ record Laid (bytes : List ℕ) (position : ℕ) (r : Rec) : Type 0 where
 
 laid : (bytes : List ℕ) (position : ℕ) (r : Rec) → Part bytes 0 position r → Laid bytes position r
 laid bytes position r p =
-    let zeros : List ℕ = replicate (padded (length r.body) - length r.body) 0 in
+    let zeros : List ℕ = replicate (padded_len (length r.body) - length r.body) 0 in
     record {
       next = p.next;
       front = p.front;
@@ -87,9 +87,17 @@ unfolding record_head
 number_of_orig next r l = little_number-reads_back 4 r.orig (drop 20 (text (record_head next r))) l
 
 -- the status and the offsets of the body are as they are to be
-fields_good : (place next : ℕ) (r : Rec) → first_wrong place (Number 4 0 ∷ Number 2 48 ∷ Number 2 48 ∷ []) (drop 20 (text (record_head next r))) ≡ None
+status_good : (place next : ℕ) (r : Rec) → not_same (place + 20) (little_number 4 (drop 20 (text (record_head next r)))) 0 ≡ None
 unfolding record_head
-fields_good place next r = refl
+status_good place next r = refl
+
+body_good : (place next : ℕ) (r : Rec) → not_same (place + 24) (little_number 2 (drop 24 (text (record_head next r)))) 48 ≡ None
+unfolding record_head
+body_good place next r = refl
+
+again_good : (place next : ℕ) (r : Rec) → not_same (place + 26) (little_number 2 (drop 26 (text (record_head next r)))) 48 ≡ None
+unfolding record_head
+again_good place next r = refl
 
 -- a number that is no more than the one wanted
 above_not : (place found want : ℕ) → found ≤ want → above place found want ≡ None
@@ -106,40 +114,42 @@ head_good size position next r range l =
     let m : length r.body < 256 ^ 4 = range.body in
     let nsec = number_of_nsec next r n in
     let len = number_of_len next r m in
-    let first = fields_good (position + 20) next r in
+    let status = status_good position next r in
+    let first = body_good position next r in
+    let again = again_good position next r in
     let second : above (position + 8) (little_number 4 (drop 8 (text (record_head next r)))) 999999999 ≡ None =
     above_not (position + 8) _ 999999999 (let h = range.nsec in omega (arith, nsec, h)) in
     let third : body_outside size position (little_number 4 (drop 12 (text (record_head next r)))) ≡ None =
     above_not (position + 12) _ (size - position - 48) (omega (arith, len)) in
-    rw (first, second, third) refl
+    rw (status, first, again, second, third) refl
 
 -- the record that stands there, and the file's bytes
 record Found (content : Option (List ℕ)) (position : ℕ) (r : Rec) : Type 0 where
   bytes : List ℕ
-  told : content ≡ Some bytes
+  known : content ≡ Some bytes
   range : InRange r
   laid : Laid bytes position r
 
-found : (content : Option (List ℕ)) (position : ℕ) (r : Rec) → StandsAt content position r → Found content position r
+found : (content : Option (List ℕ)) (position : ℕ) (r : Rec) → IsRecordAt content position r → Found content position r
 found content position r s =
     let within = slice_get_within s.records s.number r s.item in
     let same = get_or_from_slice_get s.records s.number r r s.item in
     let part = in_file s.size s.records s.number r s.whole s.item in
     record {
       bytes = BlockText s.size s.records;
-      told = s.told;
+      known = s.known;
       range = subst InRange same (s.whole.range s.number r within);
-      laid = laid (BlockText s.size s.records) position r (subst (λ p. Part (BlockText s.size s.records) 0 p r) (sym s.place) part);
+      laid = laid (BlockText s.size s.records) position r (subst (λ p. Part (BlockText s.size s.records) 0 p r) (sym s.at) part);
     }
 
 -- the 48 bytes there are those of the record's head
-is_head_of : (content : Option (List ℕ)) (size position : ℕ) (r : Rec) (f : Found content position r) (head : List ℕ) → HeadStands content size position head → head ≡ text (record_head f.laid.next r)
+is_head_of : (content : Option (List ℕ)) (size position : ℕ) (r : Rec) (f : Found content position r) (head : List ℕ) → IsHeadAt content size position head → head ≡ text (record_head f.laid.next r)
 is_head_of content size position r f head (inside, len, part) =
-    part f.bytes f.told ∙ ap (λ n. take n (drop position f.bytes)) len ∙ head_there f.bytes position r f.laid
+    part f.bytes f.known ∙ ap (λ n. take n (drop position f.bytes)) len ∙ head_there f.bytes position r f.laid
 
 -- at a record's position its head is read, and nothing is damaged
-pub head_found : (content : Option (List ℕ)) (size position : ℕ) (result : Result Head HeadErr) → ((bytes : List ℕ) → content ≡ Some bytes → length bytes ≡ size) → GivesHead content size position result → (r : Rec) → StandsAt content position r → HeadOf r result
-head_found content size position (Ok h) told (head, stands, none, is) r s =
+pub head_found : (content : Option (List ℕ)) (size position : ℕ) (result : Result Head HeadErr) → ((bytes : List ℕ) → content ≡ Some bytes → length bytes ≡ size) → GivesHead content size position result → (r : Rec) → IsRecordAt content position r → GivesHeadOf r result
+head_found content size position (Ok h) known (head, stands, none, is) r s =
     let f = found content position r s in
     let same = is_head_of content size position r f head stands in
     let n : r.nsec < 256 ^ 4 = let h = f.range.nsec in omega (arith, h) in (
@@ -148,31 +158,31 @@ head_found content size position (Ok h) told (head, stands, none, is) r s =
       sym is.len ∙ ap (λ l. little_number 4 (drop 12 l)) same ∙ number_of_len f.laid.next r f.range.body,
       sym is.orig ∙ ap (λ l. little_number 4 (drop 16 l)) same ∙ number_of_orig f.laid.next r f.range.orig,
     )
-head_found content size position (Err (head_err.Damaged d)) told (inl outside) r s =
+head_found content size position (Err (head_err.Damaged d)) known (inl outside) r s =
     let f = found content position r s in
-    let size_is = told f.bytes f.told in
+    let size_is = known f.bytes f.known in
     let inside = lies_inside f.bytes position r f.laid in
     none-some (damage_view d) (sym (head_inside size position (omega (arith, size_is, inside))) ∙ outside)
-head_found content size position (Err (head_err.Damaged d)) told (inr (head, stands, wrong)) r s =
+head_found content size position (Err (head_err.Damaged d)) known (inr (head, stands, wrong)) r s =
     let f = found content position r s in
     let same = is_head_of content size position r f head stands in
-    let size_is = told f.bytes f.told in
+    let size_is = known f.bytes f.known in
     let inside = lies_inside f.bytes position r f.laid in
     none-some (damage_view d) (sym (head_good size position f.laid.next r f.range (omega (arith, size_is, inside))) ∙ ap (head_wrong size position) (sym same) ∙ wrong)
-head_found content size position (Err head_err.ReadFault) told gives r s = tt
+head_found content size position (Err head_err.ReadFault) known gives r s = tt
 
--- behind it its body is read, and nothing is damaged
-pub body_found : (content : Option (List ℕ)) (size position len : ℕ) (result : Result (List ℕ) BlockErr) → ((bytes : List ℕ) → content ≡ Some bytes → length bytes ≡ size) → GivesBody content size position len result → (r : Rec) → StandsAt content position r → len ≡ length r.body → BodyOf r result
-body_found content size position len (Ok body) told (inside, long, part) r s e =
+-- after it its body is read, and nothing is damaged
+pub body_found : (content : Option (List ℕ)) (size position len : ℕ) (result : Result (List ℕ) BlockErr) → ((bytes : List ℕ) → content ≡ Some bytes → length bytes ≡ size) → GivesBody content size position len result → (r : Rec) → IsRecordAt content position r → len ≡ length r.body → GivesBodyOf r result
+body_found content size position len (Ok body) known (inside, long, part) r s e =
     let f = found content position r s in
-    part f.bytes f.told ∙ ap (λ n. take n (drop (position + 48) f.bytes)) (long ∙ e) ∙ body_there f.bytes position r f.laid
-body_found content size position len (Err (block_err.Damaged d)) told outside r s e =
+    part f.bytes f.known ∙ ap (λ n. take n (drop (position + 48) f.bytes)) (long ∙ e) ∙ body_there f.bytes position r f.laid
+body_found content size position len (Err (block_err.Damaged d)) known outside r s e =
     let f = found content position r s in
-    let size_is = told f.bytes f.told in
+    let size_is = known f.bytes f.known in
     let inside = lies_inside f.bytes position r f.laid in
     let head = head_inside size position (omega (arith, size_is, inside)) in
     let body : body_outside size position len ≡ None = above_not (position + 12) len (size - position - 48) (omega (arith, size_is, inside)) in
     let whole : record_outside size position len ≡ None = rw (head, body) refl in
     none-some (damage_view d) (sym whole ∙ outside)
-body_found content size position len (Err block_err.ReadFault) told gives r s e = tt
-body_found content size position len (Err block_err.NoMemory) told gives r s e = tt
+body_found content size position len (Err block_err.ReadFault) known gives r s e = tt
+body_found content size position len (Err block_err.NoMemory) known gives r s e = tt

@@ -10,9 +10,9 @@ use Rattle.byteorder.specs.Endian.{little_number}
 use Rattle.st_base.specs.Records.{InRange}
 use Rattle.st_base.specs.Damages.{DamageView, damage_view}
 use Rattle.st_block.specs.BlockText.{IsBlockSize, IsShort}
-use Rattle.st_block.specs.Scanning.{is_block_size, nearest, extent_wrong, start_wrong, blocks_wrong, file_wrong, fails}
-use Rattle.st_block.specs.Progress.{Progress, IsSound, fresh}
-use Rattle.st_block.specs.Scans.{Stands, Starts, EntersNew}
+use Rattle.st_block.specs.Checks.{is_block_size, nearest_length, extent_wrong, start_wrong, blocks_wrong, file_wrong, damage_at}
+use Rattle.st_block.specs.ScanView.{ScanView, IsSoundScan, start_view}
+use Rattle.st_block.specs.Scan.{HasGiven, Starts, EntersNew}
 use Rattle.st_block.specs.declared.errors.HeadErr.{HeadErr}
 use Rattle.st_block.specs.declared.errors.HeadErr.TheVariants as head_err
 use Rattle.st_block.specs.Fields.{not_same}
@@ -51,8 +51,8 @@ sized n e =
     (power 12 (omega arith) (omega arith), (power 13 (omega arith) (omega arith), (power 14 (omega arith) (omega arith), (power 15 (omega arith) (omega arith), (power 16 (omega arith) (omega arith), (power 17 (omega arith) (omega arith), (power 18 (omega arith) (omega arith), (power 19 (omega arith) (omega arith), (power 20 (omega arith) (omega arith), tt)))))))))
 
 -- a scan before the first block is sound
-pub sound_fresh : (size blocks : ℕ) → IsBlockSize size → blocks ≤ 4095 → IsSound (fresh size blocks)
-sound_fresh size blocks b l =
+pub sound_start : (size blocks : ℕ) → IsBlockSize size → blocks ≤ 4095 → IsSoundScan (start_view size blocks)
+sound_start size blocks b l =
     let least = b.least in
     record {
       size = b;
@@ -67,7 +67,7 @@ sound_fresh size blocks b l =
     }
 
 -- a length that is its nearest one is whole blocks
-pub whole_blocks : (size extent : ℕ) → 1 ≤ size → extent ≡ nearest size extent → (extent ≡ size * (extent / size)) × (1 ≤ extent / size) × (extent / size ≤ 4095)
+pub whole_blocks : (size extent : ℕ) → 1 ≤ size → extent ≡ nearest_length size extent → (extent ≡ size * (extent / size)) × (1 ≤ extent / size) × (extent / size ≤ 4095)
 whole_blocks size extent l e = either (min (extent / size) 4095) refl e
   where
     either : (m : ℕ) → m ≡ min (extent / size) 4095 → extent ≡ (if nat_eq m 0 then size else size * m) → (extent ≡ size * (extent / size)) × (1 ≤ extent / size) × (extent / size ≤ 4095)
@@ -92,20 +92,20 @@ finds_none_else true f o e = (refl, e)
 finds_none_else false f o e = cc
 
 -- what is well before the first block
-starts_well : (head : List ℕ) (extent : ℕ) → start_wrong head extent ≡ None → IsBlockSize (little_number 4 (drop 4 head)) × (extent ≡ nearest (little_number 4 (drop 4 head)) extent)
+starts_well : (head : List ℕ) (extent : ℕ) → start_wrong head extent ≡ None → IsBlockSize (little_number 4 (drop 4 head)) × (extent ≡ nearest_length (little_number 4 (drop 4 head)) extent)
 starts_well head extent none =
     let size = little_number 4 (drop 4 head) in
     let one = finds_none (nat_lt extent 8) _ _ none in
     let two = both_hold (not_same 0 (little_number 4 head) 1) _ one.1 in
     let three = finds_none_else (is_block_size size) _ (extent_wrong size extent) two.1 in
-    let four = finds_none_else (nat_eq extent (nearest size extent)) _ None three.1 in
-    (sized size three.0, same_length extent (nearest size extent) four.0)
+    let four = finds_none_else (nat_eq extent (nearest_length size extent)) _ None three.1 in
+    (sized size three.0, same_length extent (nearest_length size extent) four.0)
   where
     same_length : (n m : ℕ) → nat_eq n m ≡ true → n ≡ m
     same_length n m e = grind (arith, nat_tests)
 
 -- a scan before the first block stands for the file
-pub starts_stand : (bytes : List ℕ) → start_wrong (take 8 bytes) (length bytes) ≡ None → Stands (fresh (little_number 4 (drop 4 (take 8 bytes))) (length bytes / little_number 4 (drop 4 (take 8 bytes)))) bytes []
+pub starts_stand : (bytes : List ℕ) → start_wrong (take 8 bytes) (length bytes) ≡ None → HasGiven (start_view (little_number 4 (drop 4 (take 8 bytes))) (length bytes / little_number 4 (drop 4 (take 8 bytes)))) bytes []
 unfolding file_wrong
 starts_stand bytes none =
     let size = little_number 4 (drop 4 (take 8 bytes)) in
@@ -133,7 +133,7 @@ starts_stand bytes none =
       short = All-nil (IsShort size);
       stand = tt;
       records = refl;
-      places = refl;
+      heads = refl;
     }
 
 -- what the checks before the first block find is what is wrong first with the file
@@ -143,26 +143,26 @@ starts_damaged bytes f e =
     ap (λ (o : Option DamageView). option_or o (blocks_wrong (little_number 4 (drop 4 (take 8 bytes))) (length bytes / little_number 4 (drop 4 (take 8 bytes))) 0 None bytes)) e
 
 -- so what starts at a file's first eight bytes enters the file
-pub enters : (bytes head : List ℕ) (extent : ℕ) (result : Result Progress HeadErr) → head ≡ take 8 bytes → length bytes ≡ extent → Starts head extent result → EntersNew bytes result
+pub enters : (bytes head : List ℕ) (extent : ℕ) (result : Result ScanView HeadErr) → head ≡ take 8 bytes → length bytes ≡ extent → Starts head extent result → EntersNew bytes result
 enters bytes head extent (Ok p) same len (none, is) =
     let none_there = subst (λ (h : List ℕ). start_wrong h (length bytes) ≡ None) same (subst (λ (n : ℕ). start_wrong head n ≡ None) (sym len) none) in
-    let is_there = is ∙ (ap (λ (n : ℕ). fresh (little_number 4 (drop 4 head)) (n / little_number 4 (drop 4 head))) (sym len) ∙ ap (λ (h : List ℕ). fresh (little_number 4 (drop 4 h)) (length bytes / little_number 4 (drop 4 h))) same) in
-    subst (λ (q : Progress). Stands q bytes []) (sym is_there) (starts_stand bytes none_there)
+    let is_there = is ∙ (ap (λ (n : ℕ). start_view (little_number 4 (drop 4 head)) (n / little_number 4 (drop 4 head))) (sym len) ∙ ap (λ (h : List ℕ). start_view (little_number 4 (drop 4 h)) (length bytes / little_number 4 (drop 4 h))) same) in
+    subst (λ (q : ScanView). HasGiven q bytes []) (sym is_there) (starts_stand bytes none_there)
 enters bytes head extent (Err (head_err.Damaged d)) same len wrong =
     starts_damaged bytes (damage_view d) (subst (λ (h : List ℕ). start_wrong h (length bytes) ≡ Some (damage_view d)) same (subst (λ (n : ℕ). start_wrong head n ≡ Some (damage_view d)) (sym len) wrong))
 enters bytes head extent (Err head_err.ReadFault) same len wrong = tt
 
 -- a file of fewer than eight bytes
-pub enters_short : (bytes : List ℕ) (extent : ℕ) → length bytes ≡ extent → extent < 8 → file_wrong bytes ≡ fails 0 extent 4096
+pub enters_short : (bytes : List ℕ) (extent : ℕ) → length bytes ≡ extent → extent < 8 → file_wrong bytes ≡ damage_at 0 extent 4096
 enters_short bytes extent len l =
     let t : nat_lt (length bytes) 8 ≡ true = grind (arith, nat_tests) in
     starts_damaged bytes (record { place = 0; found = extent; want = 4096 }) (rw (t, len) refl)
 
 -- the blocks of a scan that starts lie in the file
-pub starts_inside : (head : List ℕ) (extent : ℕ) (p : Progress) → Starts head extent (Ok p) → p.size * p.blocks ≤ extent
+pub starts_inside : (head : List ℕ) (extent : ℕ) (p : ScanView) → Starts head extent (Ok p) → p.size * p.blocks ≤ extent
 starts_inside head extent p (none, is) =
     let size = little_number 4 (drop 4 head) in
     let well = starts_well head extent none in
     let least = well.0.least in
     let whole = whole_blocks size extent (omega arith) well.1 in
-    subst (λ (q : Progress). q.size * q.blocks ≤ extent) (sym is) (let e = whole.0 in omega arith)
+    subst (λ (q : ScanView). q.size * q.blocks ≤ extent) (sym is) (let e = whole.0 in omega arith)

@@ -14,7 +14,7 @@ use Rattle.byteorder.specs.Numbers.{length-bytes_low_first, little_from-cons}
 use Rattle.st_base.specs.Damages.{DamageView}
 use Rattle.st_block.specs.Fields.{Field, Number, Any, Nanoseconds, Zeros, Body, size_of, text_of, sizes, text, not_zero, not_same, field_wrong, first_wrong, IsRead, AreRead}
 
--- one text behind another
+-- one text after another
 pub text-append : (xs ys : List Field) → text (xs ++ ys) ≡ text xs ++ text ys
 text-append [] ys = refl
 text-append (f ∷ xs) ys = ap (λ t. text_of f ++ t) (text-append xs ys) ∙ sym (append_assoc (text_of f) (text xs) (text ys))
@@ -42,7 +42,7 @@ option_or-assoc : (a b c : Option DamageView) → option_or (option_or a b) c �
 option_or-assoc None b c = refl
 option_or-assoc (Some f) b c = refl
 
--- what is wrong first at some fields and others behind them
+-- what is wrong first at some fields and others after them
 pub first_wrong-append : (place : ℕ) (xs ys : List Field) (bytes : List ℕ) → first_wrong place (xs ++ ys) bytes ≡ option_or (first_wrong place xs bytes) (first_wrong (place + sizes xs) ys (drop (sizes xs) bytes))
 first_wrong-append place [] ys bytes = ap (λ n. first_wrong n ys bytes) (let e : place ≡ place + 0 = omega arith in e)
 first_wrong-append place (f ∷ xs) ys bytes =
@@ -118,8 +118,8 @@ text_is place (f ∷ fields) bytes b l (h, more) e =
     let none = or_none (field_wrong place f bytes) (first_wrong (place + size_of f) fields (drop (size_of f) bytes)) e in
     let here = field_is place f bytes b (omega arith) h none.0 in
     let size : length (drop (size_of f) bytes) ≡ length bytes - size_of f = length-drop (size_of f) bytes in
-    let behind : AreBytes (drop (size_of f) bytes) = λ k. rw get_or-drop (b (size_of f + k)) in
-    let rest = text_is (place + size_of f) fields (drop (size_of f) bytes) behind (omega arith) more none.1 in
+    let after : AreBytes (drop (size_of f) bytes) = λ k. rw get_or-drop (b (size_of f + k)) in
+    let rest = text_is (place + size_of f) fields (drop (size_of f) bytes) after (omega arith) more none.1 in
     take-add (size_of f) (sizes fields) bytes
     ∙ ap (λ t. t ++ take (sizes fields) (drop (size_of f) bytes)) here
     ∙ ap (λ t. text_of f ++ t) rest

@@ -14,11 +14,11 @@ use Rattle.byteorder.specs.Numbers.{little_number-reads_back}
 use Rattle.st_base.specs.Records.{Rec, InRange}
 use Rattle.st_base.specs.Damages.{damage_view}
 use Rattle.st_block.specs.Fields.{text, first_wrong}
-use Rattle.st_block.specs.BlockText.{IsBlockSize, room, used, records_fields, block_head, block_fields, block_text, blocks, blocks_text, NoRoom, Fills}
-use Rattle.st_block.specs.Scanning.{captured, records_at, count_of, records_of, layout_from, layout_wrong, join_wrong, block_wrong, blocks_wrong, is_block_size, nearest, start_wrong, file_wrong}
+use Rattle.st_block.specs.BlockText.{IsBlockSize, room, used_bytes, records_fields, block_head, head_of_block, block_fields, block_text, blocks, blocks_text, NoRoom, AreFilled}
+use Rattle.st_block.specs.Checks.{captured_length, records_at, count_of, records_of, layout_from, layout_wrong, join_wrong, block_wrong, blocks_wrong, is_block_size, nearest_length, start_wrong, file_wrong}
 use Rattle.st_block.specs.Position.{positions}
-use Rattle.st_block.specs.Progress.{Progress, IsOutside}
-use Rattle.st_block.specs.Scans.{Placed, positions_in, records_in, IsFile, Gives, EntersNew}
+use Rattle.st_block.specs.ScanView.{ScanView, IsNotDamage}
+use Rattle.st_block.specs.Scan.{PositionedRecord, positions_in, records_in, IsFile, GivesNext, EntersNew}
 use Rattle.st_block.specs.declared.errors.HeadErr.{HeadErr}
 use Rattle.st_block.specs.declared.errors.HeadErr.TheVariants as head_err
 use Rattle.st_block.specs.declared.errors.BlockErr.{BlockErr}
@@ -33,74 +33,74 @@ use Rattle.st_block.proofs.Good.{fields_good, captured_first, records_back, layo
 -- the parts of a block's text as a scan reads them
 record Read (size number : ℕ) (r : Rec) (rs : List Rec) : Type 0 where
   count : count_of (block_text size number (r ∷ rs)) ≡ length (r ∷ rs)
-  behind : drop 48 (block_text size number (r ∷ rs)) ≡ text (records_fields (r ∷ rs)) ++ replicate (size - used (r ∷ rs)) 0
+  after : drop 48 (block_text size number (r ∷ rs)) ≡ text (records_fields (r ∷ rs)) ++ replicate (size - used_bytes (r ∷ rs)) 0
   records : records_of (block_text size number (r ∷ rs)) ≡ r ∷ rs
 
 -- a block has few records
-few : (size : ℕ) (rs : List Rec) → size ≤ 1048576 → used rs ≤ size → length rs < 2 ^ 32
+few : (size : ℕ) (rs : List Rec) → size ≤ 1048576 → used_bytes rs ≤ size → length rs < 2 ^ 32
 few size rs m l = let e = count_used rs in omega (arith, e)
 
-read_back : (size number : ℕ) (r : Rec) (rs : List Rec) → size ≤ 1048576 → used (r ∷ rs) ≤ size → All InRange (r ∷ rs) → Read size number r rs
+read_back : (size number : ℕ) (r : Rec) (rs : List Rec) → size ≤ 1048576 → used_bytes (r ∷ rs) ≤ size → All InRange (r ∷ rs) → Read size number r rs
 read_back size number r rs m l range =
-    let zeros : List ℕ = replicate (size - used (r ∷ rs)) 0 in
+    let zeros : List ℕ = replicate (size - used_bytes (r ∷ rs)) 0 in
     let rest = text (records_fields (r ∷ rs)) ++ zeros in
     let parts = block_parts size number r rs in
-    let head = length-text (block_head size number r rs) ∙ sizes_block_head size number r rs in
+    let head = length-text (head_of_block size number r rs) ∙ sizes_block_head size number r rs in
     let count_is : count_of (block_text size number (r ∷ rs)) ≡ length (r ∷ rs) = ap count_of parts ∙ count_back size number r rs rest (few size (r ∷ rs) m l) in
-    let behind_is : drop 48 (block_text size number (r ∷ rs)) ≡ rest = ap (λ (b : List ℕ). drop 48 b) parts ∙ drop_at (text (block_head size number r rs)) rest 48 head in
+    let after_is : drop 48 (block_text size number (r ∷ rs)) ≡ rest = ap (λ (b : List ℕ). drop 48 b) parts ∙ drop_at (text (head_of_block size number r rs)) rest 48 head in
     let back = records_back (r ∷ rs) zeros range in
     record {
       count = count_is;
-      behind = behind_is;
-      records = (λ i. records_at (count_is i) (behind_is i)) ∙ back.0;
+      after = after_is;
+      records = (λ i. records_at (count_is i) (after_is i)) ∙ back.0;
     }
 
 -- a block without a record before that its first record would have fitted
-block_good : (size number : ℕ) (before : Option ℕ) (r : Rec) (rs : List Rec) → IsBlockSize size → number < 4095 → used (r ∷ rs) ≤ size → All InRange (r ∷ rs) → join_wrong size (size * number) before (block_text size number (r ∷ rs)) ≡ None → block_wrong size number before (block_text size number (r ∷ rs)) ≡ None
+block_good : (size number : ℕ) (before : Option ℕ) (r : Rec) (rs : List Rec) → IsBlockSize size → number < 4095 → used_bytes (r ∷ rs) ≤ size → All InRange (r ∷ rs) → join_wrong size (size * number) before (block_text size number (r ∷ rs)) ≡ None → block_wrong size number before (block_text size number (r ∷ rs)) ≡ None
 unfolding block_wrong
 block_good size number before r rs b n l range join =
     let place = size * number in
     let most = b.most in
     let block = block_text size number (r ∷ rs) in
     let read = read_back size number r rs most l range in
-    let zeros : List ℕ = replicate (size - used (r ∷ rs)) 0 in
+    let zeros : List ℕ = replicate (size - used_bytes (r ∷ rs)) 0 in
     let back = records_back (r ∷ rs) zeros range in
     let count = read.count in
     let some : nat_eq (count_of block) 0 ≡ false = grind (arith, nat_tests) in
-    let laid : layout_from place (count_of block) (count_of block) 48 (drop 48 block) ≡ None = (λ i. layout_from place (read.count i) (read.count i) 48 (read.behind i)) ∙ layout_good place (length (r ∷ rs)) (length (r ∷ rs)) 48 (text (records_fields (r ∷ rs)) ++ zeros) back.1 in
+    let laid : layout_from place (count_of block) (count_of block) 48 (drop 48 block) ≡ None = (λ i. layout_from place (read.count i) (read.count i) 48 (read.after i)) ∙ layout_good place (length (r ∷ rs)) (length (r ∷ rs)) 48 (text (records_fields (r ∷ rs)) ++ zeros) back.1 in
     let layout : layout_wrong place block ≡ None = rw some laid in
     let fit = block_fit size number r rs most n l (few size (r ∷ rs) most l) range in
     let well = subst (λ (t : List ℕ). first_wrong place (block_fields size number (r ∷ rs)) t ≡ None) (append-nil block) (fields_good place (block_fields size number (r ∷ rs)) [] fit) in
     let fields : first_wrong place (block_fields size number (records_of block)) block ≡ None = ap (λ (qs : List Rec). first_wrong place (block_fields size number qs) block) read.records ∙ well in
     or_both layout (or_both join fields)
 
--- these blocks go on behind one with so many used bytes, if there is one
-abbrev Behind : ℕ → Option ℕ → List (List Rec) → Type 0
-Behind size None bs = Unit {0}
-Behind size (Some u) [] = Unit {0}
-Behind size (Some u) ([] ∷ bs) = ⊥
-Behind size (Some u) ((r ∷ rs) ∷ bs) = (c : List Rec) × (u ≡ used c) × (size < used c + room r)
+-- these blocks go on after one with so many used bytes, if there is one
+abbrev After : ℕ → Option ℕ → List (List Rec) → Type 0
+After size None bs = Unit {0}
+After size (Some u) [] = Unit {0}
+After size (Some u) ([] ∷ bs) = ⊥
+After size (Some u) ((r ∷ rs) ∷ bs) = (c : List Rec) × (u ≡ used_bytes c) × (size < used_bytes c + room r)
 
-behind_next : (size : ℕ) (b : List Rec) (bs : List (List Rec)) → NoRoom size b bs → Behind size (Some (used b)) bs
-behind_next size b [] apart = tt
-behind_next size b ([] ∷ bs) apart = absurd apart
-behind_next size b ((r ∷ rs) ∷ bs) apart = (b, refl, apart)
+after_next : (size : ℕ) (b : List Rec) (bs : List (List Rec)) → NoRoom size b bs → After size (Some (used_bytes b)) bs
+after_next size b [] apart = tt
+after_next size b ([] ∷ bs) apart = absurd apart
+after_next size b ((r ∷ rs) ∷ bs) apart = (b, refl, apart)
 
 -- a record that had no room is as long as it must be
-far : (size : ℕ) → IsBlockSize size → (c : List Rec) (r : Rec) → size < used c + room r → size - 47 - used c ≤ length r.body
-far size b c r full = elim (cases_lt (length r.body) (size - 47 - used c)) [
+far : (size : ℕ) → IsBlockSize size → (c : List Rec) (r : Rec) → size < used_bytes c + room r → size - 47 - used_bytes c ≤ length r.body
+far size b c r full = elim (cases_lt (length r.body) (size - 47 - used_bytes c)) [
   | inl short ↦ absurd (let fits = (room_fits size b c r).1 (omega arith) in omega arith)
   | inr long ↦ long
 ]
 
-join_good : (size place number : ℕ) (before : Option ℕ) (r : Rec) (rs : List Rec) (bs : List (List Rec)) → IsBlockSize size → used (r ∷ rs) ≤ size → All InRange (r ∷ rs) → Behind size before ((r ∷ rs) ∷ bs) → join_wrong size place before (block_text size number (r ∷ rs)) ≡ None
-join_good size place number None r rs bs b l range behind = refl
+join_good : (size place number : ℕ) (before : Option ℕ) (r : Rec) (rs : List Rec) (bs : List (List Rec)) → IsBlockSize size → used_bytes (r ∷ rs) ≤ size → All InRange (r ∷ rs) → After size before ((r ∷ rs) ∷ bs) → join_wrong size place before (block_text size number (r ∷ rs)) ≡ None
+join_good size place number None r rs bs b l range after = refl
 join_good size place number (Some u) r rs bs b l range (c, same, full) =
     let most = b.most in
     let read = read_back size number r rs most l range in
-    let len : captured (drop 48 (block_text size number (r ∷ rs))) ≡ length r.body = ap captured read.behind ∙ captured_first r rs (replicate (size - used (r ∷ rs)) 0) (all_first InRange r rs range) in
+    let len : captured_length (drop 48 (block_text size number (r ∷ rs))) ≡ length r.body = ap captured_length read.after ∙ captured_first r rs (replicate (size - used_bytes (r ∷ rs)) 0) (all_first InRange r rs range) in
     let long = far size b c r full in
-    let t : nat_lt (captured (drop 48 (block_text size number (r ∷ rs)))) (size - 47 - u) ≡ false = grind (arith, nat_tests) in
+    let t : nat_lt (captured_length (drop 48 (block_text size number (r ∷ rs)))) (size - 47 - u) ≡ false = grind (arith, nat_tests) in
     rw t refl
 
 -- what holds of each of several records and of others holds of each part
@@ -114,10 +114,10 @@ all_right [] ys all = all
 all_right (x ∷ xs) ys all = all_right xs ys (all_more InRange x (xs ++ ys) all)
 
 -- blocks that records fill
-blocks_good : (size : ℕ) → IsBlockSize size → (number : ℕ) (before : Option ℕ) (bs : List (List Rec)) → Fills size bs → Behind size before bs → All InRange (flat_map (λ (x : List Rec). x) bs) → number + length bs ≤ 4095 → blocks_wrong size (length bs) number before (blocks_text size number bs) ≡ None
-blocks_good size b number before [] fill behind range n = refl
-blocks_good size b number before ([] ∷ bs) (some, l, apart, fill) behind range n = absurd (omega arith)
-blocks_good size b number before ((r ∷ rs) ∷ bs) (some, l, apart, fill) behind range n =
+blocks_good : (size : ℕ) → IsBlockSize size → (number : ℕ) (before : Option ℕ) (bs : List (List Rec)) → AreFilled size bs → After size before bs → All InRange (flat_map (λ (x : List Rec). x) bs) → number + length bs ≤ 4095 → blocks_wrong size (length bs) number before (blocks_text size number bs) ≡ None
+blocks_good size b number before [] fill after range n = refl
+blocks_good size b number before ([] ∷ bs) (some, l, apart, fill) after range n = absurd (omega arith)
+blocks_good size b number before ((r ∷ rs) ∷ bs) (some, l, apart, fill) after range n =
     let block = block_text size number (r ∷ rs) in
     let rest = blocks_text size (number + 1) bs in
     let most = b.most in
@@ -127,14 +127,14 @@ blocks_good size b number before ((r ∷ rs) ∷ bs) (some, l, apart, fill) behi
     let front : take size (block ++ rest) ≡ block = take_at block rest size long in
     let back : drop size (block ++ rest) ≡ rest = drop_at block rest size long in
     let read = read_back size number r rs most l here in
-    let join = join_good size (size * number) number before r rs bs b l here behind in
+    let join = join_good size (size * number) number before r rs bs b l here after in
     let well = block_good size number before r rs b (omega arith) l here join in
-    let others = blocks_good size b (number + 1) (Some (used (r ∷ rs))) bs fill (behind_next size (r ∷ rs) bs apart) there (omega arith) in
-    let used_is : used (records_of (take size (block ++ rest))) ≡ used (r ∷ rs) = ap (λ (t : List ℕ). used (records_of t)) front ∙ ap used read.records in
+    let others = blocks_good size b (number + 1) (Some (used_bytes (r ∷ rs))) bs fill (after_next size (r ∷ rs) bs apart) there (omega arith) in
+    let used_is : used_bytes (records_of (take size (block ++ rest))) ≡ used_bytes (r ∷ rs) = ap (λ (t : List ℕ). used_bytes (records_of t)) front ∙ ap used_bytes read.records in
     or_both (ap (λ (t : List ℕ). block_wrong size number before t) front ∙ well) ((λ i. blocks_wrong size (length bs) (number + 1) (Some (used_is i)) (back i)) ∙ others)
 
 -- blocks are as many bytes
-length_blocks : (size number : ℕ) (bs : List (List Rec)) → Fills size bs → length (blocks_text size number bs) ≡ size * length bs
+length_blocks : (size number : ℕ) (bs : List (List Rec)) → AreFilled size bs → length (blocks_text size number bs) ≡ size * length bs
 length_blocks size number [] fill = omega arith
 length_blocks size number ([] ∷ bs) (some, l, apart, fill) = absurd (omega arith)
 length_blocks size number ((r ∷ rs) ∷ bs) (some, l, apart, fill) =
@@ -180,7 +180,7 @@ is_size size b =
     ]
 
 -- whole blocks are their own nearest length
-nearest_good : (size n : ℕ) → 1 ≤ size → 1 ≤ n → n ≤ 4095 → nearest size (size * n) ≡ size * n
+nearest_good : (size n : ℕ) → 1 ≤ size → 1 ≤ n → n ≤ 4095 → nearest_length size (size * n) ≡ size * n
 nearest_good size n l some most =
     let k : size * n / size ≡ n = mul-div_cancel_left n l in
     let m : min n 4095 ≡ n = omega arith in
@@ -188,7 +188,7 @@ nearest_good size n l some most =
     rw (k, m, t) refl
 
 -- the first eight bytes of a block
-first_eight : (size number : ℕ) (r : Rec) (rs : List Rec) (rest : List ℕ) → take 8 (text (block_head size number r rs) ++ rest) ≡ little_bytes 4 1 ++ little_bytes 4 size
+first_eight : (size number : ℕ) (r : Rec) (rs : List Rec) (rest : List ℕ) → take 8 (text (head_of_block size number r rs) ++ rest) ≡ little_bytes 4 1 ++ little_bytes 4 size
 unfolding block_head
 first_eight size number r rs rest = refl
 
@@ -202,7 +202,7 @@ start_good size n b some most =
     let long : 8 ≤ size * n = long_enough size n (omega arith) some in
     let t : nat_lt (size * n) 8 ≡ false = grind (arith, nat_tests) in
     let near = nearest_good size n (omega arith) some most in
-    let same : nat_eq (size * n) (nearest size (size * n)) ≡ true = equal (size * n) (nearest size (size * n)) (sym near) in
+    let same : nat_eq (size * n) (nearest_length size (size * n)) ≡ true = equal (size * n) (nearest_length size (size * n)) (sym near) in
     let test = is_size size b in
     rw (t, number, test, same) refl
   where
@@ -214,7 +214,7 @@ start_good size n b some most =
     equal a c e = grind (arith, nat_tests)
 
 -- nothing is wrong with blocks that begin a file
-blocks_unhurt : (size : ℕ) (bs : List (List Rec)) → IsBlockSize size → Fills size bs → 1 ≤ length bs → length bs ≤ 4095 → All InRange (flat_map (λ (x : List Rec). x) bs) → file_wrong (blocks_text size 0 bs) ≡ None
+blocks_unhurt : (size : ℕ) (bs : List (List Rec)) → IsBlockSize size → AreFilled size bs → 1 ≤ length bs → length bs ≤ 4095 → All InRange (flat_map (λ (x : List Rec). x) bs) → file_wrong (blocks_text size 0 bs) ≡ None
 unfolding file_wrong
 blocks_unhurt size [] b fill some most range = absurd (omega arith)
 blocks_unhurt size ([] ∷ bs) b (one, l, apart, fill) some most range = absurd (omega arith)
@@ -224,8 +224,8 @@ blocks_unhurt size ((r ∷ rs) ∷ bs) b fill some most range =
     let least = b.least in
     let small = b.most in
     let fit : size < 256 ^ 4 = omega arith in
-    let split : bytes ≡ text (block_head size 0 r rs) ++ ((text (records_fields (r ∷ rs)) ++ replicate (size - used (r ∷ rs)) 0) ++ blocks_text size 1 bs) = ap (λ (t : List ℕ). t ++ blocks_text size 1 bs) (block_parts size 0 r rs) ∙ append_assoc (text (block_head size 0 r rs)) (text (records_fields (r ∷ rs)) ++ replicate (size - used (r ∷ rs)) 0) (blocks_text size 1 bs) in
-    let eight : take 8 bytes ≡ little_bytes 4 1 ++ little_bytes 4 size = ap (λ (t : List ℕ). take 8 t) split ∙ first_eight size 0 r rs ((text (records_fields (r ∷ rs)) ++ replicate (size - used (r ∷ rs)) 0) ++ blocks_text size 1 bs) in
+    let split : bytes ≡ text (head_of_block size 0 r rs) ++ ((text (records_fields (r ∷ rs)) ++ replicate (size - used_bytes (r ∷ rs)) 0) ++ blocks_text size 1 bs) = ap (λ (t : List ℕ). t ++ blocks_text size 1 bs) (block_parts size 0 r rs) ∙ append_assoc (text (head_of_block size 0 r rs)) (text (records_fields (r ∷ rs)) ++ replicate (size - used_bytes (r ∷ rs)) 0) (blocks_text size 1 bs) in
+    let eight : take 8 bytes ≡ little_bytes 4 1 ++ little_bytes 4 size = ap (λ (t : List ℕ). take 8 t) split ∙ first_eight size 0 r rs ((text (records_fields (r ∷ rs)) ++ replicate (size - used_bytes (r ∷ rs)) 0) ++ blocks_text size 1 bs) in
     let long : length bytes ≡ size * n = length_blocks size 0 ((r ∷ rs) ∷ bs) fill in
     let size_is : little_number 4 (drop 4 (take 8 bytes)) ≡ size = ap (λ (t : List ℕ). little_number 4 (drop 4 t)) eight ∙ little_number-reads_back 4 size [] fit in
     let count : length bytes / size ≡ n = ap (λ (k : ℕ). k / size) long ∙ mul-div_cancel_left n (let z : 0 < size = omega arith in z) in
@@ -234,7 +234,7 @@ blocks_unhurt size ((r ∷ rs) ∷ bs) b fill some most range =
     or_both start blocks_well
 
 -- nor with a file that is the text of its records
-pub file_unhurt : (bytes : List ℕ) (given : List Placed) → IsFile bytes given → file_wrong bytes ≡ None
+pub file_unhurt : (bytes : List ℕ) (given : List PositionedRecord) → IsFile bytes given → file_wrong bytes ≡ None
 file_unhurt bytes given is =
     let rs = records_in given in
     let file = is.file in
@@ -249,7 +249,7 @@ file_unhurt bytes given is =
     has_blocks (c ∷ cs) qs e l = omega arith
 
 -- pairs whose parts are the same
-pairs_same : (xs ys : List Placed) → positions_in xs ≡ positions_in ys → records_in xs ≡ records_in ys → xs ≡ ys
+pairs_same : (xs ys : List PositionedRecord) → positions_in xs ≡ positions_in ys → records_in xs ≡ records_in ys → xs ≡ ys
 pairs_same [] [] e f = refl
 pairs_same [] (y ∷ ys) e f = cc
 pairs_same (x ∷ xs) [] e f = cc
@@ -260,20 +260,20 @@ pairs_same (x ∷ xs) (y ∷ ys) e f =
     λ i. (place i, packet i) ∷ others i
 
 -- a file's bytes tell its records and their positions
-pub one_given_there : (bytes : List ℕ) (xs ys : List Placed) → IsFile bytes xs → IsFile bytes ys → xs ≡ ys
+pub one_given_there : (bytes : List ℕ) (xs ys : List PositionedRecord) → IsFile bytes xs → IsFile bytes ys → xs ≡ ys
 one_given_there bytes xs ys a b =
     let one = one_file a.size b.size (records_in xs) (records_in ys) a.file b.file (a.text ∙ sym b.text) in
-    let places_same : positions_in xs ≡ positions_in ys = sym a.places ∙ ((λ i. positions (one.0 i) (one.1 i)) ∙ b.places) in
+    let places_same : positions_in xs ≡ positions_in ys = sym a.heads ∙ ((λ i. positions (one.0 i) (one.1 i)) ∙ b.heads) in
     pairs_same xs ys places_same one.1
 
 -- so a scan of a file gives no damage
-pub gives_outside : (bytes : List ℕ) (given rs : List Placed) (new : Progress) (result : Result (Option Placed) BlockErr) → IsFile bytes rs → Gives bytes given new result → IfErr result IsOutside
+pub gives_outside : (bytes : List ℕ) (given rs : List PositionedRecord) (new : ScanView) (result : Result (Option PositionedRecord) BlockErr) → IsFile bytes rs → GivesNext bytes given new result → IfErr result IsNotDamage
 gives_outside bytes given rs new (Ok o) is gives = tt
 gives_outside bytes given rs new (Err (block_err.Damaged d)) is gives = none-some (damage_view d) (sym (file_unhurt bytes rs is) ∙ gives)
 gives_outside bytes given rs new (Err block_err.ReadFault) is gives = tt
 gives_outside bytes given rs new (Err block_err.NoMemory) is gives = tt
 
 -- nor does entering it
-pub entered_outside : (bytes : List ℕ) (rs : List Placed) (e : HeadErr) → IsFile bytes rs → EntersNew bytes (Err e) → e ≡ head_err.ReadFault
+pub entered_outside : (bytes : List ℕ) (rs : List PositionedRecord) (e : HeadErr) → IsFile bytes rs → EntersNew bytes (Err e) → e ≡ head_err.ReadFault
 entered_outside bytes rs (head_err.Damaged d) is gives = absurd (none-some (damage_view d) (sym (file_unhurt bytes rs is) ∙ gives))
 entered_outside bytes rs head_err.ReadFault is gives = refl

@@ -10,10 +10,10 @@ use Rattle.byteorder.specs.Numbers.{little_from-lt}
 use Rattle.st_base.specs.Records.{Rec, InRange}
 use Rattle.st_base.specs.Damages.{DamageView}
 use Rattle.st_block.specs.Fields.{Field, Zeros, Body, size_of, sizes, not_same, above, first_wrong, AreRead}
-use Rattle.st_block.specs.BlockText.{padded, used, distance, record_head, record_fields, records_fields, block_head, block_fields, block_text, IsShort}
-use Rattle.st_block.specs.Scanning.{captured, taken, record_at, records_at, count_of, records_of, layout_wrong, join_wrong, block_wrong}
-use Rattle.st_block.specs.declared.scan_layout.Layout.{Layout}
-use Rattle.st_block.specs.Layout.{Fit, Stand, IsLayout, IsWholeBlock}
+use Rattle.st_block.specs.BlockText.{padded_len, used_bytes, distance, record_head, record_fields, records_fields, block_head, head_of_block, block_fields, block_text, IsShort}
+use Rattle.st_block.specs.Checks.{captured_length, room_at, record_at, records_at, count_of, records_of, layout_wrong, join_wrong, block_wrong}
+use Rattle.st_block.specs.declared.scan.layout.Layout.{Layout}
+use Rattle.st_block.specs.Layout.{RecordsFit, SoundRecordsFit, IsLayout, IsWholeBlock}
 use Rattle.st_block.proofs.Texts.{AreBytes, first_wrong-append, sizes-append, text_is}
 use Rattle.st_block.proofs.Laying.{body_is, room_is, records_more, padded_more}
 use Rattle.st_block.proofs.Checking.{sizes_head, sizes_record, sizes_records, sizes_block_head, record_head_checks, record_checks}
@@ -23,9 +23,9 @@ pub both_hold : (a b : Option DamageView) → option_or a b ≡ None → (a ≡ 
 both_hold None b e = (refl, e)
 both_hold (Some f) b e = cc
 
--- bytes behind bytes
-pub bytes_behind : (n : ℕ) (bytes : List ℕ) → AreBytes bytes → AreBytes (drop n bytes)
-bytes_behind n bytes b = λ k. rw get_or-drop (b (n + k))
+-- bytes after bytes
+pub bytes_after : (n : ℕ) (bytes : List ℕ) → AreBytes bytes → AreBytes (drop n bytes)
+bytes_after n bytes b = λ k. rw get_or-drop (b (n + k))
 
 -- fields that were read off one after the other
 are_read-append : (xs ys : List Field) (bytes : List ℕ) → AreRead xs bytes → AreRead ys (drop (sizes xs) bytes) → AreRead (xs ++ ys) bytes
@@ -35,8 +35,8 @@ are_read-append (f ∷ xs) ys bytes (h, one) two =
     (h, are_read-append xs ys (drop (size_of f) bytes) one (subst (AreRead ys) on two))
 
 -- the head of a record is read off the bytes that it stands in
-head_read : (next : ℕ) (bytes : List ℕ) → taken bytes ≤ length bytes → AreRead (record_head next (record_at bytes)) bytes
-unfolding record_head record_at captured
+head_read : (next : ℕ) (bytes : List ℕ) → room_at bytes ≤ length bytes → AreRead (record_head next (record_at bytes)) bytes
+unfolding record_head record_at captured_length
 head_read next bytes fits =
     let nsec : little_number 4 (drop 4 (drop 4 bytes)) ≡ little_number 4 (drop 8 bytes) = ap (λ (l : List ℕ). little_number 4 l) (drop-drop 4 4 bytes) in
     let at_len : little_number 4 (drop 4 (drop 4 (drop 4 bytes))) ≡ little_number 4 (drop 12 bytes) = ap (λ (l : List ℕ). little_number 4 (drop 4 l)) (drop-drop 4 4 bytes) ∙ ap (λ (l : List ℕ). little_number 4 l) (drop-drop 4 8 bytes) in
@@ -44,47 +44,47 @@ head_read next bytes fits =
     (tt, (refl, (nsec, (at_len ∙ sym (body_is bytes fits), (ap (λ (l : List ℕ). little_number 4 l) on_orig, (tt, (tt, (tt, (tt, tt)))))))))
 
 -- the body is as long as the head says
-body_there : (bytes : List ℕ) → take (captured bytes) (drop 48 bytes) ≡ (record_at bytes).body
+body_there : (bytes : List ℕ) → take (captured_length bytes) (drop 48 bytes) ≡ (record_at bytes).body
 unfolding record_at
 body_there bytes = refl
 
 -- its body is, too
-body_read : (bytes : List ℕ) → taken bytes ≤ length bytes → take (length (record_at bytes).body) (drop 48 bytes) ≡ (record_at bytes).body
+body_read : (bytes : List ℕ) → room_at bytes ≤ length bytes → take (length (record_at bytes).body) (drop 48 bytes) ≡ (record_at bytes).body
 body_read bytes fits = ap (λ (n : ℕ). take n (drop 48 bytes)) (body_is bytes fits) ∙ body_there bytes
 
 -- so is the record
-record_read : (next : ℕ) (bytes : List ℕ) → taken bytes ≤ length bytes → AreRead (record_fields next (record_at bytes)) bytes
+record_read : (next : ℕ) (bytes : List ℕ) → room_at bytes ≤ length bytes → AreRead (record_fields next (record_at bytes)) bytes
 record_read next bytes fits =
     let r = record_at bytes in
-    are_read-append (record_head next r) (Body r.body ∷ Zeros (padded (length r.body) - length r.body) ∷ []) bytes (head_read next bytes fits) (subst (λ k. AreRead (Body r.body ∷ Zeros (padded (length r.body) - length r.body) ∷ []) (drop k bytes)) (sym (sizes_head next r)) (body_read bytes fits, (tt, tt)))
+    are_read-append (record_head next r) (Body r.body ∷ Zeros (padded_len (length r.body) - length r.body) ∷ []) bytes (head_read next bytes fits) (subst (λ k. AreRead (Body r.body ∷ Zeros (padded_len (length r.body) - length r.body) ∷ []) (drop k bytes)) (sym (sizes_head next r)) (body_read bytes fits, (tt, tt)))
 
 -- and all records
-records_read : (n : ℕ) (bytes : List ℕ) → Fit n bytes → AreRead (records_fields (records_at n bytes)) bytes
+records_read : (n : ℕ) (bytes : List ℕ) → RecordsFit n bytes → AreRead (records_fields (records_at n bytes)) bytes
 records_read zero bytes fit = tt
 records_read (suc n) bytes (here, fit) =
     let r = record_at bytes in
-    let rs = records_at n (drop (taken bytes) bytes) in
-    let size : sizes (record_fields (distance r rs) r) ≡ taken bytes = sizes_record (distance r rs) r ∙ room_is bytes here in
-    are_read-append (record_fields (distance r rs) r) (records_fields rs) bytes (record_read (distance r rs) bytes here) (subst (λ k. AreRead (records_fields rs) (drop k bytes)) (sym size) (records_read n (drop (taken bytes) bytes) fit))
+    let rs = records_at n (drop (room_at bytes) bytes) in
+    let size : sizes (record_fields (distance r rs) r) ≡ room_at bytes = sizes_record (distance r rs) r ∙ room_is bytes here in
+    are_read-append (record_fields (distance r rs) r) (records_fields rs) bytes (record_read (distance r rs) bytes here) (subst (λ k. AreRead (records_fields rs) (drop k bytes)) (sym size) (records_read n (drop (room_at bytes) bytes) fit))
 
 -- a block's head has nothing that may be any
-block_head_read : (size number : ℕ) (r : Rec) (rs : List Rec) (bytes : List ℕ) → AreRead (block_head size number r rs) bytes
+block_head_read : (size number : ℕ) (r : Rec) (rs : List Rec) (bytes : List ℕ) → AreRead (head_of_block size number r rs) bytes
 unfolding block_head
 block_head_read size number r rs bytes = (tt, (tt, (tt, (tt, (tt, (tt, (tt, (tt, (tt, (tt, (tt, tt)))))))))))
 
 -- a block's fields are read off its bytes
 block_read : (size number : ℕ) (r : Rec) (rs : List Rec) (block : List ℕ) → AreRead (records_fields (r ∷ rs)) (drop 48 block) → AreRead (block_fields size number (r ∷ rs)) block
 block_read size number r rs block records =
-    let head = block_head size number r rs in
-    let behind : AreRead (records_fields (r ∷ rs) ++ Zeros (size - used (r ∷ rs)) ∷ []) (drop 48 block) = are_read-append (records_fields (r ∷ rs)) (Zeros (size - used (r ∷ rs)) ∷ []) (drop 48 block) records (tt, tt) in
-    are_read-append head (records_fields (r ∷ rs) ++ Zeros (size - used (r ∷ rs)) ∷ []) block (block_head_read size number r rs block) (subst (λ k. AreRead (records_fields (r ∷ rs) ++ Zeros (size - used (r ∷ rs)) ∷ []) (drop k block)) (sym (sizes_block_head size number r rs)) behind)
+    let head = head_of_block size number r rs in
+    let after : AreRead (records_fields (r ∷ rs) ++ Zeros (size - used_bytes (r ∷ rs)) ∷ []) (drop 48 block) = are_read-append (records_fields (r ∷ rs)) (Zeros (size - used_bytes (r ∷ rs)) ∷ []) (drop 48 block) records (tt, tt) in
+    are_read-append head (records_fields (r ∷ rs) ++ Zeros (size - used_bytes (r ∷ rs)) ∷ []) block (block_head_read size number r rs block) (subst (λ k. AreRead (records_fields (r ∷ rs) ++ Zeros (size - used_bytes (r ∷ rs)) ∷ []) (drop k block)) (sym (sizes_block_head size number r rs)) after)
 
 -- they take the whole block
-pub sizes_block : (size number : ℕ) (r : Rec) (rs : List Rec) → used (r ∷ rs) ≤ size → sizes (block_fields size number (r ∷ rs)) ≡ size
+pub sizes_block : (size number : ℕ) (r : Rec) (rs : List Rec) → used_bytes (r ∷ rs) ≤ size → sizes (block_fields size number (r ∷ rs)) ≡ size
 sizes_block size number r rs l =
     let head = sizes_block_head size number r rs in
-    let one = sizes-append (block_head size number r rs) (records_fields (r ∷ rs) ++ Zeros (size - used (r ∷ rs)) ∷ []) in
-    let two = sizes-append (records_fields (r ∷ rs)) (Zeros (size - used (r ∷ rs)) ∷ []) in
+    let one = sizes-append (head_of_block size number r rs) (records_fields (r ∷ rs) ++ Zeros (size - used_bytes (r ∷ rs)) ∷ []) in
+    let two = sizes-append (records_fields (r ∷ rs)) (Zeros (size - used_bytes (r ∷ rs)) ∷ []) in
     let many = sizes_records (r ∷ rs) in
     omega arith
 
@@ -95,23 +95,23 @@ whole_block size number before block laid len none =
     let bytes = laid.bytes in
     let some = laid.some in
     let r = record_at (drop 48 block) in
-    let rs = records_at (count_of block - 1) (drop (taken (drop 48 block)) (drop 48 block)) in
+    let rs = records_at (count_of block - 1) (drop (room_at (drop 48 block)) (drop 48 block)) in
     let first : records_of block ≡ r ∷ rs = records_more (count_of block) (drop 48 block) (omega arith) in
     let one = both_hold (layout_wrong (size * number) block) _ none in
     let two = both_hold (join_wrong size (size * number) before block) _ one.1 in
     let fields : first_wrong (size * number) (block_fields size number (r ∷ rs)) block ≡ None = subst (λ (qs : List Rec). first_wrong (size * number) (block_fields size number qs) block ≡ None) first two.1 in
-    let end : used (r ∷ rs) ≤ size = let e = ap used first in let w = laid.within in omega arith in
+    let end : used_bytes (r ∷ rs) ≤ size = let e = ap used_bytes first in let w = laid.within in omega arith in
     let takes = sizes_block size number r rs end in
     let records = subst (λ (qs : List Rec). AreRead (records_fields qs) (drop 48 block)) first (records_read (count_of block) (drop 48 block) laid.fit) in
     let is = text_is (size * number) (block_fields size number (r ∷ rs)) block bytes (omega arith) (block_read size number r rs block records) fields in
     sym (take_all (sizes (block_fields size number (r ∷ rs))) block (omega arith)) ∙ (is ∙ ap (λ (qs : List Rec). block_text size number qs) (sym first))
 
--- nanoseconds that are checked are less than a second
-below_second : (place n : ℕ) → above place n 999999999 ≡ None → n < 1000000000
+-- nanoseconds that are checked are at most those of a time
+below_second : (place n : ℕ) → above place n 999999999 ≡ None → n ≤ 999999999
 below_second place n e = grind (arith, nat_tests)
 
 -- a record at which nothing is wrong has such
-nsec_below : (place next : ℕ) (bytes : List ℕ) → taken bytes ≤ length bytes → first_wrong place (record_fields next (record_at bytes)) bytes ≡ None → (record_at bytes).nsec < 1000000000
+nsec_below : (place next : ℕ) (bytes : List ℕ) → room_at bytes ≤ length bytes → first_wrong place (record_fields next (record_at bytes)) bytes ≡ None → (record_at bytes).nsec ≤ 999999999
 unfolding record_at
 nsec_below place next bytes fits none =
     let split = record_checks place next bytes fits in
@@ -122,45 +122,45 @@ nsec_below place next bytes fits none =
     below_second (place + 8) (little_number 4 (drop 8 bytes)) two.0
 
 -- records at which nothing is wrong stand
-pub stand_all : (place n : ℕ) (bytes : List ℕ) → Fit n bytes → first_wrong place (records_fields (records_at n bytes)) bytes ≡ None → Stand n bytes
+pub stand_all : (place n : ℕ) (bytes : List ℕ) → RecordsFit n bytes → first_wrong place (records_fields (records_at n bytes)) bytes ≡ None → SoundRecordsFit n bytes
 stand_all place zero bytes fit none = tt
 stand_all place (suc n) bytes (here, fit) none =
     let r = record_at bytes in
-    let rs = records_at n (drop (taken bytes) bytes) in
-    let size : sizes (record_fields (distance r rs) r) ≡ taken bytes = sizes_record (distance r rs) r ∙ room_is bytes here in
+    let rs = records_at n (drop (room_at bytes) bytes) in
+    let size : sizes (record_fields (distance r rs) r) ≡ room_at bytes = sizes_record (distance r rs) r ∙ room_is bytes here in
     let split = first_wrong-append place (record_fields (distance r rs) r) (records_fields rs) bytes in
     let both = both_hold (first_wrong place (record_fields (distance r rs) r) bytes) _ (sym split ∙ none) in
-    let more : first_wrong (place + taken bytes) (records_fields rs) (drop (taken bytes) bytes) ≡ None = subst (λ k. first_wrong (place + k) (records_fields rs) (drop k bytes) ≡ None) size both.1 in
-    (here, nsec_below place (distance r rs) bytes here both.0, stand_all (place + taken bytes) n (drop (taken bytes) bytes) fit more)
+    let more : first_wrong (place + room_at bytes) (records_fields rs) (drop (room_at bytes) bytes) ≡ None = subst (λ k. first_wrong (place + k) (records_fields rs) (drop k bytes) ≡ None) size both.1 in
+    (here, nsec_below place (distance r rs) bytes here both.0, stand_all (place + room_at bytes) n (drop (room_at bytes) bytes) fit more)
 
 -- a number of four bytes
 four_bytes : (bytes : List ℕ) (n : ℕ) → AreBytes bytes → little_number 4 (drop n bytes) < 2 ^ 32
-four_bytes bytes n b = let l = little_from-lt 0 4 (drop n bytes) (bytes_behind n bytes b) in omega (arith, l)
+four_bytes bytes n b = let l = little_from-lt 0 4 (drop n bytes) (bytes_after n bytes b) in omega (arith, l)
 
 -- a record that stands is in range
-pub in_range : (bytes : List ℕ) → AreBytes bytes → taken bytes ≤ length bytes → (record_at bytes).nsec < 1000000000 → InRange (record_at bytes)
-unfolding record_at captured
+pub in_range : (bytes : List ℕ) → AreBytes bytes → room_at bytes ≤ length bytes → (record_at bytes).nsec ≤ 999999999 → InRange (record_at bytes)
+unfolding record_at captured_length
 in_range bytes b fits below =
     record {
       sec = four_bytes bytes 4 b;
-      nsec = below;
+      nsec = omega (arith, below);
       orig = four_bytes bytes 16 b;
       body = let l = four_bytes bytes 12 b in let e = body_is bytes fits in omega (arith, l, e);
     }
 
 -- records that stand are in range
-pub range_all : (n : ℕ) (bytes : List ℕ) → AreBytes bytes → Stand n bytes → All InRange (records_at n bytes)
+pub range_all : (n : ℕ) (bytes : List ℕ) → AreBytes bytes → SoundRecordsFit n bytes → All InRange (records_at n bytes)
 range_all zero bytes b stand = All-nil InRange
 range_all (suc n) bytes b (here, below, stand) =
-    All-cons InRange (record_at bytes) (records_at n (drop (taken bytes) bytes)) (in_range bytes b here below) (range_all n (drop (taken bytes) bytes) (bytes_behind (taken bytes) bytes b) stand)
+    All-cons InRange (record_at bytes) (records_at n (drop (room_at bytes) bytes)) (in_range bytes b here below) (range_all n (drop (room_at bytes) bytes) (bytes_after (room_at bytes) bytes b) stand)
 
 -- and short enough for a block
-pub short_all : (size n : ℕ) (bytes : List ℕ) → length bytes + 48 ≤ size → Stand n bytes → All (IsShort size) (records_at n bytes)
+pub short_all : (size n : ℕ) (bytes : List ℕ) → length bytes + 48 ≤ size → SoundRecordsFit n bytes → All (IsShort size) (records_at n bytes)
 short_all size zero bytes l stand = All-nil (IsShort size)
 short_all size (suc n) bytes l (here, below, stand) =
-    let one : IsShort size (record_at bytes) = let e = body_is bytes here in let m = padded_more (captured bytes) in omega (arith, e, m) in
-    let rest = length-drop (taken bytes) bytes in
-    All-cons (IsShort size) (record_at bytes) (records_at n (drop (taken bytes) bytes)) one (short_all size n (drop (taken bytes) bytes) (omega arith) stand)
+    let one : IsShort size (record_at bytes) = let e = body_is bytes here in let m = padded_more (captured_length bytes) in omega (arith, e, m) in
+    let rest = length-drop (room_at bytes) bytes in
+    All-cons (IsShort size) (record_at bytes) (records_at n (drop (room_at bytes) bytes)) one (short_all size n (drop (room_at bytes) bytes) (omega arith) stand)
 
 -- a block that is laid out is one of bytes with room for its records
 pub laid_whole : (block : List ℕ) (layout : Layout) → IsLayout block layout → AreBytes block → IsWholeBlock block
@@ -173,17 +173,17 @@ laid_whole block layout laid bytes =
     }
 
 -- a whole block's records stand
-pub whole_stands : (size number : ℕ) (before : Option ℕ) (block : List ℕ) → IsWholeBlock block → block_wrong size number before block ≡ None → Stand (count_of block) (drop 48 block)
+pub whole_stands : (size number : ℕ) (before : Option ℕ) (block : List ℕ) → IsWholeBlock block → block_wrong size number before block ≡ None → SoundRecordsFit (count_of block) (drop 48 block)
 unfolding block_wrong
 whole_stands size number before block laid none =
     let some = laid.some in
     let r = record_at (drop 48 block) in
-    let rs = records_at (count_of block - 1) (drop (taken (drop 48 block)) (drop 48 block)) in
+    let rs = records_at (count_of block - 1) (drop (room_at (drop 48 block)) (drop 48 block)) in
     let first : records_of block ≡ r ∷ rs = records_more (count_of block) (drop 48 block) (omega arith) in
     let one = both_hold (layout_wrong (size * number) block) _ none in
     let two = both_hold (join_wrong size (size * number) before block) _ one.1 in
     let fields : first_wrong (size * number) (block_fields size number (r ∷ rs)) block ≡ None = subst (λ (qs : List Rec). first_wrong (size * number) (block_fields size number qs) block ≡ None) first two.1 in
-    let three = both_hold (first_wrong (size * number) (block_head size number r rs) block) _ (sym (first_wrong-append (size * number) (block_head size number r rs) (records_fields (r ∷ rs) ++ Zeros (size - used (r ∷ rs)) ∷ []) block) ∙ fields) in
-    let behind : first_wrong (size * number + 48) (records_fields (r ∷ rs) ++ Zeros (size - used (r ∷ rs)) ∷ []) (drop 48 block) ≡ None = subst (λ k. first_wrong (size * number + k) (records_fields (r ∷ rs) ++ Zeros (size - used (r ∷ rs)) ∷ []) (drop k block) ≡ None) (sizes_block_head size number r rs) three.1 in
-    let four = both_hold (first_wrong (size * number + 48) (records_fields (r ∷ rs)) (drop 48 block)) _ (sym (first_wrong-append (size * number + 48) (records_fields (r ∷ rs)) (Zeros (size - used (r ∷ rs)) ∷ []) (drop 48 block)) ∙ behind) in
+    let three = both_hold (first_wrong (size * number) (head_of_block size number r rs) block) _ (sym (first_wrong-append (size * number) (head_of_block size number r rs) (records_fields (r ∷ rs) ++ Zeros (size - used_bytes (r ∷ rs)) ∷ []) block) ∙ fields) in
+    let after : first_wrong (size * number + 48) (records_fields (r ∷ rs) ++ Zeros (size - used_bytes (r ∷ rs)) ∷ []) (drop 48 block) ≡ None = subst (λ k. first_wrong (size * number + k) (records_fields (r ∷ rs) ++ Zeros (size - used_bytes (r ∷ rs)) ∷ []) (drop k block) ≡ None) (sizes_block_head size number r rs) three.1 in
+    let four = both_hold (first_wrong (size * number + 48) (records_fields (r ∷ rs)) (drop 48 block)) _ (sym (first_wrong-append (size * number + 48) (records_fields (r ∷ rs)) (Zeros (size - used_bytes (r ∷ rs)) ∷ []) (drop 48 block)) ∙ after) in
     stand_all (size * number + 48) (count_of block) (drop 48 block) laid.fit (subst (λ (qs : List Rec). first_wrong (size * number + 48) (records_fields qs) (drop 48 block) ≡ None) (sym first) four.0)

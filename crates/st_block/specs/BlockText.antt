@@ -1,46 +1,47 @@
 -- Block files: which bytes a file is, from the list of its records. The layout is this project's
 -- own, after the blocks of Linux's TPACKET_V3.
 use Rattle.std.specs.Prelude.{◌≡◌, ℕ, ◌+◌, ◌-◌, ◌*◌, ◌/◌, ◌^◌, ◌≤◌, ◌<◌, List, [], ◌∷◌, ◌++◌, length, All, nat_le, if◌then◌else◌}
-use Rattle.st_base.specs.Records.{Rec, InRange}
+use Rattle.st_base.specs.Records.{Rec, InRange, time}
 use Rattle.st_block.specs.Fields.{Field, Number, Any, Nanoseconds, Zeros, Body, text}
+use Rattle.st_block.specs.declared.format.TheConstants.{VERSION, MIN_BLOCK, MAX_BLOCK, MAX_BLOCKS, ALIGNMENT, BLOCK_HEAD, BLOCK_STATUS, RECORD_HEAD, HEAD_ZEROS, RECORD_STATUS}
 
 -- a block size: a power of two from 4,096 to 1,048,576 bytes
 pub record IsBlockSize (size : ℕ) : Type 0 where
   pub power : ℕ
   pub is : size ≡ 2 ^ power
-  pub least : 4096 ≤ size
-  pub most : size ≤ 1048576
+  pub least : MIN_BLOCK ≤ size
+  pub most : size ≤ MAX_BLOCK
 
 -- a length up to the next multiple of 16
-abbrev pub padded : ℕ → ℕ
-padded n = (n + 15) / 16 * 16
+abbrev pub padded_len : ℕ → ℕ
+padded_len n = (n + (ALIGNMENT - 1)) / ALIGNMENT * ALIGNMENT
 
 -- how many bytes a record takes: its head, its body, and zeros up to a multiple of 16
 abbrev pub room : Rec → ℕ
-room r = 48 + padded (length r.body)
+room r = RECORD_HEAD + padded_len (length r.body)
 
 -- how many bytes of a block are used: its head, and those that its records take
-abbrev pub used : List Rec → ℕ
-used [] = 48
-used (r ∷ rs) = room r + used rs
+abbrev pub used_bytes : List Rec → ℕ
+used_bytes [] = BLOCK_HEAD
+used_bytes (r ∷ rs) = room r + used_bytes rs
 
 -- the head of a record, 48 bytes: the distance to the next head of the block, seconds, nanoseconds,
 -- captured and original length, the status, the offset of the body twice, and zeros
 unfoldable pub record_head : ℕ → Rec → List Field
 record_head next r =
     Number 4 next ∷ Any 4 r.sec ∷ Nanoseconds r.nsec ∷ Any 4 (length r.body) ∷ Any 4 r.orig
-    ∷ Number 4 0 ∷ Number 2 48 ∷ Number 2 48 ∷ Zeros 20 ∷ []
+    ∷ Number 4 RECORD_STATUS ∷ Number 2 RECORD_HEAD ∷ Number 2 RECORD_HEAD ∷ Zeros HEAD_ZEROS ∷ []
 
 -- a record: its head, its body, and zeros up to a multiple of 16
 abbrev pub record_fields : ℕ → Rec → List Field
-record_fields next r = record_head next r ++ Body r.body ∷ Zeros (padded (length r.body) - length r.body) ∷ []
+record_fields next r = record_head next r ++ Body r.body ∷ Zeros (padded_len (length r.body) - length r.body) ∷ []
 
 -- how far it is from a record's head to the next one's, which none follows at the end of a block
 abbrev pub distance : Rec → List Rec → ℕ
 distance r [] = 0
 distance r (q ∷ rs) = room r
 
--- the records of a block, one behind the other
+-- the records of a block, one after the other
 abbrev pub records_fields : List Rec → List Field
 records_fields [] = []
 records_fields (r ∷ rs) = record_fields (distance r rs) r ++ records_fields rs
@@ -50,18 +51,31 @@ abbrev pub last_of : Rec → List Rec → Rec
 last_of r [] = r
 last_of r (q ∷ rs) = last_of q rs
 
--- the head of a block, 48 bytes: layout version, block size, status, number of records, offset of
--- the first, used bytes, number of the block, and the times of its first and its last record
-unfoldable pub block_head : ℕ → ℕ → Rec → List Rec → List Field
-block_head size number r rs =
-    Number 4 1 ∷ Number 4 size ∷ Number 4 1 ∷ Number 4 (length (r ∷ rs)) ∷ Number 4 48 ∷ Number 4 (used (r ∷ rs)) ∷ Number 8 number
-    ∷ Number 4 r.sec ∷ Number 4 r.nsec ∷ Number 4 (last_of r rs).sec ∷ Number 4 (last_of r rs).nsec ∷ []
+-- the first part of a block's head: layout version, block size, status, number of records, offset of
+-- the first, used bytes, and number of the block
+abbrev pub head_counts : ℕ → ℕ → ℕ → ℕ → List Field
+head_counts size number count used =
+    Number 4 VERSION ∷ Number 4 size ∷ Number 4 BLOCK_STATUS ∷ Number 4 count ∷ Number 4 BLOCK_HEAD ∷ Number 4 used
+    ∷ Number 8 number ∷ []
+
+-- the other part: the times of the first and of the last record
+abbrev pub head_times : ℕ × ℕ → ℕ × ℕ → List Field
+head_times first last = Number 4 first.0 ∷ Number 4 first.1 ∷ Number 4 last.0 ∷ Number 4 last.1 ∷ []
+
+-- the head of a block, 48 bytes, from its numbers
+unfoldable pub block_head : ℕ → ℕ → ℕ → ℕ → ℕ × ℕ → ℕ × ℕ → List Field
+block_head size number count used first last = head_counts size number count used ++ head_times first last
+
+-- the head of the block of these records
+abbrev pub head_of_block : ℕ → ℕ → Rec → List Rec → List Field
+head_of_block size number r rs =
+    block_head size number (length (r ∷ rs)) (used_bytes (r ∷ rs)) (time r) (time (last_of r rs))
 
 -- a block of at least one record: its head, its records, and zeros up to its size
 abbrev pub block_fields : ℕ → ℕ → List Rec → List Field
 block_fields size number [] = []
 block_fields size number (r ∷ rs) =
-    block_head size number r rs ++ (records_fields (r ∷ rs) ++ Zeros (size - used (r ∷ rs)) ∷ [])
+    head_of_block size number r rs ++ (records_fields (r ∷ rs) ++ Zeros (size - used_bytes (r ∷ rs)) ∷ [])
 
 -- the bytes of a block with this number
 abbrev pub block_text : ℕ → ℕ → List Rec → List ℕ
@@ -72,7 +86,7 @@ block_text size number rs = text (block_fields size number rs)
 abbrev pub blocks_from : ℕ → List Rec → List Rec → List (List Rec)
 blocks_from size here [] = here ∷ []
 blocks_from size here (r ∷ rs) =
-    if nat_le (used here + room r) size then blocks_from size (here ++ r ∷ []) rs else here ∷ blocks_from size (r ∷ []) rs
+    if nat_le (used_bytes here + room r) size then blocks_from size (here ++ r ∷ []) rs else here ∷ blocks_from size (r ∷ []) rs
 
 -- the records of each block of a file
 abbrev pub blocks : ℕ → List Rec → List (List Rec)
@@ -90,19 +104,19 @@ BlockText size rs = blocks_text size 0 (blocks size rs)
 
 -- a body that a block without records has room for
 abbrev pub IsShort : ℕ → Rec → Type 0
-IsShort size r = length r.body + 96 ≤ size
+IsShort size r = length r.body + (BLOCK_HEAD + RECORD_HEAD) ≤ size
 
--- no record has room behind these, of those that the blocks to come begin with
+-- no record has room after these, of those that the blocks to come begin with
 abbrev pub NoRoom : ℕ → List Rec → List (List Rec) → Type 0
 NoRoom size here [] = Unit {0}
 NoRoom size here ([] ∷ bs) = ⊥
-NoRoom size here ((r ∷ rs) ∷ bs) = size < used here + room r
+NoRoom size here ((r ∷ rs) ∷ bs) = size < used_bytes here + room r
 
 -- These are the blocks that their records fill: each has a record and fits the size, and the first
 -- record of each later one didn't fit the block before.
-abbrev pub Fills : ℕ → List (List Rec) → Type 0
-Fills size [] = Unit {0}
-Fills size (b ∷ bs) = (1 ≤ length b) × (used b ≤ size) × NoRoom size b bs × Fills size bs
+abbrev pub AreFilled : ℕ → List (List Rec) → Type 0
+AreFilled size [] = Unit {0}
+AreFilled size (b ∷ bs) = (1 ≤ length b) × (used_bytes b ≤ size) × NoRoom size b bs × AreFilled size bs
 
 -- A file can be made of these records: at least one, each in range and short enough for a block, and
 -- no more than fill 4,095 blocks.
@@ -111,4 +125,4 @@ pub record HasFile (size : ℕ) (rs : List Rec) : Type 0 where
   pub some : 1 ≤ length rs
   pub range : All InRange rs
   pub short : All (IsShort size) rs
-  pub blocks : length (blocks size rs) ≤ 4095
+  pub blocks : length (blocks size rs) ≤ MAX_BLOCKS

@@ -1,8 +1,10 @@
 -- Laws of block files, which the functions of `laws` ensure.
-use Rattle.std.specs.Prelude.{◌≡◌, ℕ, ◌*◌, ◌^◌, ◌<◌, List, ◌++◌, length}
+use Rattle.std.specs.Prelude.{◌≡◌, ℕ, ◌*◌, ◌^◌, ◌<◌, List, ◌++◌, length, None}
 use Rattle.st_base.specs.Records.{Rec}
 use Rattle.st_block.specs.BlockText.{blocks, BlockText, HasFile}
 use Rattle.st_block.specs.Position.{PositionOf}
+use Rattle.st_block.specs.Checks.{file_wrong}
+use Rattle.st_block.specs.Scan.{PositionedRecord, IsFile}
 
 -- a file has as many bytes as its blocks have
 abbrev pub FileLength : Type 0
@@ -23,3 +25,11 @@ PositionsStay = (size i : ℕ) (rs more : List Rec) → i < length rs → Positi
 -- the bytes of a file are those of one block size and one list of records only
 abbrev pub OneFile : Type 0
 OneFile = (size other : ℕ) (rs qs : List Rec) → HasFile size rs → HasFile other qs → BlockText size rs ≡ BlockText other qs → (size ≡ other) × (rs ≡ qs)
+
+-- no check fails of a file that is the text of records
+abbrev pub FileUnhurt : Type 0
+FileUnhurt = (bytes : List ℕ) (given : List PositionedRecord) → IsFile bytes given → file_wrong bytes ≡ None
+
+-- the bytes of a file are the text of one list of records only, at one list of positions
+abbrev pub OneGiven : Type 0
+OneGiven = (bytes : List ℕ) (xs ys : List PositionedRecord) → IsFile bytes xs → IsFile bytes ys → xs ≡ ys

@@ -1,11 +1,10 @@
 pub mod Fields
 pub mod BlockText
 pub mod Position
-pub mod Reading
-pub mod Building
-pub mod Laws
-pub mod Scanning
+pub mod Checks
+pub mod Builder
+pub mod Record
 pub mod Layout
-pub mod Progress
-pub mod Scans
-pub mod ScanLaws
+pub mod ScanView
+pub mod Scan
+pub mod Laws

@@ -1,20 +1,22 @@
 ghost use Rattle.std.specs.Prelude.{◌≡◌, ◌≤◌, ◌<◌, ◌+◌, ◌-◌, ◌∷◌, ◌++◌, ◌↔◌, [], List, ℕ, length, drop, replicate, nat_eq, if◌then◌else◌, IfOk, IsTrue};
 ghost use Rattle.st_base.specs.Records.{Rec, time};
-ghost use Rattle.st_block.specs.Fields.{text};
-ghost use Rattle.st_block.specs.BlockText.{IsBlockSize, padded, room, block_text};
-ghost use Rattle.st_block.specs.Building.{Draft, Holds, Stays, head_text};
+ghost use Rattle.st_block.specs.BlockText.{IsBlockSize, padded_len, room, block_text};
+ghost use Rattle.st_block.specs.Builder.{HoldsRecords, KeepsRecords};
 
-use crate::layout::{HEAD, padded_len, put_at, put_behind};
-use byteorder::{ByteOrder, LittleEndian};
+mod bytes;
+
+use crate::builder::bytes::{block_head_bytes, put_at, put_record};
+use crate::format::{BLOCK_HEAD, MAX_BLOCKS, RECORD_HEAD};
+use crate::sizes::room_of;
 use st_base::{NoMemory, RecordRef};
 use std::alloc::Global;
 use std::marker::Model;
 
-/// A block that is being built: records one behind the other, each padded with zeros to a multiple
+/// A block that is being built: records one after the other, each padded with zeros to a multiple
 /// of 16 bytes.
 ///
-/// It is seen as its [`Draft`]; `Holds` says which records were added. Offsets and sizes are in
-/// bytes. It takes memory when it is made, and none afterwards.
+/// Contracts see it as a `BlockBuilderView`; `HoldsRecords` says which records were added. Offsets
+/// and sizes are in bytes. It takes memory when it is made, and none afterwards.
 #[derive(Drop)]
 pub struct BlockBuilder {
     size: u32,
@@ -28,9 +30,9 @@ pub struct BlockBuilder {
 
 impl Model for BlockBuilder {
     ghost use Rattle.std.specs.Prelude.{◌≡◌, ◌+◌, ◌≤◌, vec_len};
-    ghost use Rattle.st_block.specs.Building.{Draft, IsSound};
+    ghost use Rattle.st_block.specs.Builder.{BlockBuilderView, IsSoundBuilder};
 
-    ghost Value = { Draft };
+    ghost Value = { BlockBuilderView };
 
     ghost view = { λ a. record {
       size = a.size;
@@ -42,7 +44,7 @@ impl Model for BlockBuilder {
       bytes = a.bytes.items;
     } };
 
-    ghost invariant = { λ a. IsSound (record {
+    ghost invariant = { λ a. IsSoundBuilder (record {
       size = a.size;
       used = a.used;
       count = a.count;
@@ -63,33 +65,6 @@ fn first_time(count: u32, first: (u32, u32), r: &RecordRef<'_>) -> (u32, u32)
     first
 }
 
-/// The 48 bytes of a block's head.
-#[tactic(auto, unfolding(crate::specs::Building::head_text))]
-fn head_bytes(
-    size: u32,
-    number: u32,
-    count: u32,
-    used: u32,
-    first: (u32, u32),
-    last: (u32, u32),
-) -> [u8; 48]
-    ensures { result ≡ head_text size number count used (first.0, first.1) (last.0, last.1) }
-{
-    let mut head = [0; 48];
-    LittleEndian::write_u32(&mut head, 1);
-    LittleEndian::write_u32(&mut head[4..], size);
-    LittleEndian::write_u32(&mut head[8..], 1);
-    LittleEndian::write_u32(&mut head[12..], count);
-    LittleEndian::write_u32(&mut head[16..], HEAD);
-    LittleEndian::write_u32(&mut head[20..], used);
-    LittleEndian::write_u64(&mut head[24..], u64::from(number));
-    LittleEndian::write_u32(&mut head[32..], first.0);
-    LittleEndian::write_u32(&mut head[36..], first.1);
-    LittleEndian::write_u32(&mut head[40..], last.0);
-    LittleEndian::write_u32(&mut head[44..], last.1);
-    head
-}
-
 impl BlockBuilder {
     ghost use Rattle.std.specs.Borrow.{sem};
     ghost use Rattle.std.specs.Io.BufRead.{Rests};
@@ -100,12 +75,12 @@ impl BlockBuilder {
     /// Source: docs/FORMAT.md, "Block file".
     pub fn new(alloc: Global, size: u32) -> Result<BlockBuilder, NoMemory>
         requires { IsBlockSize size }
-        ensures { IfOk result (λ b. (b.size ≡ size) × Holds b []) }
+        ensures { IfOk result (λ b. (b.size ≡ size) × HoldsRecords b []) }
     {
         let bytes = vec![in alloc; 0; size as usize]?;
         Ok(BlockBuilder {
             size,
-            used: HEAD,
+            used: BLOCK_HEAD as u32,
             count: 0,
             last: 0,
             first_time: (0, 0),
@@ -114,29 +89,29 @@ impl BlockBuilder {
         })
     }
 
-    /// Whether a record with a body of `len` bytes fits behind those that were added.
+    /// Whether a record with a body of `len` bytes fits after those that were added.
     pub fn fits(&self, len: u32) -> bool
-        ensures { IsTrue result ↔ (self.now.used + (48 + padded len) ≤ self.now.size) }
+        ensures { IsTrue result ↔ (self.now.used + (RECORD_HEAD + padded_len len) ≤ self.now.size) }
     {
-        u64::from(self.used) + (u64::from(HEAD) + padded_len(len)) <= u64::from(self.size)
+        u64::from(self.used) + room_of(len) <= u64::from(self.size)
     }
 
-    /// Adds a record behind the others, and answers the offset of its head in the block.
+    /// Adds a record after the others, and answers the offset of its head in the block.
     pub fn add(&mut self, r: RecordRef<'_>) -> u32
         requires { self.old.used + room r ≤ self.old.size }
         ensures offset { result ≡ self.old.used }
         ensures size { self.new.size ≡ self.old.size }
         ensures used { self.new.used ≡ self.old.used + room r.entry }
         ensures count { self.new.count ≡ self.old.count + 1 }
-        ensures records { (rs : List Rec) → Holds self.old rs → Holds self.new (rs ++ r.entry ∷ []) }
+        ensures records { (rs : List Rec) → HoldsRecords self.old rs → HoldsRecords self.new (rs ++ r.entry ∷ []) }
     {
         let at = self.used;
-        put_behind(self.bytes.as_mut_slice(), self.count, self.last, at, &r);
+        put_record(self.bytes.as_mut_slice(), self.count, self.last, at, &r);
         self.first_time = first_time(self.count, self.first_time, &r);
         self.last_time = (r.sec, r.nsec);
         self.last = at;
         self.count += 1;
-        self.used = at + HEAD + padded_len(r.body.len() as u32) as u32;
+        self.used = at + room_of(r.body.len() as u32) as u32;
         at
     }
 
@@ -146,12 +121,12 @@ impl BlockBuilder {
     /// Source: docs/FORMAT.md, "Block file".
     pub fn finish(&mut self, number: u32) -> &[u8]
         requires some { 1 ≤ self.old.count }
-        requires below { number < 4095 }
-        ensures* after { sem 𝓛 (Rests the_row self.entry (λ d. Stays self.old d)) }
-        ensures text { (rs : List Rec) → Holds self.old rs → result.now ≡ block_text self.old.size number rs }
+        requires below { number < MAX_BLOCKS }
+        ensures* after { sem 𝓛 (Rests the_row self.entry (λ d. KeepsRecords self.old d)) }
+        ensures text { (rs : List Rec) → HoldsRecords self.old rs → result.now ≡ block_text self.old.size number rs }
         ensures size { length result.now ≡ self.old.size }
     {
-        let head = head_bytes(
+        let head = block_head_bytes(
             self.size,
             number,
             self.count,
@@ -166,10 +141,10 @@ impl BlockBuilder {
     /// Takes all records out, and begins a new block of the same size.
     pub fn clear(&mut self)
         ensures size { self.new.size ≡ self.old.size }
-        ensures records { Holds self.new [] }
+        ensures records { HoldsRecords self.new [] }
     {
         self.bytes.as_mut_slice().fill(0);
-        self.used = HEAD;
+        self.used = BLOCK_HEAD as u32;
         self.count = 0;
         self.last = 0;
     }

@@ -1,6 +1,6 @@
 //! Laws of the definitions. These functions do nothing; what they ensure is what counts.
 
-ghost use Rattle.st_block.specs.Laws.{FileLength, OneFile, PositionsFit, PositionsRise, PositionsStay};
+ghost use Rattle.st_block.specs.Laws.{FileLength, FileUnhurt, OneFile, OneGiven, PositionsFit, PositionsRise, PositionsStay};
 
 /// A file has as many bytes as its blocks have.
 pub fn file_length()
@@ -25,4 +25,14 @@ pub fn positions_stay()
 /// The bytes of a file are those of one block size and one list of records only.
 pub fn one_file()
     ensures { OneFile }
+{}
+
+/// No check fails of a file that is the text of records.
+pub fn file_unhurt()
+    ensures { FileUnhurt }
+{}
+
+/// The bytes of a file are the text of one list of records only, at one list of positions.
+pub fn one_given()
+    ensures { OneGiven }
 {}

@@ -29,33 +29,30 @@
 //!
 //! # Where to read
 //!
-//! `specs/BlockText.antt` says what a file's bytes are, from the list of its records, and
-//! `specs/Position.antt` where each head lies; `specs/Fields.antt` says what a field is and when it
-//! is wrong, `specs/Scanning.antt` in which order a file is checked, `specs/Scans.antt` what a scan
-//! gives. Then `builder`, `record`, `layout`, `scan`.
+//! `src/format.rt` has the numbers of the layout. `specs/BlockText.antt` says what a file's bytes
+//! are, from the list of its records, and `specs/Position.antt` where each head lies;
+//! `specs/Fields.antt` says what a field is and when it is wrong, `specs/Checks.antt` in which order
+//! a file is checked. `specs/Builder.antt`, `specs/Record.antt` and `specs/Scan.antt` say what the
+//! calls of the modules `builder`, `record` and `scan` give.
 #![tactic(auto)]
 
 mod builder;
 mod errors;
+mod fields;
+mod format;
 mod laws;
-mod layout;
+mod position;
 mod record;
 mod scan;
-mod scan_block;
-mod scan_course;
-mod scan_fields;
-mod scan_laws;
-mod scan_layout;
-mod scan_start;
-#[cfg(test)]
-mod scan_tests;
+mod sizes;
 #[cfg(test)]
 mod tests;
 
 pub use builder::BlockBuilder;
 pub use errors::{BlockErr, HeadErr};
-pub use laws::{file_length, one_file, positions_fit, positions_rise, positions_stay};
-pub use layout::position_in;
+pub use laws::{
+    file_length, file_unhurt, one_file, one_given, positions_fit, positions_rise, positions_stay,
+};
+pub use position::position_in;
 pub use record::{Head, record_body_at, record_head_at};
 pub use scan::Scan;
-pub use scan_laws::{file_unhurt, one_given};

@@ -1,20 +1,18 @@
 ghost use Rattle.std.specs.Prelude.{◌≡◌, ◌≤◌, ◌<◌, ◌+◌, ◌*◌, ◌-◌, ℕ, List, length, drop, Err, IfOk, IfErr, option_map, vec_len, MatchOption};
-ghost use Rattle.byteorder.specs.Endian.{little_number};
 ghost use Rattle.st_base.specs.Records.{Rec};
 ghost use Rattle.st_base.specs.Faults.{CountsOn, Rose, HasCauseOf};
 ghost use Rattle.st_base.specs.PlacedReads.{HasPart};
 ghost use Rattle.st_base.specs.Damages.{damage_view};
-ghost use Rattle.st_block.specs.Fields.{not_same, above};
-ghost use Rattle.st_block.specs.Reading.{head_outside, body_outside, record_outside, head_wrong, IsHead, GivesHead, GivesBody, head_reads, body_reads, StandsAt, HeadOf, BodyOf};
+ghost use Rattle.st_block.specs.Record.{head_outside, body_outside, record_outside, head_wrong, IsHead, GivesHead, GivesBody, head_reads, body_reads, IsRecordAt, GivesHeadOf, GivesBodyOf};
 
 use crate::errors::{BlockErr, HeadErr};
-use crate::layout::HEAD;
-use byteorder::{ByteOrder, LittleEndian};
+use crate::fields::{above, first_of, not_same, number_at, short_at};
+use crate::format::{
+    BODY_AGAIN_AT, BODY_AT, LEN_AT, MAX_NSEC, NSEC_AT, ORIG_AT, RECORD_HEAD, RECORD_STATUS,
+    RECORD_STATUS_AT, SEC_AT,
+};
 use st_base::{Damage, NoMemory, Octets, Reader, read_whole};
 use std::alloc::Global;
-
-/// The most nanoseconds of a time.
-const MAX_NSEC: u32 = 999_999_999;
 
 /// A record without its body: its time in seconds since 1970 and nanoseconds, below 10^9, and its
 /// captured and original length in bytes.
@@ -28,106 +26,86 @@ pub struct Head {
     pub orig: u32,
 }
 
-/// The number found is to be the one wanted.
-fn not_same(place: u64, found: u64, want: u64) -> Option<Damage>
-    ensures { option_map damage_view result ≡ not_same place found want }
-{
-    if found == want {
-        None
-    } else {
-        Some(Damage { place, found, want })
-    }
-}
-
-/// The number found is to be no more than the one wanted.
-fn above(place: u64, found: u64, want: u64) -> Option<Damage>
-    ensures { option_map damage_view result ≡ above place found want }
-{
-    if want < found {
-        Some(Damage { place, found, want })
-    } else {
-        None
-    }
-}
-
-/// A head at this position is to lie in a file of this size.
+/// The damage at `position`, unless a head there lies in a file of this size.
 fn head_outside(size: u64, position: u32) -> Option<Damage>
     ensures { option_map damage_view result ≡ head_outside size position }
 {
     let place = u64::from(position);
-    let want = place + u64::from(HEAD);
+    let want = place + RECORD_HEAD as u64;
     if size < want {
-        Some(Damage {
+        return Some(Damage {
             place,
             found: size,
             want,
-        })
-    } else {
-        None
+        });
     }
+    None
 }
 
-/// A body of this length behind a head that lies in the file is to lie there, too.
+/// The damage at the captured length `len` of the head at `position`, unless the body lies in a
+/// file of this size.
 fn body_outside(size: u64, position: u32, len: u32) -> Option<Damage>
-    requires { position + 48 ≤ size }
+    requires { position + RECORD_HEAD ≤ size }
     ensures { option_map damage_view result ≡ body_outside size position len }
 {
     let place = u64::from(position);
-    above(place + 12, u64::from(len), size - place - u64::from(HEAD))
+    let room = size - place - RECORD_HEAD as u64;
+    above(place + LEN_AT as u64, u64::from(len), room)
 }
 
-/// What is wrong first in the 48 bytes of a head that stand at `position`.
+/// The first damage in the head that stands at `position`.
 fn head_wrong(size: u64, position: u32, head: &[u8]) -> Option<Damage>
-    requires inside { position + 48 ≤ size }
-    requires len { length head.now ≡ 48 }
+    requires inside { position + RECORD_HEAD ≤ size }
+    requires len { length head.now ≡ RECORD_HEAD }
     ensures { option_map damage_view result ≡ head_wrong size position head.now }
 {
     let place = u64::from(position);
-    let fields = head.split_at(20).1;
-    let status = LittleEndian::read_u32(fields);
-    let (first, second) = fields.split_at(4).1.split_at(2);
-    if let Some(damage) = not_same(place + 20, u64::from(status), 0) {
-        return Some(damage);
-    }
-    if let Some(damage) = not_same(place + 24, u64::from(LittleEndian::read_u16(first)), 48) {
-        return Some(damage);
-    }
-    if let Some(damage) = not_same(place + 26, u64::from(LittleEndian::read_u16(second)), 48) {
-        return Some(damage);
-    }
-    let nsec = LittleEndian::read_u32(head.split_at(8).1);
-    if let Some(damage) = above(place + 8, u64::from(nsec), u64::from(MAX_NSEC)) {
-        return Some(damage);
-    }
-    body_outside(size, position, LittleEndian::read_u32(head.split_at(12).1))
+    let want = RECORD_HEAD as u64;
+    let status = u64::from(number_at(RECORD_STATUS_AT, head));
+    let status = not_same(
+        place + RECORD_STATUS_AT as u64,
+        status,
+        u64::from(RECORD_STATUS),
+    );
+    let body = u64::from(short_at(BODY_AT, head));
+    let body = not_same(place + BODY_AT as u64, body, want);
+    let again = u64::from(short_at(BODY_AGAIN_AT, head));
+    let again = not_same(place + BODY_AGAIN_AT as u64, again, want);
+    let nsec = u64::from(number_at(NSEC_AT, head));
+    let nsec = above(place + NSEC_AT as u64, nsec, u64::from(MAX_NSEC));
+    let outside = body_outside(size, position, number_at(LEN_AT, head));
+    first_of(
+        status,
+        first_of(body, first_of(again, first_of(nsec, outside))),
+    )
 }
 
-/// The numbers of a head's 48 bytes.
+/// The numbers of a head's bytes.
 fn head_of(head: &[u8]) -> Head
-    requires { length head.now ≡ 48 }
+    requires { length head.now ≡ RECORD_HEAD }
     ensures { IsHead head.now result }
 {
     Head {
-        sec: LittleEndian::read_u32(head.split_at(4).1),
-        nsec: LittleEndian::read_u32(head.split_at(8).1),
-        len: LittleEndian::read_u32(head.split_at(12).1),
-        orig: LittleEndian::read_u32(head.split_at(16).1),
+        sec: number_at(SEC_AT, head),
+        nsec: number_at(NSEC_AT, head),
+        len: number_at(LEN_AT, head),
+        orig: number_at(ORIG_AT, head),
     }
 }
 
 /// Reads the head at a position at which it lies in the file.
 fn read_head<R: Reader>(file: &mut R, position: u32) -> Result<Head, HeadErr>
-    requires { position + 48 ≤ R.extent file.old }
+    requires { position + RECORD_HEAD ≤ R.extent file.old }
     ensures gives { GivesHead (R.content file.old) (R.extent file.old) position result }
     ensures cause { HasCauseOf HeadErr.ReadFault (R.faults file.old) (R.faults file.new) result }
     ensures reads { CountsOn (R.reads file.old) (R.reads file.new) 1 }
-    ensures asked { CountsOn (R.asked file.old) (R.asked file.new) 48 }
+    ensures asked { CountsOn (R.asked file.old) (R.asked file.new) RECORD_HEAD }
     ensures content { R.content file.new ≡ R.content file.old }
     ensures extent { R.extent file.new ≡ R.extent file.old }
     ensures rest { R.beside file.new ≡ R.beside file.old }
 {
     let size = file.size();
-    let mut head = [0; 48];
+    let mut head = [0; RECORD_HEAD];
     match read_whole(file, u64::from(position), &mut head) {
         Ok(()) => match head_wrong(size, position, &head) {
             Some(damage) => Err(HeadErr::Damaged(damage)),
@@ -148,11 +126,11 @@ fn read_head<R: Reader>(file: &mut R, position: u32) -> Result<Head, HeadErr>
 pub fn record_head_at<R: Reader>(file: &mut R, position: u32) -> Result<Head, HeadErr>
     // what comes
     ensures gives { GivesHead (R.content file.old) (R.extent file.old) position result }
-    ensures whole { (r : Rec) → StandsAt (R.content file.old) position r → HeadOf r result }
+    ensures whole { (r : Rec) → IsRecordAt (R.content file.old) position r → GivesHeadOf r result }
     ensures cause { HasCauseOf HeadErr.ReadFault (R.faults file.old) (R.faults file.new) result }
     // what the file was asked
     ensures reads { CountsOn (R.reads file.old) (R.reads file.new) (head_reads (R.extent file.old) position) }
-    ensures asked { CountsOn (R.asked file.old) (R.asked file.new) (48 * head_reads (R.extent file.old) position) }
+    ensures asked { CountsOn (R.asked file.old) (R.asked file.new) (RECORD_HEAD * head_reads (R.extent file.old) position) }
     // what stays
     ensures content { R.content file.new ≡ R.content file.old }
     ensures extent { R.extent file.new ≡ R.extent file.old }
@@ -164,7 +142,8 @@ pub fn record_head_at<R: Reader>(file: &mut R, position: u32) -> Result<Head, He
     }
 }
 
-/// A head at this position and a body of this length behind it are to lie in a file of this size.
+/// The first damage, unless a head at `position` and its body of `len` bytes lie in a file of this
+/// size.
 fn record_outside(size: u64, position: u32, len: u32) -> Option<Damage>
     ensures { option_map damage_view result ≡ record_outside size position len }
 {
@@ -174,21 +153,21 @@ fn record_outside(size: u64, position: u32, len: u32) -> Option<Damage>
     }
 }
 
-/// So many zeros, in one allocation.
+/// `len` zeros, in one allocation.
 fn zeros(alloc: Global, len: u32) -> Result<Vec<u8>, NoMemory>
     ensures { IfOk result (λ v. vec_len v ≡ len) }
 {
     Ok(vec![in alloc; 0; len as usize]?)
 }
 
-/// Reads a body of `len` bytes behind the head at a position at which both lie in the file.
+/// Reads a body of `len` bytes after the head at a position at which both lie in the file.
 fn read_body<R: Reader>(
     alloc: Global,
     file: &mut R,
     position: u32,
     len: u32,
 ) -> Result<Octets, BlockErr>
-    requires { position + 48 + len ≤ R.extent file.old }
+    requires { position + RECORD_HEAD + len ≤ R.extent file.old }
     ensures gives { GivesBody (R.content file.old) (R.extent file.old) position len result }
     ensures cause { HasCauseOf BlockErr.ReadFault (R.faults file.old) (R.faults file.new) result }
     ensures reads { CountsOn (R.reads file.old) (R.reads file.new) (body_reads len result) }
@@ -206,7 +185,7 @@ fn read_body<R: Reader>(
     }
     match read_whole(
         file,
-        u64::from(position) + u64::from(HEAD),
+        u64::from(position) + RECORD_HEAD as u64,
         body.as_mut_slice(),
     ) {
         Ok(()) => Ok(Octets::of(body)),
@@ -228,7 +207,7 @@ pub fn record_body_at<R: Reader>(
 ) -> Result<Octets, BlockErr>
     // what comes
     ensures gives { GivesBody (R.content file.old) (R.extent file.old) position head.now.len result }
-    ensures whole { (r : Rec) → StandsAt (R.content file.old) position r → head.now.len ≡ length r.body → BodyOf r result }
+    ensures whole { (r : Rec) → IsRecordAt (R.content file.old) position r → head.now.len ≡ length r.body → GivesBodyOf r result }
     ensures cause { HasCauseOf BlockErr.ReadFault (R.faults file.old) (R.faults file.new) result }
     // what the file was asked
     ensures reads { CountsOn (R.reads file.old) (R.reads file.new) (body_reads head.now.len result) }

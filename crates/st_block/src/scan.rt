@@ -1,12 +1,21 @@
 ghost use Rattle.std.specs.Prelude.{◌≡◌, ◌≤◌, ◌*◌, List, ℕ, Some, Err, IfOk, IfErr, IfSome, OnErr};
 ghost use Rattle.st_base.specs.Faults.{HasCauseOf};
 ghost use Rattle.st_base.specs.PlacedReads.{IsSameFile};
-ghost use Rattle.st_block.specs.Progress.{IsOutside};
-ghost use Rattle.st_block.specs.Scans.{Placed, IsFile, Stands, Gives, Follows, Enters};
+ghost use Rattle.st_block.specs.ScanView.{IsNotDamage};
+ghost use Rattle.st_block.specs.Scan.{PositionedRecord, IsFile, HasGiven, GivesNext, Follows, Enters};
+
+mod block;
+mod block_fields;
+mod layout;
+mod start;
+mod state;
+#[cfg(test)]
+mod tests;
 
 use crate::errors::{BlockErr, HeadErr};
-use crate::scan_course::Course;
-use crate::scan_start::enter;
+use crate::format::MIN_BLOCK;
+use crate::scan::start::enter;
+use crate::scan::state::ScanState;
 use st_base::{Damage, Reader, Record};
 use std::alloc::Global;
 
@@ -15,7 +24,7 @@ pub trait Reaching {
     ghost end: { Self → ℕ };
 }
 
-impl Reaching for Course {
+impl Reaching for ScanState {
     ghost end = { λ p. p.size * p.blocks };
 }
 
@@ -23,14 +32,14 @@ impl Reaching for Course {
 /// first check that fails.
 ///
 /// It holds the file, and one block of it at a time. A contract sees what it has come to, its
-/// `course`; of which bytes it then gave which records is said by `Stands` of `specs/Scans.antt`.
-/// What it has come to has a parameter's type, which is always `Course`: so a drop says what
+/// `state`; of which bytes it then gave which records is said by `HasGiven` of `specs/Scan.antt`.
+/// What it has come to has a parameter's type, which is always `ScanState`: so a drop says what
 /// becomes of the file, which it could not of a struct whose own fields hold memory.
 /// Source: docs/FORMAT.md, "Block file" and "Checks".
-pub struct Scan<'a, R: Reader, C: Reaching = Course> {
+pub struct Scan<'a, R: Reader, C: Reaching = ScanState> {
     file: &'a mut R,
-    course: C,
-    ghost inside: { C.end course ≤ R.extent file.now },
+    state: C,
+    ghost inside: { C.end state ≤ R.extent file.now },
 }
 
 impl<R: Reader, C: Reaching + Drop> Drop for Scan<'_, R, C> {
@@ -39,7 +48,7 @@ impl<R: Reader, C: Reaching + Drop> Drop for Scan<'_, R, C> {
     {
         let Scan {
             file: _file,
-            course: _course,
+            state: _state,
         } = self;
     }
 }
@@ -53,7 +62,7 @@ impl<'a, R: Reader> Scan<'a, R> {
     {
         Scan {
             file,
-            course: Course::fresh(4_096, 0),
+            state: ScanState::new(MIN_BLOCK, 0),
         }
     }
 
@@ -66,10 +75,10 @@ impl<'a, R: Reader> Scan<'a, R> {
     pub fn enter(&mut self) -> Result<(), HeadErr>
         // What it answers, where the file tells its bytes, and where the scan then is.
         ensures enters { (bytes : List ℕ) → R.content self.old.file.now ≡ Some bytes
-            → Enters bytes self.new.course result }
-        ensures whole { (bytes : List ℕ) (rs : List Placed) → R.content self.old.file.now ≡ Some bytes
+            → Enters bytes self.new.state result }
+        ensures whole { (bytes : List ℕ) (rs : List PositionedRecord) → R.content self.old.file.now ≡ Some bytes
             → IsFile bytes rs → IfErr result (λ e. e ≡ HeadErr.ReadFault) }
-        ensures err { OnErr result (self.new.course ≡ self.old.course) }
+        ensures err { OnErr result (self.new.state ≡ self.old.state) }
 
         // What becomes of the file.
         ensures same_reference { self.new.file.ghost_name ≡ self.old.file.ghost_name }
@@ -77,8 +86,8 @@ impl<'a, R: Reader> Scan<'a, R> {
         ensures same { IsSameFile (R.content self.old.file.now) (R.content self.new.file.now) (R.extent self.old.file.now) (R.extent self.new.file.now) (R.beside self.old.file.now) (R.beside self.new.file.now) }
     {
         match enter(self.file) {
-            Ok(course) => {
-                self.course = course;
+            Ok(state) => {
+                self.state = state;
                 Ok(())
             }
             Err(error) => Err(error),
@@ -96,22 +105,22 @@ impl<'a, R: Reader> Scan<'a, R> {
     /// next call tries again.
     pub fn next(&mut self, alloc: Global) -> Result<Option<(u32, Record)>, BlockErr>
         // What it answers, where the file tells its bytes, and what the scan has come to then.
-        ensures gives { (bytes : List ℕ) (given : List Placed) → R.content self.old.file.now ≡ Some bytes
-            → Stands self.old.course bytes given → Gives bytes given self.new.course result }
-        ensures whole { (bytes : List ℕ) (given rs : List Placed) → R.content self.old.file.now ≡ Some bytes
-            → IsFile bytes rs → Stands self.old.course bytes given → IfErr result IsOutside }
-        ensures stops { (d : Damage) → result ≡ Err (BlockErr.Damaged d) → self.new.course.stopped ≡ Some d }
-        ensures again { (d : Damage) → self.old.course.stopped ≡ Some d
-            → (result ≡ Err (BlockErr.Damaged d)) × (self.new.course ≡ self.old.course) × (self.new.file.now ≡ self.old.file.now) }
+        ensures gives { (bytes : List ℕ) (given : List PositionedRecord) → R.content self.old.file.now ≡ Some bytes
+            → HasGiven self.old.state bytes given → GivesNext bytes given self.new.state result }
+        ensures whole { (bytes : List ℕ) (given rs : List PositionedRecord) → R.content self.old.file.now ≡ Some bytes
+            → IsFile bytes rs → HasGiven self.old.state bytes given → IfErr result IsNotDamage }
+        ensures stops { (d : Damage) → result ≡ Err (BlockErr.Damaged d) → self.new.state.stopped ≡ Some d }
+        ensures again { (d : Damage) → self.old.state.stopped ≡ Some d
+            → (result ≡ Err (BlockErr.Damaged d)) × (self.new.state ≡ self.old.state) × (self.new.file.now ≡ self.old.file.now) }
 
         // How far it goes, by which a caller's loop ends.
-        ensures follows { IfOk result (λ o. IfSome o (Follows self.old.course self.new.course)) }
+        ensures follows { IfOk result (λ o. IfSome o (Follows self.old.state self.new.state)) }
 
         // What becomes of the file.
         ensures same_reference { self.new.file.ghost_name ≡ self.old.file.ghost_name }
         ensures cause { HasCauseOf BlockErr.ReadFault (R.faults self.old.file.now) (R.faults self.new.file.now) result }
         ensures same { IsSameFile (R.content self.old.file.now) (R.content self.new.file.now) (R.extent self.old.file.now) (R.extent self.new.file.now) (R.beside self.old.file.now) (R.beside self.new.file.now) }
     {
-        self.course.next_in(alloc, self.file)
+        self.state.next_in(alloc, self.file)
     }
 }

@@ -87,7 +87,7 @@ fn put(block: &mut BlockBuilder, packet: &Packet) -> Result<u32, Fail>
     }))
 }
 
-/// A file of these bytes and zeros behind them, `size` bytes in all.
+/// A file of these bytes and zeros after them, `size` bytes in all.
 fn file_of(alloc: Global, bytes: &[u8], size: usize) -> Result<Vec<u8>, Fail> {
     let mut file = bytes.to_vec(alloc)?;
     file.resize(size, 0)?;

@@ -1,5 +1,0 @@
-use Rattle.st_block.proofs.Unhurt.{file_unhurt}
-use Rattle.st_block.proofs.scan_laws.file_unhurt.Goals as goal
-
-pub returns : goal.returns
-returns c = file_unhurt

@@ -1,5 +1,0 @@
-use Rattle.st_block.proofs.Unhurt.{one_given_there}
-use Rattle.st_block.proofs.scan_laws.one_given.Goals as goal
-
-pub returns : goal.returns
-returns c = one_given_there

@@ -1,6 +1,0 @@
-use Rattle.st_block.proofs.Laying.{Laid}
-use Rattle.st_block.proofs.scan_layout.lay_out.Given as goal
-
--- the records so far stand one behind the other
-abbrev pub invariant-records : goal.invariant-records
-invariant-records l = Laid l.block l.place l.count l.had l.last l.at

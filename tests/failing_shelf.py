@@ -1,0 +1,298 @@
+#!/usr/bin/env python3
+"""Has each call of the file system fail that a shelf makes, one at a time, and looks at what is left.
+
+The program is shelf_probe; a library that is preloaded before it (tests/preload/calls.c) writes down
+its calls and fails those that it is told to. It is left out, and that is said, where there is no C
+compiler. The last line is 'N passed, M failed'; the status is 0 where none failed.
+"""
+import errno
+import os
+import pathlib
+import shutil
+import subprocess
+import sys
+import tempfile
+
+from real_shelf import Session, ask, build, files
+from report import report
+
+SOURCE = pathlib.Path(__file__).resolve().parent / "preload" / "calls.c"
+
+# One shelf call of each kind, and each once more over what the one before left.
+CALLS = ["put block 10 5", "flush block", "put index 10 9000", "flush index", "list", "read index 10", "read block 10", "hide 10",
+         "flush index", "list", "read parked 10", "remove parked 10", "remove block 10", "flush block", "list"]
+ANSWERS = ["ok", "ok", "ok", "ok", "block 10, index 10, ok", "9000 bytes", "5 bytes", "ok", "ok", "block 10, parked 10, ok",
+           "9000 bytes", "ok", "ok", "ok", "ok"]
+PUT_FAILS = {"open": "failed: create", "write": "failed: write", "fdatasync": "failed: seal", "rename": "failed: settle"}
+# What Linux may break off for a signal, of the calls that a shelf makes; the others it makes whole.
+BREAKS_OFF = {"open", "write", "read", "fsync", "fdatasync", "flock"}
+
+
+class Probe:
+    """The program in a spool folder of its own, with the library before it."""
+
+    def __init__(self, program, library, folder):
+        self.program, self.library, self.folder = program, library, folder
+        self.log = folder + ".log"
+
+    def start(self, spool, fail=""):
+        pathlib.Path(self.log).write_text("")
+        more = {"LD_PRELOAD": self.library, "CALLS_LOG": self.log, "CALLS_UNDER": self.folder, "CALLS_FAIL": fail}
+        return Session(self.program, spool, env={**os.environ, **more})
+
+    def written(self):
+        """The calls that were written down, as lists of words, paths below the folder; and where an answer was printed."""
+        lines = pathlib.Path(self.log).read_text(errors="surrogateescape").splitlines()
+        return [[word.removeprefix(self.folder + "/") for word in line.split(" ") if word] for line in lines]
+
+    def calls(self, asked, fail=""):
+        """What the program answers to these calls in an empty folder, and its calls of the system for each."""
+        spool = os.path.join(self.folder, "above", "spool")
+        shutil.rmtree(self.folder, ignore_errors=True)
+        os.mkdir(self.folder)
+        session = self.start(spool, fail)
+        answers = [answer_to(session, call) for call in asked]
+        session.end()
+        parts = [[]]
+        for line in self.written():
+            if line[:2] == ["write", "output"]:
+                parts.append([])
+            else:
+                parts[-1].append(line)
+        return answers, parts[:-1]
+
+
+def answer_to(session, call):
+    """The answer to a call, its lines joined."""
+    lines = [session.ask(call)]
+    while call == "list" and lines[-1] not in ("ok", "failed", "failed: no memory", "?", ""):
+        lines.append(session.ask())
+    return ", ".join(lines)
+
+
+def changes(part):
+    """Of a call's calls of the system those that change something, or have it kept."""
+    return [line for line in part if line[0] in ("write", "fsync", "fdatasync", "rename", "unlink", "mkdir")
+            or line[0] == "open" and int(line[3], 8) & os.O_CREAT]
+
+
+def keeps_the_order(probe):
+    answers, parts = probe.calls(CALLS)
+    yield "no call fails", answers == ANSWERS, answers
+    spool = "above/spool"
+    first, wanted = changes(parts[0]), [
+        ["write", f"{spool}/PKT0/.draft-0", "5", "5"],
+        ["fdatasync", f"{spool}/PKT0/.draft-0", "0"],
+        ["rename", f"{spool}/PKT0/.draft-0", "0", f"{spool}/PKT0/000000000000000a"]]
+    yield "a put writes, syncs and renames, in this order", first[-3:] == wanted, first
+    made = first[-4]
+    flags = os.O_WRONLY | os.O_CREAT | os.O_EXCL
+    good = made[:2] == ["open", f"{spool}/PKT0/.draft-0"] and int(made[3], 8) & (flags | os.O_TRUNC) == flags and made[4] == "600"
+    yield "a draft is a file that was not there", good, made
+    yield "a flush syncs its folder", changes(parts[1]) == [["fsync", f"{spool}/PKT0", "0"]], parts[1]
+    second = [line[:2] for line in changes(parts[2])]
+    wanted = [[kind, f"{spool}/IDX0/.draft-1"] for kind in ("open", "write", "fdatasync", "rename")]
+    yield "a second put makes no folder", second == wanted, parts[2]
+    yield "a flush of the other folder", changes(parts[3]) == [["fsync", f"{spool}/IDX0", "0"]], parts[3]
+    yield "reading and listing change nothing", [changes(parts[place]) for place in (4, 5, 6)] == [[], [], []], parts[4:7]
+    wanted = [["rename", f"{spool}/IDX0/000000000000000a", "0", f"{spool}/IDX0/.parked-000000000000000a"]]
+    yield "hiding is one rename", changes(parts[7]) == wanted, parts[7]
+    yield "removing is one unlink", changes(parts[12]) == [["unlink", f"{spool}/PKT0/000000000000000a", "0"]], parts[12]
+    drafts = [line for part in parts for line in part if line[0] == "open" and "/.draft-" in line[1]]
+    good = len(drafts) == 2 and all(int(line[3], 8) & flags == flags for line in drafts)
+    yield "no draft is opened but to make it", good, drafts
+
+
+def above(path):
+    """The folder that a path of the log lies in; of the topmost folder the log has the empty path."""
+    return path.rpartition("/")[0]
+
+
+def syncs_new_folders(probe):
+    _, parts = probe.calls(CALLS)
+    calls = parts[0]
+    made = [place for place, line in enumerate(calls) if line[0] == "mkdir" and line[2] == "0"]
+    names = [calls[place][1] for place in made]
+    yield "four folders are made", names == ["above", "above/spool", "above/spool/PKT0", "above/spool/IDX0"], names
+    draft = next(place for place, line in enumerate(calls) if line[0] == "open" and "/.draft-" in line[1])
+    for place in made:
+        path = calls[place][1]
+        synced = [line for line in calls[place:draft] if line[0] == "fsync" and path_of(line, probe) == above(path) and line[2] == "0"]
+        yield f"the folder above {path} is synced before anything stands in it", bool(synced), calls
+    session = probe.start(os.path.join(probe.folder, "above", "spool"))
+    session.ask("put block 11 5")
+    session.end()
+    synced = [path_of(line, probe) for line in probe.written() if line[0] == "fsync"]
+    yield "folders that are there are synced again", {"above", "above/spool"} <= set(synced), synced
+
+
+def path_of(line, probe):
+    return "" if line[1] == probe.folder else line[1]
+
+
+def is_locked(probe, spool):
+    """Whether another program is refused."""
+    return ask(probe.program, spool, ["flush block"]) == ["failed"]
+
+
+def counted(parts):
+    """Each call of the system in its turn: its kind, which of its kind it is, and for which shelf call it was made."""
+    counts = {}
+    for place, part in enumerate(parts):
+        for line in part:
+            counts[line[0]] = counts.get(line[0], 0) + 1
+            yield line, counts[line[0]], place
+
+
+def run_with_fault(probe, fail):
+    """Makes the calls in an empty folder while one call of the system fails, and each call again that failed.
+
+    Gives the answers of those that succeeded, the places and answers of those that failed, what was
+    half done or unlocked after them, and the count of faults.
+    """
+    spool = os.path.join(probe.folder, "above", "spool")
+    shutil.rmtree(probe.folder, ignore_errors=True)
+    os.mkdir(probe.folder)
+    session = probe.start(spool, fail)
+    answers, failed, wrong = [], [], []
+    for place, call in enumerate(CALLS):
+        before = files(spool)
+        answer = answer_to(session, call)
+        if answer.startswith("failed"):
+            failed.append((place, answer))
+            if files(spool) != before:
+                wrong.append(f"{call} left {files(spool)} of {before}")
+            if place > 0 and not is_locked(probe, spool):
+                wrong.append(f"no lock after {call}")
+            answer = answer_to(session, call)
+        answers.append(answer)
+    faults = session.ask("faults")
+    session.end()
+    return answers, failed, wrong, faults
+
+
+def meets_each_fault(probe):
+    _, parts = probe.calls(CALLS)
+    for line, number, place in list(counted(parts)):
+        kind = line[0]
+        for error in (errno.EIO, errno.EINTR):
+            answers, failed, wrong, faults = run_with_fault(probe, f"{kind}:{number}:{error}")
+            name = f"{' '.join(line[:2])} fails with {errno.errorcode[error]} at '{CALLS[place]}'"
+            if error == errno.EINTR and kind in BREAKS_OFF:
+                yield name + " and is made again", (failed, wrong, faults) == ([], [], "0") and answers == ANSWERS, (failed, faults, answers)
+                continue
+            good = [where for where, _ in failed] == [place] and (wrong, faults) == ([], "1") and answers == ANSWERS
+            if good and place > 0 and CALLS[place].startswith("put"):
+                good = failed[0][1] == PUT_FAILS[kind]
+            yield name, good, (failed, wrong, faults, answers)
+
+
+def meets_each_fault_at_the_next_start(probe):
+    """Over a spool that is there, with a left draft in it."""
+    spool = os.path.join(probe.folder, "above", "spool")
+    probe.calls(["put block 1 5", "put index 1 5"])
+    pathlib.Path(spool, "PKT0", ".draft-7").write_bytes(b"left")
+    there = files(spool)
+    session = probe.start(spool)
+    session.ask("flush block")
+    session.end()
+    calls = probe.written()
+    counts = {}
+    for line in calls[:-1]:
+        kind = line[0]
+        counts[kind] = counts.get(kind, 0) + 1
+        session = probe.start(spool, f"{kind}:{counts[kind]}:{errno.EIO}")
+        answers = [answer_to(session, call) for call in ("flush block", "flush block", "list", "faults")]
+        session.end()
+        good = answers == ["failed", "ok", "block 1, index 1, draft block 7, ok", "1"] and files(spool) == there
+        yield f"{' '.join(line[:2])} fails at the next start", good, answers
+
+
+def meets_two_faults(probe):
+    """A draft that can't be given up stays, is listed, and is in no later draft's way."""
+    calls = ["put block 1 5", "list", "faults", "put block 1 5", "list", "remove draft block 0", "list", "faults"]
+    for kind, step in PUT_FAILS.items():
+        if kind == "open":
+            continue
+        answers, _ = probe.calls(calls, f"{kind}:1:{errno.EIO},unlink:1:{errno.EIO}")
+        if kind == "write":
+            answers, _ = probe.calls(calls, f"write:1:{errno.ENOSPC},unlink:1:{errno.EIO}")
+        good = answers[:2] == [step, "draft block 0, ok"] and int(answers[2]) in (1, 2)
+        good = good and answers[3:7] == ["ok", "block 1, draft block 0, ok", "ok", "block 1, ok"] and answers[7] == answers[2]
+        yield f"{kind} fails and the draft can't be removed", good, answers
+
+
+def meets_a_disk_that_is_gone(probe):
+    """From some call on each call of a kind fails: each shelf call that needs it is one fault."""
+    for kind, calls, wanted in (
+            ("write", ["put block 1 5", "put index 1 5", "list"], ["failed: write", "failed: write", "ok"]),
+            ("fdatasync", ["put block 1 5", "put index 1 5", "list"], ["failed: seal", "failed: seal", "ok"]),
+            ("rename", ["put block 1 5", "hide 1", "list"], ["failed: settle", "failed", "ok"]),
+            ("getdents64", ["list", "put block 1 5", "flush block"], ["failed", "failed: create", "failed"]),
+            ("flock", ["list", "put block 1 5", "flush block"], ["failed", "failed: create", "failed"]),
+            ("statx", ["put block 1 5", "list", "read block 1"], ["ok", "failed", "failed"])):
+        answers, _ = probe.calls([*calls, "faults"], f"{kind}:1+:{errno.EIO}")
+        yield f"each {kind} fails", answers == [*wanted, str(sum("failed" in answer for answer in wanted))], answers
+
+
+def writes_by_halves(probe):
+    answers, parts = probe.calls(["put block 1 100000", "read block 1", "faults"], "write:1:0,write:3:0")
+    written = [line[2] for line in parts[0] if line[0] == "write"]
+    good = answers == ["ok", "100000 bytes", "0"] and written == ["50000", "50000"]
+    yield "a write that takes half of its bytes is gone on with", good, (answers, written)
+
+
+MANY = 400
+
+
+def lists_all_or_nothing(probe):
+    """A folder whose names take several reads: each that fails is a fault, and no list is shorter."""
+    spool = os.path.join(probe.folder, "spool")
+    for folder in ("PKT0", "IDX0"):
+        os.makedirs(os.path.join(spool, folder))
+        for stamp in range(MANY):
+            pathlib.Path(spool, folder, f"{stamp:016x}").touch()
+    whole = ", ".join([f"{kind} {stamp}" for kind in ("block", "index") for stamp in range(MANY)] + ["ok"])
+    session = probe.start(spool)
+    answers = [answer_to(session, "list") for _ in range(2)]
+    session.end()
+    yield "a long list", answers == [whole, whole], answers
+    kinds = [line[0] for line in probe.written()]
+    reads, looks = kinds.count("getdents64"), kinds.count("statx")
+    yield "its names take several reads", reads >= 3 * 4, reads
+    for kind, numbers in (("getdents64", range(1, reads + 1)), ("statx", (1, looks // 2, looks))):
+        for number in numbers:
+            for error in (errno.EIO, errno.EINTR, errno.EBADF):
+                session = probe.start(spool, f"{kind}:{number}:{error}")
+                answers = sorted(answer_to(session, "list") for _ in range(3))
+                faults = session.ask("faults")
+                session.end()
+                good = answers == sorted(["failed", whole, whole]) and faults == "1"
+                yield f"{kind} {number} of a long list fails with {errno.errorcode[error]}", good, (answers, faults)
+
+
+GROUPS = [keeps_the_order, syncs_new_folders, meets_each_fault, meets_each_fault_at_the_next_start, meets_two_faults,
+          meets_a_disk_that_is_gone, writes_by_halves, lists_all_or_nothing]
+
+
+def cases(folder):
+    compiler = shutil.which("cc") or shutil.which("gcc") or shutil.which("clang")
+    library = os.path.join(folder, "calls.so")
+    if compiler is None or subprocess.run([compiler, "-O1", "-shared", "-fPIC", "-o", library, SOURCE, "-ldl"],
+                                          capture_output=True).returncode:
+        print("left out: calls of the file system that fail (no C compiler)")
+        return
+    program = build(folder)
+    for group in GROUPS:
+        place = os.path.join(folder, group.__name__)
+        os.mkdir(place)
+        yield from group(Probe(program, library, place))
+
+
+def main():
+    with tempfile.TemporaryDirectory() as folder:
+        return report(cases(folder))
+
+
+if __name__ == "__main__":
+    sys.exit(main())

@@ -1,0 +1,302 @@
+#!/usr/bin/env python3
+"""Tries the launcher in a repository of its own, with a toolchain that only pretends to prove.
+
+So nothing is proved here, and each case takes a moment. The last line is 'N passed, M failed'; the
+status is 0 where none failed.
+"""
+import os
+import pathlib
+import pty
+import re
+import shutil
+import signal
+import subprocess
+import sys
+import tempfile
+import time
+
+from report import report
+
+LAUNCHER = pathlib.Path(__file__).resolve().parent.parent / "steno"
+SECONDS = 60
+LONG_AGO = 978307200
+NOT_BUILT = 70
+BUILDING = b"proving and building first"
+
+# Writes down what it is asked for. 'run' makes a program that prints the text of its source, its
+# arguments and its input; a source with the word 'wrong' is not proved. TOOLCHAIN_EDITS has it edit
+# that source first, TOOLCHAIN_LINGERS has it stay once the program is made, and TOOLCHAIN_MEETS has
+# each library wait until another one is being proved.
+TOOLCHAIN = r"""#!/usr/bin/env bash
+crate=${PWD##*/}
+echo "$1 $crate" >>"$TOOLCHAIN_LOG"
+case $1 in
+version) echo 'pretended toolchain, first edition' ;;
+lib)
+  [ -z "${TOOLCHAIN_MEETS:-}" ] || {
+    : >"$TOOLCHAIN_MEETS/$crate"
+    for _ in {1..60}; do
+      [ "$(ls "$TOOLCHAIN_MEETS" | wc -l)" -ge 2 ] && break
+      sleep 0.05
+    done
+    [ "$(ls "$TOOLCHAIN_MEETS" | wc -l)" -ge 2 ] || echo "alone $crate" >>"$TOOLCHAIN_LOG"
+  }
+  sleep "${TOOLCHAIN_SLEEPS:-0}"
+  ! grep -q wrong src/*
+  ;;
+run)
+  sleep "${TOOLCHAIN_SLEEPS:-0}"
+  ! grep -q wrong ../*/src/* || { echo 'not proved'; exit 1; }
+  [ -z "${TOOLCHAIN_EDITS:-}" ] || printf edited >src/main.rt
+  mkdir -p out
+  { printf '#!/usr/bin/env bash\ntext=%q\n' "$(cat src/main.rt)"
+    printf '%s\n' 'printf "%s\0" "$text" "$@"; cat; exit 5'; } >out/steno.new
+  chmod +x out/steno.new && mv out/steno.new out/steno
+  echo linked >>"$TOOLCHAIN_LOG"
+  sleep "${TOOLCHAIN_LINGERS:-0}"
+  [ "$*" = "run -- once " ] && exit 4
+  exit 1
+  ;;
+esac
+"""
+
+
+class Repository:
+    """A repository with a launcher, three crates that the program stands on, and another one."""
+
+    def __init__(self, folder):
+        self.root = pathlib.Path(folder)
+        self.log = self.root / "log"
+        self.tools = self.root / "tools"
+        self.command = self.tools / "rt"
+        self.tools.mkdir(parents=True)
+        shutil.copy(LAUNCHER, self.root / "steno")
+        self.write("crates.txt", "low:\nhigh: low\nside: low # beside high\nother: low\nsteno: high side\n")
+        for name in ("low", "high", "side", "other"):
+            self.write(f"crates/{name}/src/lib.rt", f"library {name}")
+            self.write(f"crates/{name}/specs/Lib.antt", f"specs of {name}")
+        self.write("crates/steno/src/main.rt", "first")
+        self.write("tools/rt", TOOLCHAIN)
+        self.command.chmod(0o755)
+
+    def write(self, path, text):
+        file = self.root / path
+        file.parent.mkdir(parents=True, exist_ok=True)
+        file.write_text(text)
+
+    def surroundings(self, **more):
+        path = os.pathsep.join([str(self.tools), "/usr/bin", "/bin"])
+        return {"PATH": path, "TOOLCHAIN_LOG": str(self.log), **more}
+
+    def start(self, *arguments, stdin=b"", launcher=None, **more):
+        """Starts the launcher; gives its output, messages and status, and what rt was asked for."""
+        self.log.write_text("")
+        done = subprocess.run([launcher or self.root / "steno", *arguments], input=stdin, capture_output=True,
+                              env=self.surroundings(**more), timeout=SECONDS)
+        return done.stdout, done.stderr, done.returncode, self.log.read_text().splitlines()
+
+
+def ran(seen, text, arguments=(), stdin=b""):
+    """The program of this text ran with these arguments and this input."""
+    words = [text.encode(), *arguments]
+    return seen[0] == b"".join(word + b"\0" for word in words) + stdin and seen[2] == 5
+
+
+def built(seen, text):
+    """All was proved, and the program of this text ran."""
+    asked = {"lib low", "lib high", "lib side", "run steno"}
+    return ran(seen, text) and BUILDING in seen[1] and asked <= set(seen[3]) and "lib other" not in seen[3]
+
+
+def started(seen, text):
+    """The program of this text ran, nothing was built, and nothing was said."""
+    return ran(seen, text) and seen[1] == b"" and not [line for line in seen[3] if not line.startswith("version")]
+
+
+def refused(seen):
+    """No program ran, and the launcher said so."""
+    return seen[0] == b"" and seen[2] == NOT_BUILT and b"steno: the program was not built" in seen[1]
+
+
+def starts(repository):
+    seen = repository.start()
+    yield "the first start builds", built(seen, "first"), seen
+    seen = repository.start()
+    yield "the second start asks nothing of the toolchain", started(seen, "first") and seen[3] == [], seen
+    link = repository.root / "elsewhere" / "link"
+    link.parent.mkdir()
+    link.symlink_to(repository.root / "steno")
+    seen = repository.start(launcher=link)
+    yield "a start by a link from another folder", started(seen, "first"), seen
+
+
+ARGUMENTS = [b"", b" ", b"two words", b" at both ends ", b"\t", b"line\nfeed", b"\xff\xfe", "\u00e9".encode(), b"-", b"--", b"-n",
+             b"-e", b"--help", b"*", b"?", b"[a]", b"~", b"$HOME", b"$(echo no)", b"`echo no`", b"a;b", b"a&b", b"a|b", b">no",
+             b"<no", b"#no", b"!!", b"\\", b"\\n", b"'", b'"', b"{a,b}", b"(a)", b"%s", b"=", b"x" * 100000]
+
+
+def passes_arguments(repository):
+    repository.start()
+    for argument in ARGUMENTS:
+        seen = repository.start(argument)
+        yield f"the argument {argument[:20]!r}", ran(seen, "first", [argument]), seen
+    seen = repository.start(*ARGUMENTS, stdin=bytes(range(256)))
+    yield "all of them at once, and an input", ran(seen, "first", ARGUMENTS, bytes(range(256))), seen
+    seen = repository.start(stdin=b"")
+    yield "no argument", ran(seen, "first"), seen
+    fresh = Repository(repository.root / "fresh")
+    seen = fresh.start(*ARGUMENTS, stdin=bytes(range(256)))
+    yield "all of them at the start that builds", ran(seen, "first", ARGUMENTS, bytes(range(256))), seen
+
+
+def set_back(path):
+    os.utime(path, (LONG_AGO, LONG_AGO))
+
+
+def builds_by_content(repository):
+    """Each change of a source is seen, whatever the file's time; a change of a time alone builds nothing."""
+    source = repository.root / "crates/steno/src/main.rt"
+    set_back(source)
+    repository.start()
+    for text, name in (("second source", "a longer source"), ("secund source", "a source of the same length")):
+        source.write_text(text)
+        set_back(source)
+        seen = repository.start()
+        yield f"{name}, its time long ago", built(seen, text), seen
+        seen = repository.start()
+        yield f"{name}, once it is built", started(seen, text), seen
+    source.touch()
+    seen = repository.start()
+    yield "a source that was only touched", started(seen, "secund source") and seen[3] != [], seen
+    seen = repository.start()
+    yield "and then nothing is asked any more", seen[3] == [], seen
+    for path in ("crates/low/src/lib.rt", "crates/side/specs/Lib.antt", "crates/high/proofs/F/Proof.antt", "crates.txt"):
+        file = repository.root / path
+        repository.write(path, (file.read_text() if file.exists() else "") + "\n")
+        set_back(file)
+        seen = repository.start()
+        yield f"a change of {path}, its time long ago", built(seen, "secund source"), seen
+    (repository.root / "crates/high/proofs/F/Proof.antt").rename(repository.root / "crates/high/proofs/F/Other.antt")
+    seen = repository.start()
+    yield "another name", built(seen, "secund source"), seen
+    (repository.root / "crates/high/proofs/F/Other.antt").unlink()
+    seen = repository.start()
+    yield "a file less", built(seen, "secund source"), seen
+    repository.write("crates/other/src/lib.rt", "another text")
+    repository.write("crates/low/must-fail/a.edit", "file: src/lib.rt")
+    repository.write("README.md", "read me")
+    seen = repository.start()
+    yield "files that the program does not stand on", started(seen, "secund source") and seen[3] == [], seen
+
+
+def builds_by_toolchain(repository):
+    repository.start()
+    repository.write("tools/rt", TOOLCHAIN + "# nothing else\n")
+    seen = repository.start()
+    yield "the same toolchain in another file", started(seen, "first"), seen
+    repository.write("tools/rt", TOOLCHAIN.replace("first edition", "second edition"))
+    seen = repository.start()
+    yield "another toolchain", built(seen, "first"), seen
+    repository.command.rename(repository.tools / "gone")
+    seen = repository.start()
+    yield "no toolchain, and nothing changed", started(seen, "first"), seen
+    repository.write("crates/steno/src/main.rt", "second")
+    seen = repository.start()
+    lacks = b"steno: the command rt of the Rattle toolchain is not on the PATH\n"
+    yield "no toolchain, and a change", seen[:3] == (b"", lacks, NOT_BUILT), seen
+
+
+def refuses_what_is_not_proved(repository):
+    for path in ("crates/steno/src/main.rt", "crates/low/src/lib.rt"):
+        repository.write("crates/steno/src/main.rt", "first")
+        repository.start()
+        was = (repository.root / path).read_text()
+        repository.write(path, "wrong")
+        for start in ("first", "second"):
+            seen = repository.start()
+            yield f"{path} is not proved, {start} start", refused(seen) and b"not proved" in seen[1], seen
+        repository.write(path, was)
+        seen = repository.start()
+        yield f"{path} is mended", built(seen, "first"), seen
+
+
+def builds_again_after_a_break(repository):
+    """Where a build was killed, or its sources changed meanwhile, no program is taken for theirs."""
+    repository.start()
+    for until, how in (("lib low", {"TOOLCHAIN_SLEEPS": "30"}), ("linked", {"TOOLCHAIN_LINGERS": "30"})):
+        repository.write("crates/steno/src/main.rt", "second")
+        repository.log.write_text("")
+        child = subprocess.Popen([repository.root / "steno"], stdin=subprocess.DEVNULL, stdout=subprocess.DEVNULL,
+                                 stderr=subprocess.DEVNULL, env=repository.surroundings(**how), start_new_session=True)
+        wait_for(lambda: until in repository.log.read_text())
+        os.killpg(child.pid, signal.SIGKILL)
+        child.wait(SECONDS)
+        repository.write("crates/steno/src/main.rt", "first")
+        seen = repository.start()
+        yield f"a build that was killed at '{until}'", built(seen, "first"), seen
+    repository.write("crates/steno/src/main.rt", "third")
+    seen = repository.start(TOOLCHAIN_EDITS="yes")
+    yield "a source that changes while it is built", ran(seen, "edited"), seen
+    repository.write("crates/steno/src/main.rt", "third")
+    seen = repository.start()
+    yield "is built again at the next start", built(seen, "third"), seen
+
+
+def wait_for(holds):
+    end = time.monotonic() + SECONDS
+    while not holds() and time.monotonic() < end:
+        time.sleep(0.01)
+
+
+def proves_side_by_side(repository):
+    if len(os.sched_getaffinity(0)) < 2:
+        print("left out: crates that are proved side by side (one processor)")
+        return
+    meeting = repository.root / "meeting"
+    meeting.mkdir()
+    seen = repository.start(TOOLCHAIN_MEETS=str(meeting))
+    alone = [line for line in seen[3] if line.startswith("alone")]
+    yield "two crates are proved at once", built(seen, "first") and not alone, seen
+
+
+def on_terminal(repository, **more):
+    """What the launcher says where standard error is a terminal."""
+    ours, theirs = pty.openpty()
+    child = subprocess.Popen([repository.root / "steno"], stdin=subprocess.DEVNULL, stdout=subprocess.DEVNULL, stderr=theirs,
+                             env=repository.surroundings(**more))
+    os.close(theirs)
+    said = b""
+    while True:
+        try:
+            said += os.read(ours, 4096)
+        except OSError:
+            break
+    os.close(ours)
+    return said, child.wait(SECONDS)
+
+
+def says_how_far_it_is(repository):
+    said, status = on_terminal(repository, TOOLCHAIN_SLEEPS="0.8")
+    good = re.search(rb"\rsteno: [1-3] of 4 crates proved, 0:0[0-9] minutes so far ", said)
+    yield "on a terminal the launcher says how far it is", bool(good) and status == 5, (said, status)
+    said, status = on_terminal(repository)
+    yield "and nothing where nothing is built", (said, status) == (b"", 5), (said, status)
+    repository.write("crates/steno/src/main.rt", "wrong")
+    said, status = on_terminal(repository)
+    yield "and why nothing was built", b"not proved" in said and status == NOT_BUILT, (said, status)
+    repository.write("crates/steno/src/main.rt", "second")
+    seen = repository.start(TOOLCHAIN_SLEEPS="0.6")
+    yield "elsewhere it says once that it builds", built(seen, "second") and seen[1].count(b"\n") == 1 and b"\r" not in seen[1], seen
+
+
+GROUPS = [starts, passes_arguments, builds_by_content, builds_by_toolchain, refuses_what_is_not_proved, builds_again_after_a_break,
+          proves_side_by_side, says_how_far_it_is]
+
+
+def main():
+    with tempfile.TemporaryDirectory() as folder:
+        return report(case for group in GROUPS for case in group(Repository(os.path.join(folder, group.__name__))))
+
+
+if __name__ == "__main__":
+    sys.exit(main())
