@@ -28,6 +28,7 @@
 //! `specs/LoggedCalls.antt` what a call adds to a log. Then `shelves`, `memory`.
 #![tactic(auto)]
 
+mod lent_file;
 mod loans;
 mod memory;
 mod memory_draft;
@@ -37,6 +38,7 @@ mod shelves;
 #[cfg(test)]
 mod tests;
 
+pub use lent_file::{CameBack, LentFile};
 pub use loans::Loans;
 pub use memory::MemShelf;
 pub use memory_draft::{MemDraft, MemSealed};
