@@ -1,29 +1,29 @@
-ghost use Rattle.std.specs.Prelude.{Option, ◌≡◌, ◌≤◌, ◌+◌, ◌⊎◌, ◌<◌, ℕ, List, None, Some, IfOk};
-ghost use Rattle.st_base.specs.Faults.{Rose};
-ghost use Rattle.st_disk.specs.LoggedCalls.{Abandons};
+ghost use Rattle.std.specs.Prelude.{Option, ◌≡◌, ◌≤◌, ◌+◌, ◌-◌, ◌^◌, ◌⊎◌, ◌<◌, ◌↔◌, ℕ, List, None, Some, Ok, min, IsOk, IsErr, IfOk};
+ghost use Rattle.st_base.specs.Faults.{CountsOne, next_count};
 ghost use Rattle.st_shelf.specs.Loans.{no_loans};
-ghost use Rattle.st_shelf.specs.Origins.{draft_name};
-ghost use Rattle.st_shelf.specs.Ends.{end_origin, end_faults, TakesFaults};
+ghost use Rattle.st_folder.specs.Counting.{IsLeftAlone, SettlesUp};
 
-use crate::real_draft::{RealDraft, RealSealed};
-use crate::real_file::RealFile;
-use crate::real_folders::{RealFolders, read_names};
-use crate::real_names::path_of;
-use st_base::{Failed, FileReader, NoMemory};
+use crate::real::draft::{RealDraft, RealSealed};
+use crate::real::folders::{RealFolders, create_file, read_names};
+use crate::real::names::path_of;
+use st_base::{Failed, FileReader, NoMemory, StreamSink};
 use st_disk::{kind_of_name, sorted_names};
-use st_shelf::{Draft, End, Kind, ListErr, Loans, Name, Names, Shelf};
+use st_shelf::{CameBack, Draft, End, Kind, LentFile, ListErr, Loans, Name, Names, Shelf};
 use std::alloc::Global;
-use std::fs::{File, OpenOptions};
+use std::fs::File;
 use std::io::ErrorKind;
-use std::os::unix::fs::OpenOptionsExt;
 use std::rt::HostRuntime;
 use std::{fs, io};
 
-/// A shelf in a folder of the machine's file system. It tells no content.
+/// A file that a shelf in a file system has lent. Its bytes are not known.
+pub type RealFile = LentFile<FileReader>;
+
+/// A shelf in a folder of the machine's file system. Its content is not known.
 ///
 /// Its first call makes the folders that aren't there and takes an exclusive advisory lock on the
 /// spool folder, which the shelf keeps to its end; until that succeeds each call is a fault. A call
-/// that finds no memory for a path is a fault too. Source: docs/FORMAT.md, "Folders and names".
+/// that runs out of memory for a path is a fault too.
+/// Source: docs/FORMAT.md, "Folders and names".
 #[derive(Drop)]
 pub struct RealShelf {
     rt: HostRuntime,
@@ -37,7 +37,8 @@ pub struct RealShelf {
 impl RealShelf {
     /// A shelf in the folder `path`, which is not touched before the first call.
     pub fn at(rt: &HostRuntime, alloc: Global, path: &str) -> Result<RealShelf, NoMemory>
-        ensures counts { IfOk result (λ s. (⟦<RealShelf as Shelf>⟧.faults s ≡ 0) × (⟦<RealShelf as Shelf>⟧.loans s ≡ no_loans)) }
+        ensures faults { IfOk result (λ s. ⟦<RealShelf as Shelf>⟧.faults s ≡ 0) }
+        ensures loans { IfOk result (λ s. ⟦<RealShelf as Shelf>⟧.loans s ≡ no_loans) }
     {
         match String::from_str(alloc, path) {
             Ok(root) => Ok(RealShelf {
@@ -52,17 +53,43 @@ impl RealShelf {
         }
     }
 
-    fn fail(&mut self) -> Failed
-        ensures rose { (self.old.faults ≤ self.new.faults) × Rose self.old.faults self.new.faults }
+    // Counts one fault.
+    fn count_fault(&mut self)
+        ensures rose { self.new.faults ≡ next_count self.old.faults }
         ensures loans { self.new.loans ≡ self.old.loans }
     {
         self.faults = self.faults.saturating_add(1);
-        Failed
     }
 
-    // Opens the folders where no call did so before.
+    // Counts one fault if a call of the system failed.
+    fn counted<T: Drop>(&mut self, done: io::Result<T>) -> Result<T, Failed>
+        ensures done { IfOk result (λ value. done ≡ Ok value) }
+        ensures failed { IsErr result ↔ IsErr done }
+        ensures cause { CountsOne self.old.faults self.new.faults result }
+        ensures loans { self.new.loans ≡ self.old.loans }
+    {
+        match done {
+            Ok(value) => Ok(value),
+            Err(_) => {
+                self.count_fault();
+                Err(Failed)
+            }
+        }
+    }
+
+    // Counts one fault if a draft that came back was not removed, or had faults of its own.
+    fn settle_up(&mut self, removed: io::Result<()>, faults: u64)
+        ensures cause { SettlesUp removed faults self.old.faults self.new.faults }
+        ensures loans { self.new.loans ≡ self.old.loans }
+    {
+        if removed.is_err() || faults > 0 {
+            self.count_fault();
+        }
+    }
+
+    // Opens the folders, unless an earlier call did.
     fn open(&mut self) -> io::Result<()>
-        ensures { (self.new.faults ≡ self.old.faults) × (self.new.loans ≡ self.old.loans) }
+        ensures { IsLeftAlone self.old.faults self.new.faults self.old.loans self.new.loans }
     {
         if self.folders.is_none() {
             let folders = RealFolders::open(&self.rt, self.alloc, self.root.as_str())?;
@@ -71,40 +98,45 @@ impl RealShelf {
         Ok(())
     }
 
+    // A new file under a draft's name. A number whose draft is there already is passed over.
     fn make_draft(&mut self, kind: Kind) -> io::Result<RealDraft>
-        ensures kept { (self.new.faults ≡ self.old.faults) × (self.new.loans ≡ self.old.loans) }
-        ensures made { IfOk result (λ d. (d.kind ≡ kind) × (d.faults ≡ 0)) }
+        ensures rest { IsLeftAlone self.old.faults self.new.faults self.old.loans self.new.loans }
+        ensures made { IfOk result (λ draft. (draft.kind ≡ kind) × (draft.sink.faults ≡ 0)) }
     {
         self.open()?;
-        let number = self.take_number()?;
-        let path = path_of(self.alloc, self.root.as_str(), Name::Draft { kind, number })?;
-        let mut options = OpenOptions::new();
-        options.write(true).create_new(true).mode(0o600);
-        Ok(RealDraft {
-            kind,
-            number,
-            file: options.open(&self.rt, path.as_str())?,
-            faults: 0,
-        })
+        'numbers: for _ in 0..u64::MAX {
+            let number = self.take_number()?;
+            let path = path_of(self.alloc, self.root.as_str(), Name::Draft { kind, number })?;
+            match create_file(&self.rt, path.as_str()) {
+                Ok(file) => {
+                    return Ok(RealDraft {
+                        kind,
+                        number,
+                        sink: StreamSink::over(file),
+                    });
+                }
+                Err(error) => {
+                    if error.kind() != ErrorKind::AlreadyExists {
+                        return Err(error);
+                    }
+                }
+            }
+        }
+        Err(io::Error::from(ErrorKind::QuotaExceeded))
     }
 
+    // The number of the next draft.
     fn take_number(&mut self) -> io::Result<u64>
-        ensures { (self.new.faults ≡ self.old.faults) × (self.new.loans ≡ self.old.loans) }
+        ensures { IsLeftAlone self.old.faults self.new.faults self.old.loans self.new.loans }
     {
         match &mut self.folders {
-            Some(folders) => {
-                if folders.next == u64::MAX {
-                    return Err(io::Error::from(ErrorKind::QuotaExceeded));
-                }
-                folders.next += 1;
-                Ok(folders.next - 1)
-            }
+            Some(folders) => Ok(folders.take_number()),
             None => Err(io::Error::from(ErrorKind::NotConnected)),
         }
     }
 
     fn rename(&mut self, from: Name, to: Name) -> io::Result<()>
-        ensures { (self.new.faults ≡ self.old.faults) × (self.new.loans ≡ self.old.loans) }
+        ensures { IsLeftAlone self.old.faults self.new.faults self.old.loans self.new.loans }
     {
         self.open()?;
         let from = path_of(self.alloc, self.root.as_str(), from)?;
@@ -113,7 +145,7 @@ impl RealShelf {
     }
 
     fn delete(&mut self, name: Name) -> io::Result<()>
-        ensures { (self.new.faults ≡ self.old.faults) × (self.new.loans ≡ self.old.loans) }
+        ensures { IsLeftAlone self.old.faults self.new.faults self.old.loans self.new.loans }
     {
         self.open()?;
         let path = path_of(self.alloc, self.root.as_str(), name)?;
@@ -124,7 +156,7 @@ impl RealShelf {
     }
 
     fn sync(&mut self, kind: Kind) -> io::Result<()>
-        ensures { (self.new.faults ≡ self.old.faults) × (self.new.loans ≡ self.old.loans) }
+        ensures { IsLeftAlone self.old.faults self.new.faults self.old.loans self.new.loans }
     {
         self.open()?;
         match &self.folders {
@@ -134,7 +166,7 @@ impl RealShelf {
     }
 
     fn gather(&mut self, alloc: Global) -> io::Result<Vec<Name>>
-        ensures { (self.new.faults ≡ self.old.faults) × (self.new.loans ≡ self.old.loans) }
+        ensures { IsLeftAlone self.old.faults self.new.faults self.old.loans self.new.loans }
     {
         self.open()?;
         let mut names = Vec::new(alloc);
@@ -144,23 +176,13 @@ impl RealShelf {
     }
 
     fn open_file(&mut self, name: Name) -> io::Result<FileReader>
-        ensures { (self.new.faults ≡ self.old.faults) × (self.new.loans ≡ self.old.loans) }
+        ensures { IsLeftAlone self.old.faults self.new.faults self.old.loans self.new.loans }
     {
         self.open()?;
         let path = path_of(self.alloc, self.root.as_str(), name)?;
         let file = File::open(&self.rt, path.as_str())?;
         let size = file.metadata()?.len();
         Ok(FileReader::over(file, size))
-    }
-
-    fn give_up(&mut self, kind: Kind, number: u64, faults: u64)
-        ensures cause { TakesFaults faults self.old.faults self.new.faults }
-        ensures loans { self.new.loans ≡ self.old.loans }
-    {
-        let removed = self.delete(Name::Draft { kind, number });
-        if removed.is_err() || faults > 0 {
-            self.fail();
-        }
     }
 }
 
@@ -177,7 +199,7 @@ impl Shelf for RealShelf {
 
     ghost loans = { λ s. s.loans };
 
-    ghost file_origin = { λ f. record { kind = f.kind; home = 0 } };
+    ghost file_origin = { λ f. ⟦<RealFile as Reader>⟧.beside f };
 
     ghost drafts_known = { λ shelf l d known. Prim.cc };
 
@@ -190,7 +212,10 @@ impl Shelf for RealShelf {
     fn create(&mut self, kind: Kind) -> Result<RealDraft, Failed> {
         match self.make_draft(kind) {
             Ok(draft) => Ok(draft),
-            Err(_) => Err(self.fail()),
+            Err(_) => {
+                self.count_fault();
+                Err(Failed)
+            }
         }
     }
 
@@ -203,7 +228,7 @@ impl Shelf for RealShelf {
         match self.rename(Name::Draft { kind, number }, name) {
             Ok(()) => Ok(()),
             Err(_) => {
-                self.fail();
+                self.count_fault();
                 Err(RealSealed {
                     kind,
                     number,
@@ -214,24 +239,18 @@ impl Shelf for RealShelf {
     }
 
     fn hide(&mut self, stamp: u64) -> Result<(), Failed> {
-        match self.rename(Name::Index(stamp), Name::Parked(stamp)) {
-            Ok(()) => Ok(()),
-            Err(_) => Err(self.fail()),
-        }
+        let done = self.rename(Name::Index(stamp), Name::Parked(stamp));
+        self.counted(done)
     }
 
     fn remove(&mut self, name: Name) -> Result<(), Failed> {
-        match self.delete(name) {
-            Ok(()) => Ok(()),
-            Err(_) => Err(self.fail()),
-        }
+        let done = self.delete(name);
+        self.counted(done)
     }
 
     fn flush(&mut self, kind: Kind) -> Result<(), Failed> {
-        match self.sync(kind) {
-            Ok(()) => Ok(()),
-            Err(_) => Err(self.fail()),
-        }
+        let done = self.sync(kind);
+        self.counted(done)
     }
 
     fn list(&mut self, alloc: Global) -> Result<Names, ListErr> {
@@ -244,62 +263,51 @@ impl Shelf for RealShelf {
                 if error.kind() == ErrorKind::OutOfMemory {
                     return Err(ListErr::NoMemory);
                 }
-                self.fail();
+                self.count_fault();
                 Err(ListErr::DiskFault)
             }
         }
     }
 
     fn reader(&mut self, name: Name) -> Result<RealFile, Failed> {
-        let Ok(file) = self.open_file(name) else {
-            return Err(self.fail());
-        };
-        self.loans.lend();
-        Ok(RealFile {
-            kind: kind_of_name(name),
-            file,
-            reads: 0,
-            asked: 0,
-            faults: 0,
-        })
+        match self.open_file(name) {
+            Ok(file) => {
+                self.loans.lend();
+                Ok(LentFile::lend(kind_of_name(name), file))
+            }
+            Err(_) => {
+                self.count_fault();
+                Err(Failed)
+            }
+        }
     }
 
     fn close(&mut self, file: RealFile) {
-        let RealFile {
+        let CameBack {
             kind,
-            file: _file,
             reads,
             asked,
             faults,
-        } = file;
+        } = file.come_back();
         if faults > 0 {
-            self.fail();
+            self.count_fault();
         }
         self.loans.take_back(kind, reads, asked);
     }
 
-    fn abandon(&mut self, end: End<RealDraft>)
-        ensures log { Abandons None None (draft_name (end_origin (λ d. record { kind = d.kind; number = d.number; home = 0 }) (λ s. record { kind = s.kind; number = s.number; home = 0 }) end)) self.old.faults self.new.faults }
-        ensures cause { TakesFaults (end_faults (λ d. d.faults) (λ s. s.faults) end) self.old.faults self.new.faults }
-        ensures loans { self.new.loans ≡ self.old.loans }
-    {
-        match end {
-            End::Unsealed(
-                RealDraft {
-                    kind,
-                    number,
-                    file: _file,
-                    faults,
-                },
-            ) => self.give_up(kind, number, faults),
+    fn abandon(&mut self, end: End<RealDraft>) {
+        let (kind, number, faults) = match end {
+            End::Unsealed(RealDraft { kind, number, sink }) => (kind, number, sink.fault_count()),
             End::Sealed(
                 RealSealed {
                     kind,
                     number,
                     faults,
                 },
-            ) => self.give_up(kind, number, faults),
-        }
+            ) => (kind, number, faults),
+        };
+        let removed = self.delete(Name::Draft { kind, number });
+        self.settle_up(removed, faults);
     }
 
     fn fault_count(&self) -> u64 {

@@ -1,0 +1,13 @@
+-- What a call of a shelf in a file system does to the count of faults and to the loans.
+use Rattle.std.specs.Prelude.{◌≡◌, ◌⊎◌, ◌<◌, ℕ, Result, IsErr}
+use Rattle.st_base.specs.Faults.{next_count}
+use Rattle.st_shelf.specs.Loans.{LoansView}
+
+-- both are as they were
+abbrev pub IsLeftAlone : ℕ → ℕ → LoansView → LoansView → Type 0
+IsLeftAlone before now loans_before loans_now = (now ≡ before) × (loans_now ≡ loans_before)
+
+-- one fault is counted if the removal failed or the draft had faults of its own, and else none
+pub record SettlesUp {T E : Type 0} (removed : Result T E) (own before now : ℕ) : Type 0 where
+  pub counts : IsErr removed ⊎ (0 < own) → now ≡ next_count before
+  pub still : (IsErr removed → ⊥) → own ≡ 0 → now ≡ before

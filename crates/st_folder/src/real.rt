@@ -1,0 +1,8 @@
+// The shelf in a folder of the machine's file system.
+mod draft;
+mod folders;
+mod names;
+mod shelf;
+
+pub use draft::{RealDraft, RealSealed};
+pub use shelf::{RealFile, RealShelf};
