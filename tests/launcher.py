@@ -31,7 +31,7 @@ TOOLCHAIN = r"""#!/usr/bin/env bash
 crate=${PWD##*/}
 echo "$1 $crate" >>"$TOOLCHAIN_LOG"
 case $1 in
-version) echo 'pretended toolchain, first edition' ;;
+version) cat >/dev/null; echo 'pretended toolchain, first edition' ;;
 lib)
   [ -z "${TOOLCHAIN_MEETS:-}" ] || {
     : >"$TOOLCHAIN_MEETS/$crate"
@@ -166,8 +166,10 @@ def builds_by_content(repository):
         seen = repository.start()
         yield f"{name}, once it is built", started(seen, text), seen
     source.touch()
-    seen = repository.start()
-    yield "a source that was only touched", started(seen, "secund source") and seen[3] != [], seen
+    seen = repository.start(stdin=b"input")
+    asked = [line.split()[0] for line in seen[3]]
+    good = ran(seen, "secund source", stdin=b"input") and seen[1] == b"" and asked == ["version"]
+    yield "a source that was only touched is found the same, and the input is left", good, seen
     seen = repository.start()
     yield "and then nothing is asked any more", seen[3] == [], seen
     for path in ("crates/low/src/lib.rt", "crates/side/specs/Lib.antt", "crates/high/proofs/F/Proof.antt", "crates.txt"):

@@ -39,12 +39,12 @@ def ask(program, folder, calls, before=None, words=()):
 
 
 def files(folder):
-    """All that lies in a spool folder, with sizes."""
+    """All that lies in a spool folder but folders, with sizes. Links are not followed."""
     found = {}
-    for path, _, names in os.walk(folder):
-        for name in names:
+    for path, folders, names in os.walk(folder):
+        for name in names + [name for name in folders if os.path.islink(os.path.join(path, name))]:
             whole = os.path.join(path, name)
-            found[os.path.relpath(whole, folder)] = os.path.getsize(whole)
+            found[os.path.relpath(whole, folder)] = os.lstat(whole).st_size
     return found
 
 
@@ -121,6 +121,108 @@ def keeps_its_lock(program, folder):
     yield "both files are there", sorted(files(spool)) == ["PKT0/0000000000000001", "PKT0/0000000000000002"], files(spool)
 
 
+GREAT_STAMPS = [2**32, 2**63, 2**64 - 1]
+
+
+def keeps_great_stamps(program, folder):
+    spool = os.path.join(folder, "great")
+    puts = [f"put {kind} {stamp} {size}" for size, stamp in enumerate(GREAT_STAMPS, 1) for kind in ("index", "block")]
+    listed = [f"{kind} {stamp}" for kind in ("block", "index") for stamp in GREAT_STAMPS] + ["ok"]
+    got = ask(program, spool, [*puts, "list", "faults"])
+    yield "stamps of 33 to 64 bits are put and listed", got == ["ok"] * 6 + listed + ["0"], got
+    names = [f"{folder}/{stamp:016x}" for folder in ("IDX0", "PKT0") for stamp in GREAT_STAMPS]
+    yield "their names have 16 digits", sorted(files(spool)) == names, files(spool)
+    reads = [f"read {kind} {stamp}" for kind in ("block", "index") for stamp in GREAT_STAMPS]
+    got = ask(program, spool, ["list", *reads, "hide 18446744073709551615", "read parked 18446744073709551615", "list", "faults"])
+    want = listed + ["1 bytes", "2 bytes", "3 bytes"] * 2 + ["ok", "3 bytes"] + listed[:5] + ["parked 18446744073709551615", "ok", "0"]
+    yield "another program lists and reads them", got == want, got
+
+
+def reads_at_great_places(program, folder):
+    spool = os.path.join(folder, "places")
+    os.makedirs(os.path.join(spool, "PKT0"))
+    place = 2**32 + 5
+    with open(os.path.join(spool, "PKT0", f"{7:016x}"), "wb") as file:
+        file.write(b"low bytes")
+        file.seek(place)
+        file.write(b"high bytes")
+    places = [(0, 9, "low bytes"), (4, 3, "byt"), (place, 10, "high bytes"), (place + 5, 100, "bytes"), (place + 10, 4, ""),
+              (place + 2**32, 4, ""), (2**63, 4, ""), (2**64 - 1, 4, ""), (0, 0, "")]
+    got = ask(program, spool, [f"show {at} {length} block 7" for at, length, _ in places] + ["faults"])
+    yield "a read gives the bytes of its place, above 2^32 too", got == [text for _, _, text in places] + ["0"], got
+
+
+def keeps_parked_files(program, folder):
+    spool = os.path.join(folder, "parked")
+    got = ask(program, spool, ["put index 10 9000", "put block 10 5", "hide 10", "read parked 10", "read index 10", "read block 10"])
+    yield "a parked index is read under its name", got == ["ok", "ok", "ok", "9000 bytes", "failed", "5 bytes"], got
+    got = ask(program, spool, ["list", "read parked 10", "faults"])
+    yield "another program reads it", got == ["block 10", "parked 10", "ok", "9000 bytes", "0"], got
+    got = ask(program, spool, ["put index 11 70000", "age 11", "list", "faults"])
+    yield "an index that left the disk is read while it is lent", got == ["ok", "70000 bytes", "block 10", "parked 10", "ok", "0"], got
+
+
+def make_strangers(place):
+    """Puts into a folder what is no file of a shelf, in both kinds of name: links, a pipe, folders, other names."""
+    os.symlink("0000000000000001", os.path.join(place, "0000000000000002"))
+    os.symlink("nowhere", os.path.join(place, "0000000000000003"))
+    os.symlink(".", os.path.join(place, "0000000000000004"))
+    os.mkfifo(os.path.join(place, "0000000000000005"))
+    os.mkdir(os.path.join(place, "0000000000000006"))
+    os.mkfifo(os.path.join(place, ".draft-3"))
+    os.symlink("0000000000000001", os.path.join(place, ".draft-4"))
+    os.symlink("0000000000000001", os.path.join(place, ".parked-0000000000000007"))
+    for name in (b"\xff\xfe", b"000000000000000\xff", b".draft-\xff", b"000000000000007", b"00000000000000007", b"000000000000000A",
+                 b"000000000000000g", b" 000000000000007", b"000000000000007\n", b".draft-", b".draft-05", b".draft-5x", b".draft--5",
+                 b".draft-18446744073709551616", b".parked-000000000000007", b".parked-00000000000000007", b"draft-5", b"..draft-5",
+                 b"0000000000000007.old", b"notes"):
+        with open(os.path.join(place.encode(), name), "wb") as file:
+            file.write(b"mine")
+
+
+def passes_over_strangers(program, folder):
+    spool = os.path.join(folder, "strange")
+    ask(program, spool, ["put block 1 5", "put index 1 6"])
+    for name in ("PKT0", "IDX0"):
+        make_strangers(os.path.join(spool, name))
+    pathlib.Path(spool, "PKT0", ".parked-0000000000000001").write_bytes(b"mine")
+    there = {path: os.lstat(os.path.join(spool, path)).st_ino for path in files(spool)}
+    yield "there are many of them", len(there) == 2 + 2 * 27 + 1, len(there)
+    got = ask(program, spool, ["list", "put block 8 5", "flush block", "list", "remove block 8", "faults"])
+    want = ["block 1", "index 1", "ok", "ok", "ok", "block 1", "block 8", "index 1", "ok", "ok", "0"]
+    yield "a list has the files of a shelf alone", got == want, got
+    left = {path: os.lstat(os.path.join(spool, path)).st_ino for path in files(spool)}
+    yield "what is no file of a shelf is left alone", left == there, left
+    got = ask(program, spool, ["put index 2 5", "put block 3 5", "read block 1", "read index 1", "list", "faults"])
+    yield "names are put over links, which are not followed", got[:4] == ["ok", "ok", "5 bytes", "6 bytes"] and got[-1] == "0", got
+    yield "the file that a link named is as it was", files(spool)["IDX0/0000000000000001"] == 6, files(spool)
+
+
+def makes_new_drafts(program, folder):
+    """A file that somebody puts under the next draft's name is neither written nor removed."""
+    spool = os.path.join(folder, "drafts")
+    session = Session(program, spool)
+    session.ask("put block 1 5")
+    foreign = pathlib.Path(spool, "PKT0", ".draft-1")
+    foreign.write_bytes(b"mine")
+    got = [session.ask(call) for call in ("put block 2 5", "put block 2 5", "faults")]
+    session.end()
+    yield "a draft is never written over another file", got == ["failed: create", "ok", "1"], got
+    yield "that file is left", foreign.read_bytes() == b"mine", foreign.read_bytes()
+
+
+def keeps_its_lock_after_a_fault(program, folder):
+    spool = os.path.join(folder, "faulty")
+    first = Session(program, spool)
+    got = [first.ask(call) for call in ("put block 1 5", "read block 2", "hide 3", "faults")]
+    yield "two calls fail", got == ["ok", "failed", "failed", "2"], got
+    got = ask(program, spool, ["put block 4 5", "list", "faults"])
+    yield "a second program is refused after faults of the first", got == ["failed: create", "failed", "2"], got
+    got = [first.ask(call) for call in ("put block 5 5", "faults")]
+    first.end()
+    yield "the first goes on", got == ["ok", "2"], got
+
+
 CALLS = ["put block 1 100000", "flush block", "list", "remove block 1", "read block 1", "hide 1", "faults"]
 REFUSED = ["failed: create", "failed", "failed", "failed", "failed", "failed", "6"]
 
@@ -152,7 +254,7 @@ def lacks_rights(program, folder):
     calls = ["put block 1 5", "hide 7", "remove block 7", "list", "faults"]
     got = ask(program, spool, calls, as_nobody)
     want = ["failed: create", "failed", "failed", "block 7", "index 7", "ok", "3"]
-    yield "folders that may be read alone", got == want and files(spool) == was, (got, files(spool))
+    yield "read-only folders", got == want and files(spool) == was, (got, files(spool))
     for path in (".", "PKT0", "IDX0"):
         os.chmod(os.path.join(spool, path), 0o755)
 
@@ -177,28 +279,32 @@ def mounted(program, options, folder, calls, then=""):
 
 def other_file_systems(program, folder):
     if shutil.which("unshare") is None:
-        print("left out: a full file system and one that may be read alone (no unshare)")
+        print("left out: a full file system and a read-only one (no unshare)")
         return
     calls = ["put index 1 4000", "put block 1 200000", "list", "put block 2 4000", "list", "faults"]
     got = mounted(program, "size=64k", os.path.join(folder, "full"), calls)
     if got is None:
-        print("left out: a full file system and one that may be read alone (no mount of one's own)")
+        print("left out: a full file system and a read-only one (no mount of one's own)")
         return
     want = ["ok", "failed: write", "index 1", "ok", "ok", "block 2", "index 1", "ok", "1"]
     yield "a full file system", got == want, got
     got = mounted(program, "ro", os.path.join(folder, "fixed"), CALLS)
-    yield "a file system that may be read alone", got == REFUSED, got
+    yield "a read-only file system", got == REFUSED, got
     calls = ["list", "put block 2 5", "flush block", "hide 1", "remove index 1", "list", "faults"]
     then = 'echo "put index 1 5" | "$1" "$2" >/dev/null; mount -o remount,ro "$2" || exit 77;'
     got = mounted(program, "size=64k", os.path.join(folder, "later"), calls, then)
     want = ["index 1", "ok", "failed: create", "ok", "failed", "failed", "index 1", "ok", "3"]
-    yield "a spool that may be read alone", got == want, got
+    yield "a spool that becomes read-only", got == want, got
+
+
+GROUPS = [keeps_files, keeps_great_stamps, reads_at_great_places, keeps_parked_files, passes_over_strangers, makes_new_drafts,
+          keeps_its_lock, keeps_its_lock_after_a_fault, meets_a_file, lacks_rights, meets_a_full_disk, other_file_systems]
 
 
 def cases(folder):
     os.chmod(folder, 0o755)
     program = build(folder)
-    for group in (keeps_files, keeps_its_lock, meets_a_file, lacks_rights, meets_a_full_disk, other_file_systems):
+    for group in GROUPS:
         place = os.path.join(folder, group.__name__)
         os.mkdir(place)
         yield from group(program, place)

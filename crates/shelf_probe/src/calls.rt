@@ -31,6 +31,11 @@ pub(crate) fn answer(
             Some(name) => read(alloc, shelf, name),
             None => unknown(alloc),
         },
+        ["show", place, length, name @ ..] => show_words(alloc, shelf, place, length, name),
+        ["age", stamp] => match stamp.parse() {
+            Ok(stamp) => age(alloc, shelf, stamp),
+            Err(_) => unknown(alloc),
+        },
         ["list"] => list(alloc, shelf),
         ["faults"] => {
             let faults = shelf.fault_count();
@@ -123,6 +128,55 @@ fn read(alloc: Global, shelf: &mut RealShelf, name: Name) -> Result<String, Allo
     match read {
         Ok(length) => format!(in alloc; "{length} bytes\n"),
         Err(Failed) => String::from_str(alloc, "failed: read\n"),
+    }
+}
+
+fn show_words(
+    alloc: Global,
+    shelf: &mut RealShelf,
+    place: &str,
+    length: &str,
+    name: &[&str],
+) -> Result<String, AllocError> {
+    let (Ok(place), Ok(length), Some(name)) = (place.parse(), length.parse::<u32>(), name_of(name))
+    else {
+        return unknown(alloc);
+    };
+    let mut part = vec![in alloc; 0; length as usize]?;
+    match read_part(shelf, name, place, &mut part) {
+        Ok(taken) => match str::from_utf8(part.as_slice().get(..taken).unwrap_or(b"")) {
+            Ok(text) => format!(in alloc; "{text}\n"),
+            Err(_) => String::from_str(alloc, "no text\n"),
+        },
+        Err(Failed) => String::from_str(alloc, "failed\n"),
+    }
+}
+
+// Reads from a place of a file by one read, and answers how many bytes came.
+fn read_part(
+    shelf: &mut RealShelf,
+    name: Name,
+    place: u64,
+    part: &mut [u8],
+) -> Result<usize, Failed> {
+    let mut file = shelf.reader(name)?;
+    let taken = file.read_at(place, part);
+    shelf.close(file);
+    taken
+}
+
+// Lets an index leave the file set and the disk while it is lent, and reads it after that.
+fn age(alloc: Global, shelf: &mut RealShelf, stamp: u64) -> Result<String, AllocError> {
+    let Ok(mut file) = shelf.reader(Name::Index(stamp)) else {
+        return String::from_str(alloc, "failed\n");
+    };
+    let hidden = shelf.hide(stamp);
+    let removed = shelf.remove(Name::Parked(stamp));
+    let read = read_all(&mut file);
+    shelf.close(file);
+    match (hidden, removed, read) {
+        (Ok(()), Ok(()), Ok(length)) => format!(in alloc; "{length} bytes\n"),
+        _ => String::from_str(alloc, "failed\n"),
     }
 }
 

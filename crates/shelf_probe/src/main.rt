@@ -1,13 +1,15 @@
 //! Tries a folder as a spool's: makes one call of the shelf for each line of standard input, and
 //! prints what it answers.
 //!
-//! The one word is the folder. A call that is done prints `ok`, one that failed `failed`, any other
-//! line `?`. Stamps, numbers and lengths are decimal.
+//! The one argument is the folder. A call that is done prints `ok`, one that failed `failed`, any
+//! other line `?`. Stamps, numbers, places and lengths are decimal.
 //!
-//! - `put KIND STAMP LENGTH` makes a draft, writes so many bytes `x`, seals it and settles it under
-//!   its name; where one of the four fails it is named, and the draft is given up.
+//! - `put KIND STAMP LENGTH` makes a draft, writes this many bytes `x`, seals it and settles it under
+//!   its name; if one of the four fails it is named, and the draft is given up.
 //! - `flush KIND`, `hide STAMP`, `remove NAME`.
 //! - `list` prints each name, a line each; `read NAME` prints how many bytes were read.
+//! - `show PLACE LENGTH NAME` prints what one read of at most this many bytes gives, as text.
+//! - `age STAMP` lends the index, hides it, removes it, and prints how many bytes are then read of it.
 //! - `faults` prints how often the shelf failed.
 //!
 //! A KIND is `block` or `index`. A NAME is `block STAMP`, `index STAMP`, `parked STAMP` or

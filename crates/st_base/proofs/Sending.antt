@@ -11,7 +11,6 @@ pub prefix_trans : (xs ys zs : List ℕ) → IsPrefix xs ys → IsPrefix ys zs �
 prefix_trans xs ys zs (m, e) (n, f) = (m ++ n, f ∙ (ap (λ k. k ++ n) e ∙ append_assoc xs m n))
 
 module _ {S : Type 0} (after : S → List ℕ → S) (gone : S → List ℕ) (grows : (s : S) (bytes : List ℕ) → IsPrefix (gone s) (gone (after s bytes))) where
-
   -- what has gone out stays out
   pub grows_all : (s : S) (ps : List (List ℕ)) → IsPrefix (gone s) (gone (fold after s ps))
   grows_all s [] = ([], sym (append-nil (gone s)))

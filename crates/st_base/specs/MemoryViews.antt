@@ -47,18 +47,18 @@ abbrev pub GivesOrFails : {E : Type 0} → SourceView → SourceView → List �
 GivesOrFails old new out result =
     MatchResult result
     (λ n. (Contains old.fails old.calls → ⊥)
-        × (n ≡ min (length old.left) (min (length out) old.piece))
-        × (new ≡ record old { left = drop n old.left; calls = next_count old.calls }))
+    × (n ≡ min (length old.left) (min (length out) old.piece))
+    × (new ≡ record old { left = drop n old.left; calls = next_count old.calls }))
     (λ _. Contains old.fails old.calls
-        × (new ≡ record old { calls = next_count old.calls; faults = next_count old.faults }))
+    × (new ≡ record old { calls = next_count old.calls; faults = next_count old.faults }))
 
 -- the call takes all, or it fails, as it does if its number is listed or it is out of memory
 abbrev pub TakesOrFails : {E : Type 0} → SinkView → SinkView → List ℕ → Result ℕ E → Type 0
 TakesOrFails old new bytes result =
     MatchResult result
     (λ n. (Contains old.fails old.calls → ⊥)
-        × (n ≡ length bytes)
-        × (new ≡ record old { written = old.written ++ bytes; calls = next_count old.calls }))
+    × (n ≡ length bytes)
+    × (new ≡ record old { written = old.written ++ bytes; calls = next_count old.calls }))
     (λ _. new ≡ record old { calls = next_count old.calls; faults = next_count old.faults })
 
 -- a file after a read that asked for this many bytes
@@ -71,4 +71,4 @@ ReadsOrFails old new out result =
     MatchResult result
     (λ n. (Contains old.fails old.reads → ⊥) × (new ≡ read_once old (length out)))
     (λ _. Contains old.fails old.reads
-        × (new ≡ record (read_once old (length out)) { faults = next_count old.faults }))
+    × (new ≡ record (read_once old (length out)) { faults = next_count old.faults }))

@@ -6,17 +6,15 @@ use crate::file_reader::PlacedBytes;
 use crate::memory::copy_at;
 use crate::{
     Clock, Failed, FileReader, MachineClock, MemClock, MemReader, MemSink, MemSource, Octets,
-    Outlet, Plain, Reader, Record, Sink, SliceReader, Source, StreamSink, StreamSource,
-    SureSource, put, read_whole,
+    Outlet, Plain, Reader, Record, Sink, SliceReader, Source, StreamSink, StreamSource, SureSource,
+    put, read_whole,
 };
 use std::fs::File;
 use std::io::{self, ErrorKind, Read, Write};
 use std::test::Fail;
 
 #[test]
-fn a_source_gives_its_bytes_in_pieces_and_fails_when_made_to(
-    rt: HostRuntime,
-) -> Result<(), Fail> {
+fn a_source_gives_its_bytes_in_pieces_and_fails_when_made_to(rt: HostRuntime) -> Result<(), Fail> {
     let mut source = MemSource::over(rt.alloc(), b"abcde", 2, &[1])?;
     let mut out = [0; 4];
     assert_eq!(rt; source.read(&mut out), Ok(2));
@@ -194,7 +192,12 @@ fn a_file_is_read_at_places(rt: HostRuntime) -> Result<(), Fail> {
     assert_eq!(rt; (slice.size(), slice.read_at(1, &mut out)), (3, Ok(2)));
     assert_eq!(rt; out.as_slice(), b"bc56".as_slice());
     // A file that is shorter than its reader was told fails past its end.
-    let mut short = FileReader::over(Held { bytes: b"0123456789" }, 12);
+    let mut short = FileReader::over(
+        Held {
+            bytes: b"0123456789",
+        },
+        12,
+    );
     assert_eq!(rt; short.read_at(6, &mut out), Ok(4));
     assert_eq!(rt; out.as_slice(), b"6789".as_slice());
     assert_eq!(rt; short.read_at(7, &mut out), Err(Failed));

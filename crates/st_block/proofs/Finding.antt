@@ -1,8 +1,8 @@
 -- What is read at the position of a record of a file.
-use Rattle.std.proofs.Common.{◌≡◌, ℕ, ◌+◌, ◌-◌, ◌<◌, ◌≤◌, ◌^◌, cond, List, [], ◌∷◌, ◌++◌, length, length-append, take, drop, Option, Some, None, Result, Ok, Err, refl, sym, ap, ◌∙◌, subst, arith, append_assoc, inl, inr}
-use Rattle.std.specs.Prelude.{replicate}
+use Rattle.std.proofs.Common.{◌≡◌, ℕ, ◌+◌, ◌-◌, ◌<◌, ◌≤◌, ◌^◌, cond, List, [], ◌∷◌, ◌++◌, length, length-append, get_or, take, drop, Option, Some, None, Result, Ok, Err, refl, sym, ap, ◌∙◌, subst, arith, append_assoc, inl, inr}
+use Rattle.std.specs.Prelude.{replicate, option_map}
 use Rattle.std.proofs.lemmas.Bool.{le-ltb}
-use Rattle.std.proofs.lemmas.Option.{none-some, get_or_from_slice_get, slice_get_within}
+use Rattle.std.proofs.lemmas.Option.{none-some, get_or_from_slice_get, slice_get_within, slice_get-map}
 use Rattle.std.proofs.lemmas.List.{drop_at, take_at, drop-drop}
 use Rattle.byteorder.specs.Endian.{little_number}
 use Rattle.byteorder.specs.Numbers.{little_number-reads_back}
@@ -16,6 +16,8 @@ use Rattle.st_block.specs.declared.errors.HeadErr.{HeadErr}
 use Rattle.st_block.specs.declared.errors.HeadErr.TheVariants as head_err
 use Rattle.st_block.specs.declared.errors.BlockErr.{BlockErr}
 use Rattle.st_block.specs.declared.errors.BlockErr.TheVariants as block_err
+use Rattle.st_block.specs.Scan.{PositionedRecord, positions_in, records_in}
+use Rattle.st_block.specs.Laws.{GivenRecords, RecordBytes}
 use Rattle.st_block.proofs.Texts.{length-text}
 use Rattle.st_block.proofs.Standing.{Part, record_split, size_head, in_file}
 
@@ -186,3 +188,38 @@ body_found content size position len (Err (block_err.Damaged d)) known outside r
     none-some (damage_view d) (sym whole ∙ outside)
 body_found content size position len (Err block_err.ReadFault) known gives r s e = tt
 body_found content size position len (Err block_err.NoMemory) known gives r s e = tt
+
+-- the head and the body of a record lie at its position of its file
+pub record_bytes : RecordBytes
+record_bytes bytes position r s =
+    let f = found (Some bytes) position r s in
+    let same : f.bytes ≡ bytes = cc (f.known) in
+    let head : take 48 (drop position bytes) ≡ text (record_head f.laid.next r) = ap (λ (b : List ℕ). take 48 (drop position b)) (sym same) ∙ head_there f.bytes position r f.laid in
+    let n : r.nsec < 256 ^ 4 = let h = f.range.nsec in omega (arith, h) in
+    record {
+      inside = subst (λ (b : List ℕ). position + 48 + length r.body ≤ length b) same (lies_inside f.bytes position r f.laid);
+      range = f.range;
+      head = record {
+        sec = ap (λ l. little_number 4 (drop 4 l)) head ∙ number_of_sec f.laid.next r f.range.sec;
+        nsec = ap (λ l. little_number 4 (drop 8 l)) head ∙ number_of_nsec f.laid.next r n;
+        len = ap (λ l. little_number 4 (drop 12 l)) head ∙ number_of_len f.laid.next r f.range.body;
+        orig = ap (λ l. little_number 4 (drop 16 l)) head ∙ number_of_orig f.laid.next r f.range.orig;
+      };
+      body = ap (λ (b : List ℕ). take (length r.body) (drop (position + 48) b)) (sym same) ∙ body_there f.bytes position r f.laid;
+    }
+
+-- the records of a file are each at the position that a scan gives
+pub given_records : GivenRecords
+given_records bytes given i x is e =
+    let item = slice_get-map (λ (y : PositionedRecord). y.1) given i ∙ ap (option_map (λ (y : PositionedRecord). y.1)) e in
+    let there = slice_get-map (λ (y : PositionedRecord). y.0) given i ∙ ap (option_map (λ (y : PositionedRecord). y.0)) e in
+    let at = get_or_from_slice_get (positions_in given) i x.0 0 there in
+    record {
+      size = is.size;
+      records = records_in given;
+      whole = is.file;
+      known = ap (λ (b : List ℕ). Some b) (sym is.text);
+      number = i;
+      item = item;
+      at = sym (ap (λ (l : List ℕ). get_or l i 0) is.heads ∙ at);
+    }

@@ -8,7 +8,7 @@ use Rattle.byteorder.specs.Numbers.{little_number-reads_back}
 use Rattle.st_base.specs.Records.{Rec, InRange}
 use Rattle.st_block.specs.Fields.{text}
 use Rattle.st_block.specs.BlockText.{padded_len, room, used_bytes, record_head, record_fields, distance, records_fields, block_head, head_of_block, block_text, blocks, blocks_text, BlockText, AreFilled, HasFile}
-use Rattle.st_block.specs.Laws.{OneFile}
+use Rattle.st_block.specs.Laws.{OneBlock, OneFile}
 use Rattle.st_block.proofs.Texts.{text-append, length-text}
 use Rattle.st_block.proofs.Rooms.{all_first, all_more, flat_blocks, file_fills}
 use Rattle.st_block.proofs.Standing.{size_head, length_record, record_split, block_split, size_block_head, length_block}
@@ -186,3 +186,13 @@ one_file size other rs qs a b same =
     let sizes : size ≡ other = sym (size_of_file size rs a) ∙ ap (λ l. little_number 4 (drop 4 l)) same ∙ size_of_file other qs b in
     let there = subst (λ n. HasFile n qs) (sym sizes) b in
     (sizes, same_records size rs qs a there (same ∙ ap (λ n. BlockText n qs) (sym sizes)))
+
+-- a builder's bytes are those of one list of records
+pub one_block : OneBlock
+one_block view rs qs a b range other =
+    let xs : List ℕ = replicate (view.size - view.used) 0 in
+    let count : length rs ≡ length qs = sym a.count ∙ b.count in
+    let left = drop_at a.head (text (records_fields rs) ++ xs) 48 a.head_size in
+    let right = drop_at b.head (text (records_fields qs) ++ xs) 48 b.head_size in
+    let same : text (records_fields rs) ++ xs ≡ text (records_fields qs) ++ xs = sym left ∙ ap (drop 48) (sym a.bytes ∙ b.bytes) ∙ right in
+    records_same rs qs xs xs count range other same

@@ -1,8 +1,11 @@
 -- Laws of block files, which the functions of `laws` ensure.
-use Rattle.std.specs.Prelude.{◌≡◌, ℕ, ◌*◌, ◌^◌, ◌<◌, List, ◌++◌, length, None}
-use Rattle.st_base.specs.Records.{Rec}
+use Rattle.std.specs.Prelude.{◌≡◌, ℕ, ◌*◌, ◌^◌, ◌<◌, List, ◌++◌, length, All, Some, None}
+use Rattle.std.specs.List.{slice_get}
+use Rattle.st_base.specs.Records.{Rec, InRange}
 use Rattle.st_block.specs.BlockText.{blocks, BlockText, HasFile}
 use Rattle.st_block.specs.Position.{PositionOf}
+use Rattle.st_block.specs.Builder.{BlockBuilderView, HoldsRecords}
+use Rattle.st_block.specs.Record.{IsRecordAt, HasRecordAt}
 use Rattle.st_block.specs.Checks.{file_wrong}
 use Rattle.st_block.specs.Scan.{PositionedRecord, IsFile}
 
@@ -33,3 +36,15 @@ FileUnhurt = (bytes : List ℕ) (given : List PositionedRecord) → IsFile bytes
 -- the bytes of a file are the text of one list of records only, at one list of positions
 abbrev pub OneGiven : Type 0
 OneGiven = (bytes : List ℕ) (xs ys : List PositionedRecord) → IsFile bytes xs → IsFile bytes ys → xs ≡ ys
+
+-- a scan that gives all records of a file gives each at its position
+abbrev pub GivenRecords : Type 0
+GivenRecords = (bytes : List ℕ) (given : List PositionedRecord) (i : ℕ) (x : PositionedRecord) → IsFile bytes given → slice_get given i ≡ Some x → IsRecordAt (Some bytes) x.0 x.1
+
+-- the head and the body of a record lie at its position of its file
+abbrev pub RecordBytes : Type 0
+RecordBytes = (bytes : List ℕ) (position : ℕ) (r : Rec) → IsRecordAt (Some bytes) position r → HasRecordAt bytes position r
+
+-- a builder holds one list of records in range only
+abbrev pub OneBlock : Type 0
+OneBlock = (view : BlockBuilderView) (rs qs : List Rec) → HoldsRecords view rs → HoldsRecords view qs → All InRange rs → All InRange qs → rs ≡ qs

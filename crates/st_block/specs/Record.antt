@@ -1,9 +1,9 @@
 -- What reading one record at its position gives.
-use Rattle.std.specs.Prelude.{◌≡◌, ℕ, ◌+◌, ◌-◌, ◌≤◌, ◌⊎◌, min, Option, None, Some, Result, Ok, Err, List, [], ◌∷◌, length, drop, nat_lt, if◌then◌else◌}
+use Rattle.std.specs.Prelude.{◌≡◌, ℕ, ◌+◌, ◌-◌, ◌≤◌, ◌⊎◌, min, Option, None, Some, Result, Ok, Err, List, length, take, drop, nat_lt, if◌then◌else◌}
 use Rattle.std.specs.Option.{option_or}
 use Rattle.std.specs.List.{slice_get}
 use Rattle.byteorder.specs.Endian.{little_number}
-use Rattle.st_base.specs.Records.{Rec}
+use Rattle.st_base.specs.Records.{Rec, InRange}
 use Rattle.st_base.specs.PlacedReads.{HasPart}
 use Rattle.st_base.specs.Damages.{DamageView, damage_view}
 use Rattle.st_block.specs.Fields.{not_same, above}
@@ -102,3 +102,14 @@ GivesBodyOf r (Ok body) = body ≡ r.body
 GivesBodyOf r (Err (block_err.Damaged d)) = ⊥
 GivesBodyOf r (Err block_err.ReadFault) = Unit {0}
 GivesBodyOf r (Err block_err.NoMemory) = Unit {0}
+
+-- the head of a record, without its body
+abbrev pub head_of : Rec → Head
+head_of r = record { sec = r.sec; nsec = r.nsec; len = length r.body; orig = r.orig }
+
+-- the head and the body of a record in range lie at this position of some bytes
+pub record HasRecordAt (bytes : List ℕ) (position : ℕ) (r : Rec) : Type 0 where
+  pub inside : position + RECORD_HEAD + length r.body ≤ length bytes
+  pub range : InRange r
+  pub head : IsHead (take RECORD_HEAD (drop position bytes)) (head_of r)
+  pub body : take (length r.body) (drop (position + RECORD_HEAD) bytes) ≡ r.body

@@ -1,6 +1,6 @@
 //! Laws of the definitions. These functions do nothing; what they ensure is what counts.
 
-ghost use Rattle.st_block.specs.Laws.{FileLength, FileUnhurt, OneFile, OneGiven, PositionsFit, PositionsRise, PositionsStay};
+ghost use Rattle.st_block.specs.Laws.{FileLength, FileUnhurt, GivenRecords, OneBlock, OneFile, OneGiven, PositionsFit, PositionsRise, PositionsStay, RecordBytes};
 
 /// A file has as many bytes as its blocks have.
 pub fn file_length()
@@ -35,4 +35,19 @@ pub fn file_unhurt()
 /// The bytes of a file are the text of one list of records only, at one list of positions.
 pub fn one_given()
     ensures { OneGiven }
+{}
+
+/// The records that a scan gives of a whole file are each at its position.
+pub fn given_records()
+    ensures { GivenRecords }
+{}
+
+/// At the position of a record of a file lie the bytes of its head and of its body.
+pub fn record_bytes()
+    ensures { RecordBytes }
+{}
+
+/// A builder holds one list of records in range only.
+pub fn one_block()
+    ensures { OneBlock }
 {}

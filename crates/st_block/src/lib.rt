@@ -51,8 +51,9 @@ mod tests;
 pub use builder::BlockBuilder;
 pub use errors::{BlockErr, HeadErr};
 pub use laws::{
-    file_length, file_unhurt, one_file, one_given, positions_fit, positions_rise, positions_stay,
+    file_length, file_unhurt, given_records, one_block, one_file, one_given, positions_fit,
+    positions_rise, positions_stay, record_bytes,
 };
 pub use position::position_in;
-pub use record::{Head, record_body_at, record_head_at};
+pub use record::{Head, record_body_at, record_body_into, record_head_at};
 pub use scan::Scan;

@@ -1,7 +1,8 @@
-ghost use Rattle.std.specs.Prelude.{◌≡◌, ◌≤◌, ◌<◌, ◌+◌, ◌*◌, ◌-◌, ℕ, List, length, drop, Err, IfOk, IfErr, option_map, vec_len, MatchOption};
+ghost use Rattle.std.specs.Prelude.{◌≡◌, ◌≤◌, ◌<◌, ◌+◌, ◌*◌, ◌-◌, length, Ok, IfOk, IsErrOf, option_map, vec_capacity};
+ghost use Rattle.std.specs.Result.{result_and};
 ghost use Rattle.st_base.specs.Records.{Rec};
-ghost use Rattle.st_base.specs.Faults.{CountsOn, Rose, HasCauseOf};
-ghost use Rattle.st_base.specs.PlacedReads.{HasPart};
+ghost use Rattle.st_base.specs.Faults.{CountsOn, HasCauseOf};
+ghost use Rattle.st_base.specs.PlacedReads.{IsSameFile};
 ghost use Rattle.st_base.specs.Damages.{damage_view};
 ghost use Rattle.st_block.specs.Record.{head_outside, body_outside, record_outside, head_wrong, IsHead, GivesHead, GivesBody, head_reads, body_reads, IsRecordAt, GivesHeadOf, GivesBodyOf};
 
@@ -11,7 +12,7 @@ use crate::format::{
     BODY_AGAIN_AT, BODY_AT, LEN_AT, MAX_NSEC, NSEC_AT, ORIG_AT, RECORD_HEAD, RECORD_STATUS,
     RECORD_STATUS_AT, SEC_AT,
 };
-use st_base::{Damage, NoMemory, Octets, Reader, read_whole};
+use st_base::{Damage, Octets, Reader, read_whole};
 use std::alloc::Global;
 
 /// A record without its body: its time in seconds since 1970 and nanoseconds, below 10^9, and its
@@ -97,12 +98,14 @@ fn head_of(head: &[u8]) -> Head
 fn read_head<R: Reader>(file: &mut R, position: u32) -> Result<Head, HeadErr>
     requires { position + RECORD_HEAD ≤ R.extent file.old }
     ensures gives { GivesHead (R.content file.old) (R.extent file.old) position result }
+    ensures below { IfOk result (λ h. h.nsec ≤ MAX_NSEC) }
     ensures cause { HasCauseOf HeadErr.ReadFault (R.faults file.old) (R.faults file.new) result }
+    // what the file was asked
     ensures reads { CountsOn (R.reads file.old) (R.reads file.new) 1 }
     ensures asked { CountsOn (R.asked file.old) (R.asked file.new) RECORD_HEAD }
-    ensures content { R.content file.new ≡ R.content file.old }
-    ensures extent { R.extent file.new ≡ R.extent file.old }
-    ensures rest { R.beside file.new ≡ R.beside file.old }
+    // what stays
+    ensures same { IsSameFile (R.content file.old) (R.content file.new)
+        (R.extent file.old) (R.extent file.new) (R.beside file.old) (R.beside file.new) }
 {
     let size = file.size();
     let mut head = [0; RECORD_HEAD];
@@ -118,23 +121,24 @@ fn read_head<R: Reader>(file: &mut R, position: u32) -> Result<Head, HeadErr>
 /// Reads the head of the record at `position`, an offset in `file` in bytes, by one read of 48
 /// bytes. It takes no memory.
 ///
-/// `Damaged` comes where the head would pass the file's end, and then nothing is read; where its
-/// status, one of the two offsets of its body or its nanoseconds break the layout; or where the
-/// body would pass the file's end. It has the place of the first of these, in this order.
-/// `ReadFault` comes only where `file` failed in this call.
+/// `Damaged` is the first damage, in this order: the head passes the file's end, and then nothing
+/// is read; its status, one of the two offsets of its body or its nanoseconds break the layout; the
+/// body passes the file's end. `ReadFault` comes only if `file` failed in this call.
 /// Source: docs/FORMAT.md, "Block file".
 pub fn record_head_at<R: Reader>(file: &mut R, position: u32) -> Result<Head, HeadErr>
     // what comes
     ensures gives { GivesHead (R.content file.old) (R.extent file.old) position result }
     ensures whole { (r : Rec) → IsRecordAt (R.content file.old) position r → GivesHeadOf r result }
+    ensures below { IfOk result (λ h. h.nsec ≤ MAX_NSEC) }
     ensures cause { HasCauseOf HeadErr.ReadFault (R.faults file.old) (R.faults file.new) result }
     // what the file was asked
-    ensures reads { CountsOn (R.reads file.old) (R.reads file.new) (head_reads (R.extent file.old) position) }
-    ensures asked { CountsOn (R.asked file.old) (R.asked file.new) (RECORD_HEAD * head_reads (R.extent file.old) position) }
+    ensures reads { CountsOn (R.reads file.old) (R.reads file.new)
+        (head_reads (R.extent file.old) position) }
+    ensures asked { CountsOn (R.asked file.old) (R.asked file.new)
+        (RECORD_HEAD * head_reads (R.extent file.old) position) }
     // what stays
-    ensures content { R.content file.new ≡ R.content file.old }
-    ensures extent { R.extent file.new ≡ R.extent file.old }
-    ensures rest { R.beside file.new ≡ R.beside file.old }
+    ensures same { IsSameFile (R.content file.old) (R.content file.new)
+        (R.extent file.old) (R.extent file.new) (R.beside file.old) (R.beside file.new) }
 {
     match head_outside(file.size(), position) {
         Some(damage) => Err(HeadErr::Damaged(damage)),
@@ -153,51 +157,83 @@ fn record_outside(size: u64, position: u32, len: u32) -> Option<Damage>
     }
 }
 
-/// `len` zeros, in one allocation.
-fn zeros(alloc: Global, len: u32) -> Result<Vec<u8>, NoMemory>
-    ensures { IfOk result (λ v. vec_len v ≡ len) }
-{
-    Ok(vec![in alloc; 0; len as usize]?)
-}
-
 /// Reads a body of `len` bytes after the head at a position at which both lie in the file.
 fn read_body<R: Reader>(
-    alloc: Global,
     file: &mut R,
     position: u32,
     len: u32,
-) -> Result<Octets, BlockErr>
+    body: &mut Vec<u8>,
+) -> Result<(), BlockErr>
     requires { position + RECORD_HEAD + len ≤ R.extent file.old }
-    ensures gives { GivesBody (R.content file.old) (R.extent file.old) position len result }
+    // what comes
+    ensures gives { GivesBody (R.content file.old) (R.extent file.old) position len
+        (result_and result (Ok body.new.items)) }
+    ensures memory { IsErrOf result BlockErr.NoMemory → vec_capacity body.old < len }
     ensures cause { HasCauseOf BlockErr.ReadFault (R.faults file.old) (R.faults file.new) result }
-    ensures reads { CountsOn (R.reads file.old) (R.reads file.new) (body_reads len result) }
-    ensures asked { CountsOn (R.asked file.old) (R.asked file.new) (len * body_reads len result) }
-    ensures content { R.content file.new ≡ R.content file.old }
-    ensures extent { R.extent file.new ≡ R.extent file.old }
-    ensures rest { R.beside file.new ≡ R.beside file.old }
+    // what the file was asked
+    ensures reads { CountsOn (R.reads file.old) (R.reads file.new)
+        (body_reads len (result_and result (Ok body.new.items))) }
+    ensures asked { CountsOn (R.asked file.old) (R.asked file.new)
+        (len * body_reads len (result_and result (Ok body.new.items))) }
+    // what stays
+    ensures same { IsSameFile (R.content file.old) (R.content file.new)
+        (R.extent file.old) (R.extent file.new) (R.beside file.old) (R.beside file.new) }
 {
-    let mut body = match zeros(alloc, len) {
-        Ok(body) => body,
+    match body.resize(len as usize, 0) {
+        Ok(()) => {}
         Err(_) => return Err(BlockErr::NoMemory),
-    };
-    if len == 0 {
-        return Ok(Octets::of(body));
     }
-    match read_whole(
-        file,
-        u64::from(position) + RECORD_HEAD as u64,
-        body.as_mut_slice(),
-    ) {
-        Ok(()) => Ok(Octets::of(body)),
+    if len == 0 {
+        return Ok(());
+    }
+    let place = u64::from(position) + RECORD_HEAD as u64;
+    match read_whole(file, place, body.as_mut_slice()) {
+        Ok(()) => Ok(()),
         Err(_) => Err(BlockErr::ReadFault),
     }
 }
 
 /// Reads the body of the record at `position`, an offset in `file` in bytes, whose head was read
-/// there: by one read of `head.len` bytes, and none where that is 0.
+/// there, into `body`: by one read of `head.len` bytes, and none if that is 0. What `body` had is
+/// gone; its memory is used again, and more is taken only if it has not enough.
 ///
-/// `Damaged` comes where the head or the body would pass the file's end, and then nothing is read
-/// and no memory taken. `ReadFault` comes only where `file` failed in this call.
+/// `Damaged` comes if the head or the body passes the file's end; then nothing is read, and no
+/// memory taken. `ReadFault` comes only if `file` failed in this call. After an error, what `body`
+/// has is not said.
+/// Source: docs/FORMAT.md, "Block file".
+pub fn record_body_into<R: Reader>(
+    file: &mut R,
+    position: u32,
+    head: &Head,
+    body: &mut Vec<u8>,
+) -> Result<(), BlockErr>
+    // what comes
+    ensures gives { GivesBody (R.content file.old) (R.extent file.old) position head.now.len
+        (result_and result (Ok body.new.items)) }
+    ensures whole { (r : Rec) → IsRecordAt (R.content file.old) position r
+        → head.now.len ≡ length r.body → GivesBodyOf r (result_and result (Ok body.new.items)) }
+    ensures memory { IsErrOf result BlockErr.NoMemory → vec_capacity body.old < head.now.len }
+    ensures cause { HasCauseOf BlockErr.ReadFault (R.faults file.old) (R.faults file.new) result }
+    // what the file was asked
+    ensures reads { CountsOn (R.reads file.old) (R.reads file.new)
+        (body_reads head.now.len (result_and result (Ok body.new.items))) }
+    ensures asked { CountsOn (R.asked file.old) (R.asked file.new)
+        (head.now.len * body_reads head.now.len (result_and result (Ok body.new.items))) }
+    // what stays
+    ensures same { IsSameFile (R.content file.old) (R.content file.new)
+        (R.extent file.old) (R.extent file.new) (R.beside file.old) (R.beside file.new) }
+{
+    match record_outside(file.size(), position, head.len) {
+        Some(damage) => Err(BlockErr::Damaged(damage)),
+        None => read_body(file, position, head.len, body),
+    }
+}
+
+/// Reads the body of the record at `position`, an offset in `file` in bytes, whose head was read
+/// there: by one read of `head.len` bytes, and none if that is 0. The body is one allocation.
+///
+/// `Damaged` comes if the head or the body passes the file's end; then nothing is read, and no
+/// memory taken. `ReadFault` comes only if `file` failed in this call.
 /// Source: docs/FORMAT.md, "Block file".
 pub fn record_body_at<R: Reader>(
     alloc: Global,
@@ -207,18 +243,20 @@ pub fn record_body_at<R: Reader>(
 ) -> Result<Octets, BlockErr>
     // what comes
     ensures gives { GivesBody (R.content file.old) (R.extent file.old) position head.now.len result }
-    ensures whole { (r : Rec) → IsRecordAt (R.content file.old) position r → head.now.len ≡ length r.body → GivesBodyOf r result }
+    ensures whole { (r : Rec) → IsRecordAt (R.content file.old) position r
+        → head.now.len ≡ length r.body → GivesBodyOf r result }
     ensures cause { HasCauseOf BlockErr.ReadFault (R.faults file.old) (R.faults file.new) result }
     // what the file was asked
     ensures reads { CountsOn (R.reads file.old) (R.reads file.new) (body_reads head.now.len result) }
-    ensures asked { CountsOn (R.asked file.old) (R.asked file.new) (head.now.len * body_reads head.now.len result) }
+    ensures asked { CountsOn (R.asked file.old) (R.asked file.new)
+        (head.now.len * body_reads head.now.len result) }
     // what stays
-    ensures content { R.content file.new ≡ R.content file.old }
-    ensures extent { R.extent file.new ≡ R.extent file.old }
-    ensures rest { R.beside file.new ≡ R.beside file.old }
+    ensures same { IsSameFile (R.content file.old) (R.content file.new)
+        (R.extent file.old) (R.extent file.new) (R.beside file.old) (R.beside file.new) }
 {
-    match record_outside(file.size(), position, head.len) {
-        Some(damage) => Err(BlockErr::Damaged(damage)),
-        None => read_body(alloc, file, position, head.len),
+    let mut body = Vec::new(alloc);
+    match record_body_into(file, position, head, &mut body) {
+        Ok(()) => Ok(Octets::of(body)),
+        Err(error) => Err(error),
     }
 }

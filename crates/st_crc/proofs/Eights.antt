@@ -6,10 +6,11 @@ use Rattle.std.proofs.lemmas.Nat.{xor_comm, xor_shr}
 use Rattle.std.proofs.lemmas.List.{get_or-drop}
 use Rattle.byteorder.specs.Endian.{little_from}
 use Rattle.byteorder.specs.Numbers.{little_from-cons}
-use Rattle.st_crc.specs.Sum.{bits_out, bit_out, behind_byte, crc_over, crc_of}
+use Rattle.st_crc.specs.declared.numbers.TheConstants.{ALL_ONES}
+use Rattle.st_crc.specs.Sum.{bits_out, bit_out, crc_over_byte, crc_over, crc_of}
 use Rattle.st_crc.proofs.Linear.{bits_linear, zeros_out, bits_more, bytes_apart, byte_out}
 
--- a byte in front of a number, against the remainder
+-- a byte before a number, against the remainder
 byte_in : (c b w : ℕ) → b < 256 → bit_xor c (b + 256 * w) ≡ bit_xor (bit_xor c b) (w * 2 ^ 8)
 byte_in c b w l =
     let turned : b + 256 * w ≡ w * 256 + b = omega arith in
@@ -18,16 +19,16 @@ byte_in c b w l =
 
 -- bytes are taken as the number that they spell, lowest first
 pub over_number : (c : ℕ) (bytes : List ℕ) → ((i : ℕ) → slice_index bytes i < 256) → crc_over c bytes ≡ bits_out (8 * length bytes) (bit_xor c (little_from 0 (length bytes) bytes))
-unfolding crc_over bits_out behind_byte
+unfolding crc_over bits_out crc_over_byte
 over_number c [] fits = sym (xor_zero_r c)
 over_number c (b ∷ bytes) fits =
     let n = length bytes in
     let w = little_from 0 n bytes in
     let more : 8 * length (b ∷ bytes) ≡ 8 + 8 * n = omega arith in
     let number : little_from 0 (length (b ∷ bytes)) (b ∷ bytes) ≡ b + 256 * w = ap (λ (x : ℕ). b + 256 * x) (little_from-cons 0 n b bytes) in
-    let tail = over_number (behind_byte c b) bytes (λ i. fits (suc i)) in
-    let eight : bits_out 8 (bit_xor c (b + 256 * w)) ≡ bit_xor (behind_byte c b) w =
-    ap (bits_out 8) (byte_in c b w (fits 0)) ∙ bits_linear 8 (bit_xor c b) (w * 2 ^ 8) ∙ ap (bit_xor (behind_byte c b)) (zeros_out 8 w) in
+    let tail = over_number (crc_over_byte c b) bytes (λ i. fits (suc i)) in
+    let eight : bits_out 8 (bit_xor c (b + 256 * w)) ≡ bit_xor (crc_over_byte c b) w =
+    ap (bits_out 8) (byte_in c b w (fits 0)) ∙ bits_linear 8 (bit_xor c b) (w * 2 ^ 8) ∙ ap (bit_xor (crc_over_byte c b)) (zeros_out 8 w) in
     tail
     ∙ ap (bits_out (8 * n)) (sym eight)
     ∙ sym (bits_more 8 (8 * n) (bit_xor c (b + 256 * w)))
@@ -57,9 +58,9 @@ pub no_bits : (x : ℕ) → bits_out 0 x ≡ x
 unfolding bits_out
 no_bits x = refl
 
--- a byte behind a remainder, by one read
-pub byte_read : (c b : ℕ) → b < 256 → bit_xor (bits_out 8 (bit_xor c b % 256)) (c / 256) ≡ behind_byte c b
-unfolding behind_byte
+-- a byte after a remainder, by one read
+pub byte_read : (c b : ℕ) → b < 256 → bit_xor (bits_out 8 (bit_xor c b % 256)) (c / 256) ≡ crc_over_byte c b
+unfolding crc_over_byte
 byte_read c b l =
     let none_above : b / 256 ≡ 0 = omega arith in
     let high : bit_xor c b / 256 ≡ c / 256 = xor_shr c b 8 ∙ ap (bit_xor (c / 256)) none_above ∙ xor_zero_r (c / 256) in
@@ -72,20 +73,20 @@ unfolding crc_over
 over_none c = refl
 
 -- the first byte, and then the others
-pub over_one : (c b : ℕ) (bytes : List ℕ) → crc_over c (b ∷ bytes) ≡ crc_over (behind_byte c b) bytes
+pub over_one : (c b : ℕ) (bytes : List ℕ) → crc_over c (b ∷ bytes) ≡ crc_over (crc_over_byte c b) bytes
 unfolding crc_over
 over_one c b bytes = refl
 
--- bytes behind bytes
+-- bytes after bytes
 pub over_append : (c : ℕ) (xs ys : List ℕ) → crc_over c (xs ++ ys) ≡ crc_over (crc_over c xs) ys
 unfolding crc_over
 over_append c [] ys = refl
-over_append c (x ∷ xs) ys = over_append (behind_byte c x) xs ys
+over_append c (x ∷ xs) ys = over_append (crc_over_byte c x) xs ys
 
--- what bits are shifted out of a byte behind a remainder
-pub behind_is : (c b : ℕ) → behind_byte c b ≡ bits_out 8 (bit_xor c b)
-unfolding behind_byte
-behind_is c b = refl
+-- the remainder after a byte
+pub over_byte_is : (c b : ℕ) → crc_over_byte c b ≡ bits_out 8 (bit_xor c b)
+unfolding crc_over_byte
+over_byte_is c b = refl
 
 -- one bit more
 pub bits_one : (k c : ℕ) → bits_out (suc k) c ≡ bits_out k (bit_out c)
@@ -93,16 +94,16 @@ unfolding bits_out
 bits_one k c = refl
 
 -- the ends of the sum
-pub of_is : (bytes : List ℕ) → crc_of bytes ≡ bit_xor (crc_over 0xffffffff bytes) 0xffffffff
+pub of_is : (bytes : List ℕ) → crc_of bytes ≡ bit_xor (crc_over ALL_ONES bytes) ALL_ONES
 unfolding crc_of
 of_is bytes = refl
 
--- a front of the bytes, and then what is behind it
+-- a prefix of the bytes, and then what follows it
 pub over_split : (n c : ℕ) (bytes : List ℕ) → crc_over (crc_over c (take n bytes)) (drop n bytes) ≡ crc_over c bytes
 over_split n c bytes = sym (over_append c (take n bytes) (drop n bytes)) ∙ ap (crc_over c) (take-append-drop n bytes)
 
--- the byte at a place, and then what is behind it
-pub over_at : (i c : ℕ) (bytes : List ℕ) → i < length bytes → crc_over (behind_byte c (get_or bytes i 0)) (drop (i + 1) bytes) ≡ crc_over c (drop i bytes)
+-- the byte at an index, and then those after it
+pub over_at : (i c : ℕ) (bytes : List ℕ) → i < length bytes → crc_over (crc_over_byte c (get_or bytes i 0)) (drop (i + 1) bytes) ≡ crc_over c (drop i bytes)
 over_at i c bytes l = sym (over_one c (get_or bytes i 0) (drop (i + 1) bytes)) ∙ ap (crc_over c) (sym (rw (add-one, drop-cons bytes i 0) refl))
 
 -- no bytes are left
@@ -114,15 +115,15 @@ over_end c (b ∷ bytes) e = absurd (omega arith)
 pub over_all : (i c : ℕ) (bytes : List ℕ) → length bytes ≤ i → crc_over c (drop i bytes) ≡ c
 over_all i c bytes l = over_end c (drop i bytes) (simp length-drop (omega arith))
 
--- the sum of bytes behind which a last one stands
-pub of_both : (bytes : List ℕ) (kind state last : ℕ) → state ≡ crc_over 0xffffffff bytes → last ≡ behind_byte state kind → bit_xor last 0xffffffff ≡ crc_of (bytes ++ kind ∷ [])
+-- the sum of bytes and a last one
+pub of_both : (bytes : List ℕ) (kind state last : ℕ) → state ≡ crc_over ALL_ONES bytes → last ≡ crc_over_byte state kind → bit_xor last ALL_ONES ≡ crc_of (bytes ++ kind ∷ [])
 of_both bytes kind state last s l =
-    ap (λ (x : ℕ). bit_xor x 0xffffffff)
+    ap (λ (x : ℕ). bit_xor x ALL_ONES)
     (l
-    ∙ ap (λ (x : ℕ). behind_byte x kind) s
-    ∙ sym (over_none (behind_byte (crc_over 0xffffffff bytes) kind))
-    ∙ sym (over_one (crc_over 0xffffffff bytes) kind [])
-    ∙ sym (over_append 0xffffffff bytes (kind ∷ [])))
+    ∙ ap (λ (x : ℕ). crc_over_byte x kind) s
+    ∙ sym (over_none (crc_over_byte (crc_over ALL_ONES bytes) kind))
+    ∙ sym (over_one (crc_over ALL_ONES bytes) kind [])
+    ∙ sym (over_append ALL_ONES bytes (kind ∷ [])))
     ∙ sym (of_is (bytes ++ kind ∷ []))
 
 -- eight bytes, read as a number and taken into the remainder
@@ -134,7 +135,7 @@ over_word c state word bytes fits size same read =
     ∙ ap (λ (x : ℕ). bits_out 64 (bit_xor state x)) read
     ∙ sym (over_number state bytes fits ∙ all)
 
--- the bytes of a front fit as all do
+-- the bytes of a prefix fit as all do
 front_fits : (n : ℕ) (bytes : List ℕ) → ((i : ℕ) → slice_index bytes i < 256) → (i : ℕ) → slice_index (take n bytes) i < 256
 front_fits zero bytes fits i = omega arith
 front_fits (suc n) [] fits i = fits i

@@ -4,6 +4,7 @@ use Rattle.std.specs.Prelude.{bit_xor, nat_eq, if◌then◌else◌}
 use Rattle.std.specs.Int.Bits.{xor_assoc, xor_zero_l, xor_zero_r}
 use Rattle.std.proofs.lemmas.Nat.{xor_comm, xor_shr, xor_mod, xor_block}
 use Rattle.std.proofs.Math.Nat.{mul-one, pow-suc}
+use Rattle.st_crc.specs.declared.numbers.TheConstants.{POLYNOMIAL}
 use Rattle.st_crc.specs.Sum.{bits_out, bit_out}
 
 -- four parts, the inner two changed over
@@ -15,7 +16,7 @@ regroup a b c d =
 
 -- what a lowest bit takes off
 taken : ℕ → ℕ
-taken bit = if nat_eq bit 0 then 0 else 0x82f63b78
+taken bit = if nat_eq bit 0 then 0 else POLYNOMIAL
 
 -- a number below 2 is 0 or 1
 bit_is : (n : ℕ) → n < 2 → (n ≡ 0) ⊎ (n ≡ 1)

@@ -1,14 +1,14 @@
-//! CRC-32C, the sum that stands behind each block of a table.
+//! CRC-32C, the sum that follows each block of a table.
 //!
 //! A sum is a `u32`. It is the remainder of the bytes modulo the Castagnoli polynomial, lowest bit
 //! first, as RFC 3720 (iSCSI) has it; a table stores it masked, as LevelDB's util/crc32c.h does.
 //!
 //! # What it promises
 //!
-//! - `crc32c` gives the sum of the bytes and the type byte behind them, as `specs/Sum.antt` defines
+//! - `crc32c` gives the sum of the bytes and the type byte after them, as `specs/Sum.antt` defines
 //!   it bit by bit. It takes sixteen bytes a step.
-//! - `crc32c_by_bits` gives the same by the definition's own steps. It is slow, and stands here to
-//!   hold the fast one against.
+//! - `crc32c_by_bits` gives that sum by the definition's own steps. It is slow, and is here for the
+//!   fast one to be compared with.
 //! - `mask` gives the form that is stored.
 //!
 //! None of them takes memory.
@@ -19,9 +19,10 @@
 //!
 //! # Where to read
 //!
-//! `specs/Sum.antt`, then `plain`, `sum` and `tables`.
+//! `specs/Sum.antt`, then `numbers`, `plain`, `sum` and `tables`.
 #![tactic(auto)]
 
+mod numbers;
 mod plain;
 mod sum;
 mod tables;

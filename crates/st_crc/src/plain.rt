@@ -1,20 +1,22 @@
-//! The sum as its definition reads, a bit at a time: what `crc32c` is held against.
+//! The sum as its definition reads, a bit at a time: what `crc32c` is compared with.
 
 ghost use Rattle.std.specs.Prelude.{◌≡◌, ◌≤◌, ◌<◌, ◌^◌, ◌++◌, ◌∷◌, []};
-ghost use Rattle.st_crc.specs.Sum.{bit_out, behind_byte, crc_over, crc_of};
+ghost use Rattle.st_crc.specs.Sum.{bit_out, crc_over_byte, crc_over, crc_of};
+
+use crate::numbers::{ALL_ONES, POLYNOMIAL};
 
 /// The remainder after its lowest bit was shifted out.
 #[tactic(auto, unfolding(crate::specs::Sum::bit_out))]
 fn shift(remainder: u32) -> u32
     ensures { result ≡ bit_out remainder }
 {
-    let polynomial = if remainder % 2 == 0 { 0 } else { 0x82f6_3b78 };
+    let polynomial = if remainder % 2 == 0 { 0 } else { POLYNOMIAL };
     remainder / 2 ^ polynomial
 }
 
-/// The remainder behind one more byte.
-fn behind(remainder: u32, byte: u8) -> u32
-    ensures { result ≡ behind_byte remainder byte }
+/// The remainder after one more byte.
+fn after_byte(remainder: u32, byte: u8) -> u32
+    ensures { result ≡ crc_over_byte remainder byte }
 {
     let mut shifted = remainder ^ u32::from(byte);
     'bits: for _bit in 0..8u8 {
@@ -29,9 +31,9 @@ fn behind(remainder: u32, byte: u8) -> u32
 pub fn crc32c_by_bits(bytes: &[u8], kind: u8) -> u32
     ensures { result ≡ crc_of (bytes.now ++ kind ∷ []) }
 {
-    let mut remainder = 0xffff_ffff;
+    let mut remainder = ALL_ONES;
     'bytes: for byte in bytes {
-        remainder = behind(remainder, *byte);
+        remainder = after_byte(remainder, *byte);
     }
-    behind(remainder, kind) ^ 0xffff_ffff
+    after_byte(remainder, kind) ^ ALL_ONES
 }

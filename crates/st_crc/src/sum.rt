@@ -1,12 +1,13 @@
 //! The sum by slicing by 16: sixteen bytes a step, with a table for each.
 
 ghost use Rattle.std.specs.Prelude.{◌≡◌, ◌≤◌, ◌<◌, ◌^◌, ◌/◌, ◌%◌, ◌*◌, ◌++◌, ◌∷◌, [], length, bit_xor};
-ghost use Rattle.st_crc.specs.Sum.{bits_out, behind_byte, crc_over, crc_of, masked};
+ghost use Rattle.st_crc.specs.Sum.{bits_out, crc_over_byte, crc_over, crc_of, masked};
 
+use crate::numbers::{ALL_ONES, MASK_DELTA, MASK_TURN};
 use crate::tables::TABLES;
 use byteorder::{ByteOrder, LittleEndian};
 
-/// What the bits of so many bytes, 1 to 16, make of the lowest byte of a word.
+/// The lowest byte of a word after the bits of this many bytes, 1 to 16, were shifted out.
 fn lowest_out(bytes: usize, word: u64) -> u32
     requires at_least { 1 ≤ bytes }
     requires at_most { bytes ≤ 16 }
@@ -15,7 +16,7 @@ fn lowest_out(bytes: usize, word: u64) -> u32
     TABLES[bytes - 1][(word % 256) as usize]
 }
 
-/// What the bits of so many bytes, 8 to 16, make of a word.
+/// A word after the bits of this many bytes, 8 to 16, were shifted out.
 ///
 /// Its lowest bytes wait for the remainder of the step before, so they are read last.
 #[inline(always)]
@@ -34,14 +35,14 @@ fn word_out(bytes: usize, word: u64) -> u32
         ^ lowest_out(bytes, word)
 }
 
-/// The remainder behind one more byte.
+/// The remainder after one more byte.
 fn after_byte(state: u32, byte: u8) -> u32
-    ensures { result ≡ behind_byte state byte }
+    ensures { result ≡ crc_over_byte state byte }
 {
     lowest_out(1, u64::from(state ^ u32::from(byte))) ^ (state >> 8)
 }
 
-/// The remainder behind eight bytes.
+/// The remainder after eight bytes.
 fn after_eight(state: u32, eight: &[u8]) -> u32
     requires { length eight.now ≡ 8 }
     ensures { result ≡ crc_over state eight.now }
@@ -50,19 +51,19 @@ fn after_eight(state: u32, eight: &[u8]) -> u32
     word_out(8, word)
 }
 
-/// The remainder behind sixteen bytes.
+/// The remainder after sixteen bytes.
 fn after_sixteen(state: u32, sixteen: &[u8]) -> u32
     requires { length sixteen.now ≡ 16 }
     ensures { result ≡ crc_over state sixteen.now }
 {
-    let (front, back) = sixteen.split_at(8);
-    let first = u64::from(state) ^ LittleEndian::read_u64(front);
-    let second = LittleEndian::read_u64(back);
+    let (low, high) = sixteen.split_at(8);
+    let first = u64::from(state) ^ LittleEndian::read_u64(low);
+    let second = LittleEndian::read_u64(high);
     // The second word waits for no step before, so it goes first.
     word_out(8, second) ^ word_out(16, first)
 }
 
-/// The remainder behind all these bytes, one at a time.
+/// The remainder after all these bytes, one at a time.
 fn after_each(start: u32, bytes: &[u8]) -> u32
     ensures { result ≡ crc_over start bytes.now }
 {
@@ -73,27 +74,27 @@ fn after_each(start: u32, bytes: &[u8]) -> u32
     state
 }
 
-/// The remainder behind all these bytes, of which the first eight are taken in one step.
+/// The remainder after all these bytes, of which the first eight are taken in one step.
 fn after_few(start: u32, bytes: &[u8]) -> u32
     ensures { result ≡ crc_over start bytes.now }
 {
     if bytes.len() < 8 {
         return after_each(start, bytes);
     }
-    let (eight, behind) = bytes.split_at(8);
-    after_each(after_eight(start, eight), behind)
+    let (eight, rest) = bytes.split_at(8);
+    after_each(after_eight(start, eight), rest)
 }
 
-/// The remainder behind all these bytes.
+/// The remainder after all these bytes.
 fn after_bytes(start: u32, bytes: &[u8]) -> u32
     ensures { result ≡ crc_over start bytes.now }
 {
     let mut state = start;
     let mut rest = bytes;
     'sixteens: while rest.len() >= 16 {
-        let (sixteen, behind) = rest.split_at(16);
+        let (sixteen, more) = rest.split_at(16);
         state = after_sixteen(state, sixteen);
-        rest = behind;
+        rest = more;
     }
     after_few(state, rest)
 }
@@ -104,7 +105,7 @@ fn after_bytes(start: u32, bytes: &[u8]) -> u32
 pub fn crc32c(bytes: &[u8], kind: u8) -> u32
     ensures { result ≡ crc_of (bytes.now ++ kind ∷ []) }
 {
-    after_byte(after_bytes(0xffff_ffff, bytes), kind) ^ 0xffff_ffff
+    after_byte(after_bytes(ALL_ONES, bytes), kind) ^ ALL_ONES
 }
 
 /// A sum as a table stores it: turned right by 15 bits, plus a constant.
@@ -115,5 +116,5 @@ pub fn crc32c(bytes: &[u8], kind: u8) -> u32
 pub fn mask(crc: u32) -> u32
     ensures { result ≡ masked crc }
 {
-    crc.rotate_right(15).wrapping_add(0xa282_ead8)
+    crc.rotate_right(MASK_TURN).wrapping_add(MASK_DELTA)
 }

@@ -5,7 +5,7 @@ use Rattle.st_disk.specs.declared.naming.Kind.{Kind}
 use Rattle.st_disk.specs.declared.naming.Kind.TheVariants as kind
 use Rattle.st_disk.specs.declared.naming.Name.{Name}
 use Rattle.st_disk.specs.declared.naming.Name.TheVariants.{Block, Index, Parked, Draft}
-use Rattle.st_disk.specs.Folders.{kind_of}
+use Rattle.st_disk.specs.Names.{kind_of}
 
 -- a number in this many hexadecimal digits in lower case
 abbrev pub hex_text : ℕ → ℕ → List ℕ

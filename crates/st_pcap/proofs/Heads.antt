@@ -1,20 +1,21 @@
 -- Laws of the checks of the two heads, over what stands in front of the bytes.
-use Rattle.std.proofs.Common.{Option, ◌≡◌, ℕ, ◌+◌, ◌<◌, ◌≤◌, ◌⊎◌, List, [], ◌++◌, length, take, None, Some, Result, Ok, Err, MatchResult, refl, ap, ◌∙◌, subst, inl, inr, arith, append-nil, length-append}
+use Rattle.std.proofs.Common.{Option, ◌≡◌, ℕ, ◌+◌, ◌<◌, ◌≤◌, ◌⊎◌, List, [], ◌++◌, length, take, None, Some, Result, Ok, Err, MatchResult, refl, sym, ap, ◌∙◌, subst, inl, inr, arith, append-nil, length-append}
 use Rattle.std.proofs.lemmas.Bool.{cases_lt}
 use Rattle.std.proofs.lemmas.Bool.Decides.{nat_tests}
 use Rattle.std.proofs.lemmas.List.{take_at, take_all}
 use Rattle.std.specs.Io.KnownBytes.{Consumes, IsAtEnd}
 use Rattle.std.specs.Option.{option_map, option_or}
+use Rattle.st_base.specs.Records.{Rec}
 use Rattle.st_pcap.specs.declared.errors.PcapErr.{PcapErr}
 use Rattle.st_pcap.specs.declared.forms.Form.{Form}
 use Rattle.st_pcap.specs.declared.forms.Order.{Order}
 use Rattle.st_pcap.specs.declared.forms.Unit as unit
 use Rattle.st_pcap.specs.declared.head_fields.HeadFields.{HeadFields}
-use Rattle.st_pcap.specs.declared.numbers.TheConstants.{FILE_HEAD_SIZE, RECORD_HEAD_SIZE, CAPTURED_AT, MAX_INPUT}
+use Rattle.st_pcap.specs.declared.numbers.TheConstants.{FILE_HEAD_SIZE, RECORD_HEAD_SIZE, CAPTURED_AT, MAX_INPUT, MAX_BODY}
 use Rattle.st_pcap.specs.Forms.{number_at}
 use Rattle.st_pcap.specs.Heads.{IsFileHead, refusal_of_file, refusal_of_fields, refusal_of_size}
 use Rattle.st_pcap.specs.Input.{Refused, end_at}
-use Rattle.st_pcap.specs.Checks.{HasFields, GivesForm, GivesBody}
+use Rattle.st_pcap.specs.Checks.{HasFields, GivesForm, GivesBody, GivesRecord}
 use Rattle.st_pcap.specs.Reading.{IsOutside}
 
 -- a front of at most n bytes, with nothing behind it where it is shorter, is all of the first n
@@ -76,3 +77,23 @@ pub body_given : (form : Form) (before number : ℕ) (rest head more : List ℕ)
     → HasFields form head fields → GivesBody fields number more left (Err e) → IsOutside e ⊎ (end_at form.order form.unit before number rest ≡ Some (Refused e))
 body_given form before number rest head more fields left e below size whole is (inl outside) = inl outside
 body_given form before number rest head more fields left e below size whole is (inr refused) = inr (body_refused form before number rest head more fields e below size whole is refused)
+
+-- the head of a record is none that is refused, and its body follows
+pub record_given : (form : Form) (before number : ℕ) (rest head more : List ℕ) (fields : HeadFields) (left : Option (List ℕ)) (r : Rec) → before < MAX_INPUT → length head ≡ RECORD_HEAD_SIZE → rest ≡ head ++ more
+    → HasFields form head fields → GivesBody fields number more left (Ok r) → GivesRecord form before number rest left (Ok (Some r))
+record_given form before number rest head more fields left r below size whole is (after, split, told, captured, sec, nsec, orig) = (
+  head,
+  after,
+  below,
+  record {
+    size = size;
+    sec = is.sec ∙ sym sec;
+    fraction = is.fraction;
+    nsec = is.nsec ∙ sym nsec;
+    captured = is.captured ∙ sym captured;
+    short = subst (λ n. n ≤ MAX_BODY) (sym captured) is.short;
+    orig = is.orig ∙ sym orig;
+  },
+  whole ∙ ap (λ l. head ++ l) split,
+  told,
+)

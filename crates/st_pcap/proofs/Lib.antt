@@ -1,4 +1,5 @@
 pub mod Filling
+pub mod Taking
 pub mod Heads
 pub mod Spellings
 pub mod Steps

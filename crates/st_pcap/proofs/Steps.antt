@@ -7,7 +7,8 @@ use Rattle.st_pcap.specs.declared.reader.Phase.{Phase}
 use Rattle.st_pcap.specs.declared.reader.Phase.TheVariants.{Open}
 use Rattle.st_pcap.specs.Input.{Input, Records, Whole, Refused, End, end_at}
 use Rattle.st_pcap.specs.Checks.{GivesRecord}
-use Rattle.st_pcap.specs.Reading.{HasReadIn, Took, IsOutside}
+use Rattle.st_pcap.specs.Reading.{HasReadIn, IsOutside}
+use Rattle.st_pcap.specs.Taking.{Took}
 use Rattle.st_pcap.proofs.Spellings.{length-Records, Records-snoc, AllBegin-snoc}
 
 -- a record was given

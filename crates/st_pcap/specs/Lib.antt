@@ -2,6 +2,7 @@ pub mod Forms
 pub mod Heads
 pub mod Input
 pub mod Text
+pub mod Taking
 pub mod Reading
 pub mod Checks
 pub mod Opening

@@ -7,7 +7,8 @@ use Rattle.st_pcap.specs.declared.forms.Form.{Form}
 use Rattle.st_pcap.specs.declared.reader.Phase.TheVariants.{Fresh, Open, Stopped}
 use Rattle.st_pcap.specs.declared.numbers.TheConstants.{FILE_HEAD_SIZE, RECORD_HEAD_SIZE, MAX_BODY, MAX_INPUT}
 use Rattle.st_pcap.specs.Input.{Input, Refused}
-use Rattle.st_pcap.specs.Reading.{PcapReaderView, IsOutside, HasRead, Took}
+use Rattle.st_pcap.specs.Reading.{PcapReaderView, IsOutside, HasRead}
+use Rattle.st_pcap.specs.Taking.{Took, TakesHead}
 
 -- the reader stands where it stood, behind the file head; or the bytes are refused
 abbrev pub Opens : List ℕ → List Rec → PcapReaderView → Option (List ℕ) → Result Form PcapErr → Type 0
@@ -28,8 +29,9 @@ pub record OpensOnce {S : Type 0} (before now : S) (old new : PcapReaderView) (r
   pub much_only : (n : ℕ) → result ≡ Err (TooMuch n) → old.phase ≡ Stopped (TooMuch n)
 
 -- how much the opening took, where no record is given
-pub record CountsHead (left still : Option (List ℕ)) (old new : PcapReaderView) : Type 0 where
+pub record CountsHead (left still : Option (List ℕ)) (old new : PcapReaderView) (result : Result Form PcapErr) : Type 0 where
   pub taken : Took left still old.taken new.taken
+  pub takes : TakesHead old.phase old.taken new.taken result
   pub number : new.number ≡ old.number
   pub later : old.taken ≤ new.taken
   pub bound : new.taken ≤ MAX_INPUT + RECORD_HEAD_SIZE + MAX_BODY

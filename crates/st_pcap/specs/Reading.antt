@@ -1,5 +1,5 @@
 -- What a reader of pcap files stands for, and what its calls ensure.
-use Rattle.std.specs.Prelude.{Option, ◌≡◌, ℕ, ◌+◌, ◌*◌, ◌≤◌, ◌⊎◌, List, [], ◌∷◌, ◌++◌, length, ⊤, None, Some, Result, Ok, Err, IfOk, OnSome}
+use Rattle.std.specs.Prelude.{Option, ◌≡◌, ℕ, ◌+◌, ◌*◌, ◌≤◌, ◌⊎◌, List, [], ◌∷◌, ◌++◌, length, None, Some, Result, Ok, Err, IfOk, IfErr, OnOk, OnSome}
 use Rattle.st_base.specs.Faults.{Rose}
 use Rattle.st_base.specs.Records.{Rec}
 use Rattle.st_pcap.specs.declared.errors.PcapErr.{PcapErr}
@@ -9,6 +9,7 @@ use Rattle.st_pcap.specs.declared.reader.Phase.{Phase}
 use Rattle.st_pcap.specs.declared.reader.Phase.TheVariants.{Fresh, Open, Stopped}
 use Rattle.st_pcap.specs.declared.numbers.TheConstants.{FILE_HEAD_SIZE, RECORD_HEAD_SIZE, MAX_BODY, MAX_INPUT}
 use Rattle.st_pcap.specs.Heads.{IsFileHead}
+use Rattle.st_pcap.specs.Taking.{Took, Takes}
 use Rattle.st_pcap.specs.Input.{Records, AllBegin, Whole, Refused, Input}
 
 -- what a reader has come to, the bytes that it took and the records that it gave
@@ -57,20 +58,22 @@ Gives bytes rs new left (Ok None) = Input bytes rs Whole × ((rest : List ℕ) �
 Gives bytes rs new left (Ok (Some r)) = (rest : List ℕ) × (left ≡ Some rest) × HasRead new bytes (rs ++ r ∷ []) rest
 Gives bytes rs new left (Err e) = IsOutside e ⊎ Input bytes rs (Refused e)
 
--- where the source tells its bytes, as many were taken as it lost
-abbrev pub Took : Option (List ℕ) → Option (List ℕ) → ℕ → ℕ → Type 0
-Took None new before now = ⊤
-Took (Some xs) None before now = ⊥
-Took (Some xs) (Some ys) before now = before + length xs ≡ now + length ys
-
--- the count never falls, and a read fault comes only where it rose, or where the reader had
--- stopped at one
-pub record HasReadCause (before now : ℕ) (old : PcapReaderView) (result : Result (Option Rec) PcapErr) : Type 0 where
+-- the count never falls, a read fault comes only if it rose, and no other result changes it
+pub record HasFaultCause {T : Type 0} (before now : ℕ) (result : Result T PcapErr) : Type 0 where
   pub later : before ≤ now
-  pub fault : result ≡ Err ReadFault → Rose before now ⊎ (old.phase ≡ Stopped ReadFault)
+  pub still : (result ≡ Err ReadFault → ⊥) → now ≡ before
+  pub fault : result ≡ Err ReadFault → Rose before now
 
--- How much a call took: where the source tells its bytes, as many as it lost; never fewer than
--- before, 16 at least for a record, and no more than the last record that may begin.
+-- a reader in this phase says that too, but where it had stopped at a read fault it answers that
+-- again without a rise
+pub record HasReadCause {T : Type 0} (before now : ℕ) (phase : Phase) (result : Result T PcapErr) : Type 0 where
+  pub later : before ≤ now
+  pub still : (result ≡ Err ReadFault → ⊥) → now ≡ before
+  pub fault : result ≡ Err ReadFault → Rose before now ⊎ (phase ≡ Stopped ReadFault)
+
+-- How much a call took: what its result says, and where the source's bytes are known, as many of
+-- the first of them; never less than before, the size of a head at least for a record, and no more
+-- than the last record that may begin.
 pub record Counts (left still : Option (List ℕ)) (before now : ℕ) (result : Result (Option Rec) PcapErr) : Type 0 where
   pub taken : Took left still before now
   pub later : before ≤ now
@@ -84,3 +87,20 @@ pub record KeepsLimit {S : Type 0} (before now : S) (old new : PcapReaderView) (
       → (result ≡ Err (TooMuch old.taken)) × (new.taken ≡ old.taken) × (now ≡ before)
   pub much_only : (n : ℕ) → result ≡ Err (TooMuch n)
       → ((n ≡ old.taken) × (MAX_INPUT ≤ old.taken)) ⊎ (old.phase ≡ Stopped (TooMuch n))
+
+-- What a call ensures that reads the next record: of the reader before and after, and of a source
+-- with these members before and after.
+pub record ReadsNext {S B : Type 0} (left : S → Option (List ℕ)) (faults : S → ℕ) (beside : S → B)
+    (before now : S) (old new : PcapReaderView) (result : Result (Option Rec) PcapErr) : Type 0 where
+  -- what it answers, where the source's bytes are known, and what it has come to then
+  pub gives : (bytes rest : List ℕ) (rs : List Rec) → left before ≡ Some rest → HasRead old bytes rs rest → Gives bytes rs new (left now) result
+  pub goes : OnOk result (IsGoing new.phase)
+  pub stops : IfErr result (λ e. new.phase ≡ Stopped e)
+  pub again : (e : PcapErr) → old.phase ≡ Stopped e → (result ≡ Err e) × (new ≡ old) × (now ≡ before)
+  -- how much it took, by which a caller's loop ends, and that nothing is read after the limit
+  pub count : Counts (left before) (left now) old.taken new.taken result
+  pub takes : Takes old.phase old.taken new.taken result
+  pub limit : KeepsLimit before now old new result
+  -- what the source's faults say, and what else of the source stays
+  pub cause : HasReadCause (faults before) (faults now) old.phase result
+  pub rest : beside now ≡ beside before

@@ -3,6 +3,7 @@ ghost use Rattle.byteorder.specs.Endian.{little_number};
 ghost use Rattle.st_pcap.specs.Forms.{magic};
 ghost use Rattle.st_pcap.specs.Heads.{IsFileHead, refusal_of_file, refusal_of_rest, refusal_of_fields};
 ghost use Rattle.st_pcap.specs.Checks.{HasFields, IsNoLimit};
+ghost use Rattle.st_pcap.specs.Taking.{RefusesHead, RefusesRecord};
 
 use crate::errors::PcapErr;
 use crate::forms::{Form, Order, Unit, fractions, nanoseconds, number_at, short_at};
@@ -20,6 +21,7 @@ pub fn form_in(head: &[u8]) -> Result<Form, PcapErr>
     requires { length head.now ≤ FILE_HEAD_SIZE }
     ensures checks { MatchResult result (λ form. IsFileHead form.order form.unit head.now)
         (λ e. refusal_of_file head.now ≡ Some e) }
+    ensures takes { IfErr result (RefusesHead 0 (length head.now)) }
     ensures below { IfErr result IsNoLimit }
 {
     if head.len() < NUMBER_SIZE {
@@ -45,6 +47,7 @@ fn form_with(order: Order, unit: Unit, head: &[u8]) -> Result<Form, PcapErr>
     requires size { length head.now ≤ FILE_HEAD_SIZE }
     ensures checks { MatchResult result (λ form. IsFileHead form.order form.unit head.now)
         (λ e. refusal_of_rest order head.now ≡ Some e) }
+    ensures takes { IfErr result (RefusesHead 0 (length head.now)) }
     ensures below { IfErr result IsNoLimit }
 {
     if head.len() < FILE_HEAD_SIZE {
@@ -72,6 +75,7 @@ pub fn fields_in(form: Form, number: u64, head: &[u8]) -> Result<HeadFields, Pca
     requires { length head.now ≡ RECORD_HEAD_SIZE }
     ensures checks { MatchResult result (HasFields form head.now)
         (λ e. refusal_of_fields form.order form.unit number head.now ≡ Some e) }
+    ensures takes { IfErr result (RefusesRecord 0 RECORD_HEAD_SIZE) }
     ensures below { IfErr result IsNoLimit }
 {
     let fraction = number_at(form.order, FRACTION_AT, head);

@@ -1,7 +1,7 @@
 ghost use Rattle.std.specs.Prelude.{Option, ◌≡◌, ◌+◌, ◌^◌, ◌<◌, ◌≤◌, List, ℕ, length, take, MatchResult, OnOk, IfOk, IfErr};
 ghost use Rattle.std.specs.Io.KnownBytes.{Consumes, IsAtEnd};
-ghost use Rattle.st_base.specs.Faults.{HasCause, Rose};
-ghost use Rattle.st_pcap.specs.Reading.{Took};
+ghost use Rattle.st_base.specs.Faults.{HasCause};
+ghost use Rattle.st_pcap.specs.Taking.{Took};
 
 use crate::errors::PcapErr;
 use st_base::{Failed, Source};
@@ -25,7 +25,9 @@ fn fill<S: Source>(source: &mut S, out: &mut [u8]) -> (usize, Result<(), Failed>
     (have, Ok(()))
 }
 
-/// The same, with the bytes that came counted in `taken`, also where the source fails.
+/// Reads until `out` is full, the source ends or it fails, and answers how many bytes came. They
+/// are counted in `taken`, also where the source fails.
+#[tactic(auto, using(crate::proofs::Taking::took))]
 pub fn take_bytes<S: Source>(
     source: &mut S,
     out: &mut [u8],
@@ -35,12 +37,11 @@ pub fn take_bytes<S: Source>(
     ensures came { IfOk result (λ n. (n ≤ length out.new) × (taken.new ≡ taken.old + n)
         × Consumes (S.left source.old) (S.left source.new) (take n out.new)
         × (n < length out.new → IsAtEnd (S.left source.new))) }
-    ensures fault { IfErr result (λ e. (e ≡ PcapErr.ReadFault)
-        × Rose (S.faults source.old) (S.faults source.new)) }
+    ensures fault { IfErr result (λ e. e ≡ PcapErr.ReadFault) }
+    ensures cause { HasCause (S.faults source.old) (S.faults source.new) result }
     ensures taken { Took (S.left source.old) (S.left source.new) taken.old taken.new }
     ensures bound { taken.new ≤ taken.old + length out.old }
     ensures grows { taken.old ≤ taken.new }
-    ensures later { S.faults source.old ≤ S.faults source.new }
     ensures rest { S.beside source.new ≡ S.beside source.old }
 {
     let (have, end) = fill(source, out);

@@ -1,5 +1,4 @@
 ghost use Rattle.std.specs.Prelude.{◌≡◌, ◌+◌, ◌≤◌, ◌⊎◌, ℕ, List, Some, Err, Result, OnOk, IfOk, IfErr, OnSome};
-ghost use Rattle.st_base.specs.Faults.{Rose};
 ghost use Rattle.st_base.specs.Records.{Rec};
 
 use crate::errors::PcapErr;
@@ -40,7 +39,7 @@ impl Model for PcapReader {
 }
 
 impl PcapReader {
-    ghost use Rattle.st_pcap.specs.Reading.{fresh, HasRead, Gives, Counts, KeepsLimit, HasReadCause, IsGoing};
+    ghost use Rattle.st_pcap.specs.Reading.{fresh, HasRead, ReadsNext, HasReadCause};
     ghost use Rattle.st_pcap.specs.Input.{Input, Refused};
     ghost use Rattle.st_pcap.specs.Opening.{Opens, KeepsOpening, OpensOnce, CountsHead};
 
@@ -76,22 +75,7 @@ impl PcapReader {
         alloc: Global,
         source: &mut S,
     ) -> Result<Option<Record>, PcapErr>
-        // What it answers, where the source tells its bytes, and what it has come to then.
-        ensures gives { (bytes rest : List ℕ) (rs : List Rec) → S.left source.old ≡ Some rest
-            → HasRead self.old bytes rs rest
-            → Gives bytes rs self.new (S.left source.new) result }
-        ensures goes { OnOk result (IsGoing self.new.phase) }
-        ensures stops { IfErr result (λ e. self.new.phase ≡ Phase.Stopped e) }
-        ensures again { (e : PcapErr) → self.old.phase ≡ Phase.Stopped e
-            → (result ≡ Err e) × (self.new ≡ self.old) × (source.new ≡ source.old) }
-
-        // How much it took, by which a caller's loop ends, and that nothing is read behind 2^40 bytes.
-        ensures count { Counts (S.left source.old) (S.left source.new) self.old.taken self.new.taken result }
-        ensures limit { KeepsLimit source.old source.new self.old self.new result }
-
-        // What the source's faults say, and what else of the source stays.
-        ensures cause { HasReadCause (S.faults source.old) (S.faults source.new) self.old result }
-        ensures rest { S.beside source.new ≡ S.beside source.old }
+        ensures { ReadsNext S.left S.faults S.beside source.old source.new self.old self.new result }
     {
         self.next_into(source, Vec::new(alloc))
     }
@@ -103,22 +87,7 @@ impl PcapReader {
         source: &mut S,
         body: Vec<u8>,
     ) -> Result<Option<Record>, PcapErr>
-        // What it answers, where the source tells its bytes, and what it has come to then.
-        ensures gives { (bytes rest : List ℕ) (rs : List Rec) → S.left source.old ≡ Some rest
-            → HasRead self.old bytes rs rest
-            → Gives bytes rs self.new (S.left source.new) result }
-        ensures goes { OnOk result (IsGoing self.new.phase) }
-        ensures stops { IfErr result (λ e. self.new.phase ≡ Phase.Stopped e) }
-        ensures again { (e : PcapErr) → self.old.phase ≡ Phase.Stopped e
-            → (result ≡ Err e) × (self.new ≡ self.old) × (source.new ≡ source.old) }
-
-        // How much it took, by which a caller's loop ends, and that nothing is read behind 2^40 bytes.
-        ensures count { Counts (S.left source.old) (S.left source.new) self.old.taken self.new.taken result }
-        ensures limit { KeepsLimit source.old source.new self.old self.new result }
-
-        // What the source's faults say, and what else of the source stays.
-        ensures cause { HasReadCause (S.faults source.old) (S.faults source.new) self.old result }
-        ensures rest { S.beside source.new ≡ S.beside source.old }
+        ensures { ReadsNext S.left S.faults S.beside source.old source.new self.old self.new result }
     {
         let form = match self.open(source) {
             Ok(form) => form,
@@ -145,13 +114,10 @@ impl PcapReader {
             → Opens bytes rs self.new (S.left source.new) result }
         ensures phase { KeepsOpening self.new result }
         ensures once { OpensOnce source.old source.new self.old self.new result }
-        ensures count { CountsHead (S.left source.old) (S.left source.new) self.old self.new }
+        ensures count { CountsHead (S.left source.old) (S.left source.new) self.old self.new result }
 
         // What the source's faults say, and what else of the source stays.
-        ensures fault { result ≡ Err PcapErr.ReadFault
-            → Rose (S.faults source.old) (S.faults source.new)
-            ⊎ (self.old.phase ≡ Phase.Stopped PcapErr.ReadFault) }
-        ensures later { S.faults source.old ≤ S.faults source.new }
+        ensures cause { HasReadCause (S.faults source.old) (S.faults source.new) self.old.phase result }
         ensures rest { S.beside source.new ≡ S.beside source.old }
     {
         match self.phase {

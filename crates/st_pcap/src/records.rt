@@ -1,6 +1,7 @@
-ghost use Rattle.std.specs.Prelude.{◌≡◌, ◌+◌, ◌<◌, ◌≤◌, List, ℕ, Some, Err, IfOk, IfErr, vec_len};
-ghost use Rattle.st_base.specs.Faults.{Rose};
-ghost use Rattle.st_pcap.specs.Reading.{Took, Counts};
+ghost use Rattle.std.specs.Prelude.{◌≡◌, ◌+◌, ◌<◌, ◌≤◌, List, ℕ, Some, Err, IfOk, IfErr, MatchResult, length, vec_len};
+ghost use Rattle.st_pcap.specs.Reading.{Counts, HasFaultCause};
+ghost use Rattle.st_pcap.specs.Taking.{Took, TakesHead, TakesRecord, RefusesRecord};
+ghost use Rattle.st_pcap.specs.declared.reader.Phase.TheVariants.{Fresh};
 ghost use Rattle.st_pcap.specs.Checks.{GivesForm, GivesBody, GivesRecord, EndsAtLimit, IsNoLimit};
 
 use crate::checks::{fields_in, form_in};
@@ -18,10 +19,10 @@ pub fn read_form<S: Source>(source: &mut S, taken: &mut u64) -> Result<Form, Pca
     ensures gives { (bytes : List ℕ) → S.left source.old ≡ Some bytes
         → GivesForm bytes (S.left source.new) result }
     ensures below { IfErr result IsNoLimit }
-    ensures fault { result ≡ Err PcapErr.ReadFault → Rose (S.faults source.old) (S.faults source.new) }
+    ensures cause { HasFaultCause (S.faults source.old) (S.faults source.new) result }
     ensures taken { Took (S.left source.old) (S.left source.new) taken.old taken.new }
+    ensures takes { TakesHead Fresh taken.old taken.new result }
     ensures bound { taken.new ≤ taken.old + FILE_HEAD_SIZE }
-    ensures later { S.faults source.old ≤ S.faults source.new }
     ensures rest { S.beside source.new ≡ S.beside source.old }
 {
     let mut head = [0; FILE_HEAD_SIZE];
@@ -40,13 +41,14 @@ pub fn read_record<S: Source>(
     body: Vec<u8>,
     taken: &mut u64,
 ) -> Result<Option<Record>, PcapErr>
-    requires { taken.old ≤ MAX_INPUT + RECORD_HEAD_SIZE + MAX_BODY }
+    requires counted { 0 < number }
+    requires room { taken.old ≤ MAX_INPUT + RECORD_HEAD_SIZE + MAX_BODY }
     ensures gives { (rest : List ℕ) → S.left source.old ≡ Some rest
         → GivesRecord form taken.old number rest (S.left source.new) result }
-    ensures fault { result ≡ Err PcapErr.ReadFault → Rose (S.faults source.old) (S.faults source.new) }
+    ensures cause { HasFaultCause (S.faults source.old) (S.faults source.new) result }
     ensures count { Counts (S.left source.old) (S.left source.new) taken.old taken.new result }
+    ensures takes { TakesRecord taken.old taken.new result }
     ensures limit { EndsAtLimit source.old source.new taken.old taken.new result }
-    ensures later { S.faults source.old ≤ S.faults source.new }
     ensures rest { S.beside source.new ≡ S.beside source.old }
 {
     if *taken >= MAX_INPUT {
@@ -82,17 +84,19 @@ fn read_body<S: Source>(
     body: Vec<u8>,
     taken: &mut u64,
 ) -> Result<Record, PcapErr>
+    requires counted { 0 < number }
     requires room { taken.old ≤ MAX_INPUT + RECORD_HEAD_SIZE }
     requires short { fields.now.captured ≤ MAX_BODY }
     requires below { fields.now.nsec < NANOS }
     ensures gives { (rest : List ℕ) → S.left source.old ≡ Some rest
         → GivesBody fields.now number rest (S.left source.new) result }
     ensures below { IfErr result IsNoLimit }
-    ensures fault { result ≡ Err PcapErr.ReadFault → Rose (S.faults source.old) (S.faults source.new) }
+    ensures cause { HasFaultCause (S.faults source.old) (S.faults source.new) result }
     ensures taken { Took (S.left source.old) (S.left source.new) taken.old taken.new }
+    ensures takes { (begin : ℕ) → taken.old ≡ begin + RECORD_HEAD_SIZE
+        → MatchResult result (λ r. taken.new ≡ taken.old + length r.body) (RefusesRecord begin taken.new) }
     ensures bound { taken.new ≤ MAX_INPUT + RECORD_HEAD_SIZE + MAX_BODY }
     ensures grows { taken.old ≤ taken.new }
-    ensures later { S.faults source.old ≤ S.faults source.new }
     ensures rest { S.beside source.new ≡ S.beside source.old }
 {
     let mut body = match sized(body, fields.captured as usize) {

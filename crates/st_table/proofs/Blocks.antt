@@ -4,23 +4,23 @@ use Rattle.std.specs.Prelude.{nat_eq, nat_le, slice_index, if◌then◌else◌}
 use Rattle.std.specs.Option.{option_or}
 use Rattle.std.proofs.lemmas.List.{take-take, length-take, length-drop, drop_more}
 use Rattle.std.proofs.lemmas.Bool.Decides.{nat_tests}
-use Rattle.st_tblock.specs.Block.{Row, Good}
+use Rattle.st_tblock.specs.Block.{RowView, IsBlock}
 use Rattle.st_tblock.specs.declared.handle.Handle.{Handle}
 use Rattle.st_tblock.proofs.Longer.{chosen}
-use Rattle.st_table.specs.Table.{Stored, sum_of}
-use Rattle.st_table.specs.Errors.{Refusal}
-use Rattle.st_table.specs.ReadingBlock.{end_of, stored_sum, sum_wrong, kind_wrong, part_wrong, handle_wrong, stored_wrong}
+use Rattle.st_table.specs.TableFile.{Stored, sum_of}
+use Rattle.st_table.specs.Errors.{TableErrView}
+use Rattle.st_table.specs.Stored.{end_of, stored_sum, sum_wrong, kind_wrong, part_wrong, handle_wrong, stored_wrong}
 
 -- neither of two is wrong
-neither : (a b : Option Refusal) → option_or a b ≡ None → (a ≡ None) × (b ≡ None)
+neither : (a b : Option TableErrView) → option_or a b ≡ None → (a ≡ None) × (b ≡ None)
 neither None b e = (refl, e)
 neither (Some x) b e = cc
 
-both : (a b : Option Refusal) → a ≡ None → b ≡ None → option_or a b ≡ None
-both a b e f = ap (λ (o : Option Refusal). option_or o b) e ∙ f
+both : (a b : Option TableErrView) → a ≡ None → b ≡ None → option_or a b ≡ None
+both a b e f = ap (λ (o : Option TableErrView). option_or o b) e ∙ f
 
 -- a choice between nothing and a refusal
-none_chosen : (b : Bool) (x : Refusal) → (if b then None else Some x) ≡ None → b ≡ true
+none_chosen : (b : Bool) (x : TableErrView) → (if b then None else Some x) ≡ None → b ≡ true
 none_chosen true x e = refl
 none_chosen false x e = cc
 
@@ -45,7 +45,7 @@ part_whole offset size part e =
           let k = h.0 in
           let t = none_chosen (nat_eq (stored_sum size part) (sum_of 0 (take size part))) _ h.1 in
           record { kind = grind (arith, nat_tests); sum = grind (arith, nat_tests) }
-      | inr h ↦ absurd (let k : ◌≡◌ {A = Option Refusal} (Some (kind_wrong (offset + size) (slice_index part size))) None = h.1 in cc)
+      | inr h ↦ absurd (let k : ◌≡◌ {A = Option TableErrView} (Some (kind_wrong (offset + size) (slice_index part size))) None = h.1 in cc)
     ]
 
 whole_part : (offset size : ℕ) (part : List ℕ) → Whole size part → part_wrong offset size part ≡ None
@@ -66,7 +66,7 @@ kind_again (suc n) [] e = cc
 kind_again (suc n) (k ∷ part) e = kind_again n part e
 
 -- nothing is found wrong in a good block: it is stored
-pub is_stored : (limit : ℕ) (bytes : List ℕ) (h : Handle) (rows : List Row) → limit ≤ length bytes → stored_wrong limit bytes h ≡ None → Good (take h.size (drop h.offset bytes)) rows → Stored limit bytes h rows
+pub is_stored : (limit : ℕ) (bytes : List ℕ) (h : Handle) (rows : List RowView) → limit ≤ length bytes → stored_wrong limit bytes h ≡ None → IsBlock (take h.size (drop h.offset bytes)) rows → Stored limit bytes h rows
 is_stored limit bytes h rows l e g =
     let part = take (h.size + 5) (drop h.offset bytes) in
     let none = neither (handle_wrong limit h) (part_wrong h.offset h.size part) e in
@@ -77,15 +77,15 @@ is_stored limit bytes h rows l e g =
     let front : take h.size part ≡ take h.size (drop h.offset bytes) = take-take h.size (h.size + 5) (drop h.offset bytes) (omega arith) in
     record {
       within = fits;
-      plain = record { whole = size; kind = kind; sum = whole.sum; good = subst (λ (xs : List ℕ). Good xs rows) (sym front) g };
+      plain = record { whole = size; kind = kind; sum = whole.sum; good = subst (λ (xs : List ℕ). IsBlock xs rows) (sym front) g };
     }
 
 -- a stored block has nothing wrong, and is good
-pub stored_is : (limit : ℕ) (bytes : List ℕ) (h : Handle) (rows : List Row) → Stored limit bytes h rows → (stored_wrong limit bytes h ≡ None) × Good (take h.size (drop h.offset bytes)) rows
+pub stored_is : (limit : ℕ) (bytes : List ℕ) (h : Handle) (rows : List RowView) → Stored limit bytes h rows → (stored_wrong limit bytes h ≡ None) × IsBlock (take h.size (drop h.offset bytes)) rows
 stored_is limit bytes h rows s =
     let part = take (h.size + 5) (drop h.offset bytes) in
     let whole : Whole h.size part = record { kind = kind_again h.size part s.plain.kind; sum = s.plain.sum } in
     let front : take h.size part ≡ take h.size (drop h.offset bytes) = take-take h.size (h.size + 5) (drop h.offset bytes) (omega arith) in (
       both (handle_wrong limit h) (part_wrong h.offset h.size part) (fits_handle limit h s.within) (whole_part h.offset h.size part whole),
-      subst (λ (xs : List ℕ). Good xs rows) front s.plain.good,
+      subst (λ (xs : List ℕ). IsBlock xs rows) front s.plain.good,
     )

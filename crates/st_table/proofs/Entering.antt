@@ -1,11 +1,11 @@
 -- A table is entered by its footer and its index block.
 use Rattle.std.proofs.Common.{◌≡◌, ℕ, ◌-◌, List, length, Result, Ok, Err, ◌∙◌, subst, inr, arith}
 use Rattle.std.specs.Prelude.{MatchResult}
-use Rattle.st_tblock.specs.Block.{Good}
+use Rattle.st_tblock.specs.Block.{IsBlock}
 use Rattle.st_tblock.specs.declared.handle.Handle.{Handle}
-use Rattle.st_table.specs.ReadingBlock.{ReadsBlock}
-use Rattle.st_table.specs.ReadingRows.{RefusesBlock}
-use Rattle.st_table.specs.ReadingIndex.{ReadsFooter, HasEntries, Entered, RefusesTable, holds_handle}
+use Rattle.st_table.specs.Stored.{ReadsBlock}
+use Rattle.st_table.specs.Rows.{RefusesBlock}
+use Rattle.st_table.specs.Index.{ReadsFooter, HasEntries, Entered, RefusesTable, holds_handle}
 use Rattle.st_table.specs.declared.errors.TableErr.{TableErr}
 use Rattle.st_table.specs.declared.index.IndexEntry.{IndexEntry}
 use Rattle.st_table.proofs.Blocks.{is_stored}
@@ -13,7 +13,7 @@ use Rattle.st_table.proofs.Blocks.{is_stored}
 -- what the index block says is what the table says
 pub index_read : {V : Type 0} (items : V → List IndexEntry) (r : Result V TableErr) (bytes : List ℕ) (h : Handle) (block text : List ℕ) → ReadsFooter bytes (Ok h) → ReadsBlock {T = Unit {0}} (length bytes - 48) bytes h block (Ok (tt {0})) → text ≡ block → MatchResult r (λ v. HasEntries text (items v)) (λ e. RefusesBlock holds_handle h.offset text e) → MatchResult r (λ v. Entered bytes (items v)) (λ e. RefusesTable bytes e)
 index_read items (Ok v) bytes h block text f b t m =
-    let good = subst (λ (xs : List ℕ). Good xs m.0) (t ∙ b.1) m.1 in
+    let good = subst (λ (xs : List ℕ). IsBlock xs m.0) (t ∙ b.1) m.1 in
     record {
       footer = f.0;
       meta = f.1.0;

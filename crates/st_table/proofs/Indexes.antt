@@ -3,16 +3,16 @@ use Rattle.std.proofs.Common.{◌≡◌, ℕ, ◌≤◌, true, List, [], ◌∷�
 use Rattle.std.specs.Prelude.{nat_eq}
 use Rattle.byteorder.specs.Endian.{little_number}
 use Rattle.st_base.specs.Damages.{DamageView, unmet}
-use Rattle.st_tblock.specs.Standing.{Standing}
-use Rattle.st_tblock.specs.Block.{Row}
+use Rattle.st_tblock.specs.EntryCursorView.{EntryCursorView}
+use Rattle.st_tblock.specs.Block.{RowView}
 use Rattle.st_tblock.specs.Handles.{handle_in, handles_in, footer_in, named, IsHandle}
 use Rattle.st_tblock.specs.declared.handle.Handle.{Handle}
-use Rattle.st_tblock.specs.declared.handle.TheConstants.{MAGIC}
+use Rattle.st_tblock.specs.declared.format.TheConstants.{MAGIC}
 use Rattle.st_tblock.proofs.Longer.{chosen}
-use Rattle.st_table.specs.ReadingRows.{Behind, row_of}
-use Rattle.st_table.specs.ReadingIndex.{Decodes, StepsIndex, HasEntries, holds_handle, is_whole}
+use Rattle.st_table.specs.Rows.{HasRead, row_of}
+use Rattle.st_table.specs.Index.{Decodes, StepsIndex, HasEntries, holds_handle, is_whole}
 use Rattle.st_table.specs.declared.index.IndexEntry.{IndexEntry}
-use Rattle.st_table.proofs.Walking.{behind_on, behind_all}
+use Rattle.st_table.proofs.Walking.{has_read_on, has_read_all}
 
 -- a footer's check fails within its first forty-one bytes
 named_place : (o : Option (Handle × Handle)) (f : DamageView) → named o ≡ Err f → f.place ≤ 40
@@ -35,33 +35,33 @@ pub handle_passes : (value : List ℕ) (h : Handle) → IsHandle value h → is_
 handle_passes value h e = ap is_whole e
 
 -- one more entry
-pub decodes_push : (rows : List Row) (entries : List IndexEntry) (r : Row) (e : IndexEntry) → Decodes rows entries → e.key ≡ r.0 → IsHandle r.1 e.handle → Decodes (rows ++ r ∷ []) (entries ++ e ∷ [])
+pub decodes_push : (rows : List RowView) (entries : List IndexEntry) (r : RowView) (e : IndexEntry) → Decodes rows entries → e.key ≡ r.0 → IsHandle r.1 e.handle → Decodes (rows ++ r ∷ []) (entries ++ e ∷ [])
 decodes_push [] [] r e d k h = (k, h, tt)
 decodes_push [] (q ∷ entries) r e d k h = absurd d
 decodes_push (p ∷ rows) [] r e d k h = absurd d
 decodes_push (p ∷ rows) (q ∷ entries) r e d k h = (d.0, d.1, decodes_push rows entries r e d.2 k h)
 
 -- what the entries read so far are
-pub record Collected (block : List ℕ) (place : ℕ) (s : Standing) (entries : List IndexEntry) : Type 0 where
-  pub rows : List Row
-  pub behind : Behind holds_handle block s.walk rows
-  pub here : s.place ≡ place
+pub record Collected (block : List ℕ) (base : ℕ) (s : EntryCursorView) (entries : List IndexEntry) : Type 0 where
+  pub rows : List RowView
+  pub has_read : HasRead holds_handle block s.reading rows
+  pub here : s.base ≡ base
   pub decoded : Decodes rows entries
 
 -- and with one more
-pub collected_on : (block : List ℕ) (place : ℕ) (old new : Standing) (entries now : List IndexEntry) (e : IndexEntry) → Collected block place old entries → StepsIndex old new (Ok (Some e)) → now ≡ entries ++ e ∷ [] → Collected block place new now
-collected_on block place old new entries now e k s n =
+pub collected_on : (block : List ℕ) (base : ℕ) (old new : EntryCursorView) (entries now : List IndexEntry) (e : IndexEntry) → Collected block base old entries → StepsIndex old new (Ok (Some e)) → now ≡ entries ++ e ∷ [] → Collected block base new now
+collected_on block base old new entries now e k s n =
     let x = s.0 in
-    let w = old.walk in
+    let w = old.reading in
     let row = row_of w x in
-    let walk = ap (λ (t : Standing). t.walk) s.4 in
+    let reading = ap (λ (t : EntryCursorView). t.reading) s.4 in
     record {
       rows = k.rows ++ row ∷ [];
-      behind = behind_on holds_handle block w new.walk k.rows x k.behind s.1 (handle_passes x.0.value e.handle s.3) walk;
-      here = ap (λ (t : Standing). t.place) s.4 ∙ k.here;
+      has_read = has_read_on holds_handle block w new.reading k.rows x k.has_read s.1 (handle_passes x.0.value e.handle s.3) reading;
+      here = ap (λ (t : EntryCursorView). t.base) s.4 ∙ k.here;
       decoded = subst (Decodes (k.rows ++ row ∷ [])) (sym n) (decodes_push k.rows entries row e k.decoded s.2 s.3);
     }
 
 -- at the block's end they are all
-pub collected_all : (block : List ℕ) (place : ℕ) (old new : Standing) (entries : List IndexEntry) → Collected block place old entries → StepsIndex old new (Ok None) → HasEntries block entries
-collected_all block place old new entries k s = (k.rows, behind_all holds_handle block old.walk k.rows k.behind s.0 s.1, k.decoded)
+pub collected_all : (block : List ℕ) (base : ℕ) (old new : EntryCursorView) (entries : List IndexEntry) → Collected block base old entries → StepsIndex old new (Ok None) → HasEntries block entries
+collected_all block base old new entries k s = (k.rows, has_read_all holds_handle block old.reading k.rows k.has_read s.0 s.1, k.decoded)

@@ -7,8 +7,8 @@ use Rattle.std.specs.Ordering.{nat_cmp, is_lt, is_gt, ordering_reverse}
 use Rattle.std.specs.Cmp.Lexicographic.{slice_cmp}
 use Rattle.std.proofs.lemmas.Cmp.{nat_list_cmp_total, tied_itself, upto}
 use Rattle.st_tblock.specs.Block.{is_before, is_above}
-use Rattle.st_table.specs.Table.{is_at_most}
-use Rattle.st_table.specs.Builds.{Follows, later_key}
+use Rattle.st_table.specs.TableFile.{is_at_most}
+use Rattle.st_table.specs.Builder.{Follows, later_key}
 
 -- which answer says less
 less : (o : Ordering) → is_lt o ≡ true → o ≡ Less

@@ -1,12 +1,12 @@
 -- Bytes are a table of one list of rows at most.
 use Rattle.std.proofs.Common.{◌≡◌, ℕ, ◌+◌, ◌-◌, List, [], ◌∷◌, ◌++◌, length, take, drop, Option, Some, None, Result, Ok, sym, ap, ◌∙◌, subst}
-use Rattle.st_tblock.specs.Reading.{Read}
-use Rattle.st_tblock.specs.Block.{Row, Good}
+use Rattle.st_tblock.specs.Parsing.{Read}
+use Rattle.st_tblock.specs.Block.{RowView, IsBlock}
 use Rattle.st_base.specs.Damages.{DamageView}
 use Rattle.st_tblock.specs.Handles.{IsHandle, footer_in}
 use Rattle.st_tblock.specs.declared.handle.Handle.{Handle}
 use Rattle.st_tblock.proofs.Following.{one_reading}
-use Rattle.st_table.specs.Table.{IsTable, Stored, Blocks}
+use Rattle.st_table.specs.TableFile.{IsTable, Stored, Blocks}
 
 -- a value is one handle
 one_handle : (value : List ℕ) (h g : Handle) → IsHandle value h → IsHandle value g → h ≡ g
@@ -16,14 +16,14 @@ one_handle value h g p q =
     ap (λ (x : Handle × List ℕ). x.0) inner
 
 -- a handle names one list of rows
-one_block : (limit : ℕ) (bytes : List ℕ) (h g : Handle) (rows others : List Row) → h ≡ g → Stored limit bytes h rows → Stored limit bytes g others → rows ≡ others
+one_block : (limit : ℕ) (bytes : List ℕ) (h g : Handle) (rows others : List RowView) → h ≡ g → Stored limit bytes h rows → Stored limit bytes g others → rows ≡ others
 one_block limit bytes h g rows others e s o =
     let part = λ (k : Handle). take k.size (take (k.size + 5) (drop k.offset bytes)) in
-    let good : Good (part h) others = subst (λ (k : Handle). Good (part k) others) (sym e) o.plain.good in
+    let good : IsBlock (part h) others = subst (λ (k : Handle). IsBlock (part k) others) (sym e) o.plain.good in
     one_reading (part h) rows others s.plain.good good
 
 -- and so does an index
-one_list : (limit : ℕ) (bytes : List ℕ) (low : Option (List ℕ)) (index rows others : List Row) → Blocks limit bytes low index rows → Blocks limit bytes low index others → rows ≡ others
+one_list : (limit : ℕ) (bytes : List ℕ) (low : Option (List ℕ)) (index rows others : List RowView) → Blocks limit bytes low index rows → Blocks limit bytes low index others → rows ≡ others
 one_list limit bytes low [] rows others b o = b ∙ sym o
 one_list limit bytes low (e ∷ index) rows others b o =
     let handle = one_handle e.1 b.0 o.0 b.3 o.3 in
@@ -39,9 +39,9 @@ one_footer bytes meta named m n p q =
     let inner : ◌≡◌ {A = Handle × Handle} (meta, named) (m, n) = cc in
     ap (λ (x : Handle × Handle). x.1) inner
 
-pub one_table : (bytes : List ℕ) (rows others : List Row) → IsTable bytes rows → IsTable bytes others → others ≡ rows
+pub one_table : (bytes : List ℕ) (rows others : List RowView) → IsTable bytes rows → IsTable bytes others → others ≡ rows
 one_table bytes rows others t o =
     let named = one_footer (drop (length bytes - 48) bytes) o.meta o.named t.meta t.named o.handles t.handles in
     let index = one_block (length bytes - 48) bytes o.named t.named o.index t.index named o.stored t.stored in
-    let blocks : Blocks (length bytes - 48) bytes None t.index others = subst (λ (es : List Row). Blocks (length bytes - 48) bytes None es others) index o.blocks in
+    let blocks : Blocks (length bytes - 48) bytes None t.index others = subst (λ (es : List RowView). Blocks (length bytes - 48) bytes None es others) index o.blocks in
     one_list (length bytes - 48) bytes None t.index others rows blocks t.blocks

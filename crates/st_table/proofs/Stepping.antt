@@ -3,18 +3,17 @@ use Rattle.std.proofs.Common.{◌≡◌, ℕ, ◌+◌, ◌≤◌, Bool, true, Li
 use Rattle.std.specs.Prelude.{not, MatchResult}
 use Rattle.std.proofs.lemmas.List.{drop-drop, drop_at, take_at}
 use Rattle.std.proofs.Math.Seq.{take-add}
-use Rattle.st_tblock.specs.Block.{Row, is_before}
+use Rattle.st_tblock.specs.Block.{RowView, is_before}
 use Rattle.st_tblock.specs.declared.handle.Handle.{Handle}
-use Rattle.st_table.specs.Table.{Between, Blocks}
-use Rattle.st_table.specs.Lookup.{in_range}
-use Rattle.st_table.specs.ReadingTable.{last_key, first_behind, found_at}
-use Rattle.st_table.specs.ReadingRange.{Pending, Goes, IsDone, Fills, ReadsNext}
-use Rattle.st_tblock.specs.Block.{Good}
-use Rattle.st_table.specs.ReadingBlock.{ReadsBlock}
-use Rattle.st_table.specs.ReadingRows.{Around, lies_in, RefusesBlock}
-use Rattle.st_table.specs.ReadingIndex.{Decodes}
-use Rattle.st_table.specs.ReadingTable.{IsBlockAt}
-use Rattle.st_table.specs.ReadingRange.{KeepsRange, RefusesNext}
+use Rattle.st_table.specs.TableFile.{Between, Blocks}
+use Rattle.st_table.specs.RowOrder.{in_range, last_key}
+use Rattle.st_table.specs.IndexLookup.{first_after, found_at}
+use Rattle.st_table.specs.Cursor.{CursorView, Goes, IsDone, Fills, ReadsNext}
+use Rattle.st_tblock.specs.Block.{IsBlock}
+use Rattle.st_table.specs.Stored.{ReadsBlock}
+use Rattle.st_table.specs.Rows.{BoundsView, lies_in, RefusesBlock, KeepsRange}
+use Rattle.st_table.specs.Index.{Decodes, IsBlockAt}
+use Rattle.st_table.specs.Cursor.{RefusesNext}
 use Rattle.st_table.specs.declared.errors.TableErr.{TableErr}
 use Rattle.st_table.specs.declared.index.IndexEntry.{IndexEntry}
 use Rattle.st_table.proofs.Blocks.{is_stored}
@@ -24,44 +23,44 @@ use Rattle.st_table.proofs.Ranges.{in_range-append}
 use Rattle.st_table.proofs.Tables.{stored_once, handle_once, not_true}
 
 -- the last key of two parts
-pub last_key-append : (low : Option (List ℕ)) (xs ys : List Row) → last_key low (xs ++ ys) ≡ last_key (last_key low xs) ys
+pub last_key-append : (low : Option (List ℕ)) (xs ys : List RowView) → last_key low (xs ++ ys) ≡ last_key (last_key low xs) ys
 last_key-append low [] ys = refl
 last_key-append low (x ∷ xs) ys = last_key-append (Some x.0) xs ys
 
 -- blocks of two parts of an index
-blocks-append : (limit : ℕ) (bytes : List ℕ) (low : Option (List ℕ)) (xs ys rows more : List Row) → Blocks limit bytes low xs rows → Blocks limit bytes (last_key low xs) ys more → Blocks limit bytes low (xs ++ ys) (rows ++ more)
+blocks-append : (limit : ℕ) (bytes : List ℕ) (low : Option (List ℕ)) (xs ys rows more : List RowView) → Blocks limit bytes low xs rows → Blocks limit bytes (last_key low xs) ys more → Blocks limit bytes low (xs ++ ys) (rows ++ more)
 blocks-append limit bytes low [] ys rows more b c =
-    subst (λ (r : List Row). Blocks limit bytes low ys (r ++ more)) (sym b) c
+    subst (λ (r : List RowView). Blocks limit bytes low ys (r ++ more)) (sym b) c
 blocks-append limit bytes low (e ∷ xs) ys rows more (h, here, rest, one, s, between, split, tail) c =
-    let both : rows ++ more ≡ here ++ (rest ++ more) = ap (λ (r : List Row). r ++ more) split ∙ append_assoc here rest more in
+    let both : rows ++ more ≡ here ++ (rest ++ more) = ap (λ (r : List RowView). r ++ more) split ∙ append_assoc here rest more in
     (h, here, rest ++ more, one, s, between, both, blocks-append limit bytes (Some e.0) xs ys rest more tail c)
 
 -- and taken apart
-pub record Parts (limit : ℕ) (bytes : List ℕ) (low : Option (List ℕ)) (xs ys rows : List Row) : Type 0 where
-  pub front : List Row
-  pub back : List Row
+pub record Parts (limit : ℕ) (bytes : List ℕ) (low : Option (List ℕ)) (xs ys rows : List RowView) : Type 0 where
+  pub front : List RowView
+  pub back : List RowView
   pub split : rows ≡ front ++ back
   pub first : Blocks limit bytes low xs front
   pub second : Blocks limit bytes (last_key low xs) ys back
 
-pub blocks-split : (limit : ℕ) (bytes : List ℕ) (low : Option (List ℕ)) (xs ys rows : List Row) → Blocks limit bytes low (xs ++ ys) rows → Parts limit bytes low xs ys rows
+pub blocks-split : (limit : ℕ) (bytes : List ℕ) (low : Option (List ℕ)) (xs ys rows : List RowView) → Blocks limit bytes low (xs ++ ys) rows → Parts limit bytes low xs ys rows
 blocks-split limit bytes low [] ys rows b = record { front = []; back = rows; split = refl; first = refl; second = b }
 blocks-split limit bytes low (e ∷ xs) ys rows (h, here, rest, one, s, between, split, tail) =
     let p = blocks-split limit bytes (Some e.0) xs ys rest tail in
     let both : rows ≡ (here ++ p.front) ++ p.back =
-    split ∙ ap (λ (r : List Row). here ++ r) p.split ∙ sym (append_assoc here p.front p.back) in
+    split ∙ ap (λ (r : List RowView). here ++ r) p.split ∙ sym (append_assoc here p.front p.back) in
     record { front = here ++ p.front; back = p.back; split = both; first = (h, here, p.front, one, s, between, refl, p.first); second = p.second }
 
 -- an index names one list of rows
-pub blocks_once : (limit : ℕ) (bytes : List ℕ) (low : Option (List ℕ)) (index rows others : List Row) → Blocks limit bytes low index rows → Blocks limit bytes low index others → rows ≡ others
+pub blocks_once : (limit : ℕ) (bytes : List ℕ) (low : Option (List ℕ)) (index rows others : List RowView) → Blocks limit bytes low index rows → Blocks limit bytes low index others → rows ≡ others
 blocks_once limit bytes low [] rows others b c = b ∙ sym c
 blocks_once limit bytes low (e ∷ index) rows others (h, here, rest, one, s, between, split, tail) (k, there, more, two, t, among, cut, end) =
     let same = stored_once limit bytes h k here there (handle_once e.1 h k one two) s t in
     let tails = blocks_once limit bytes (Some e.0) index rest more tail end in
-    split ∙ ap (λ (r : List Row). r ++ rest) same ∙ ap (λ (r : List Row). there ++ r) tails ∙ sym cut
+    split ∙ ap (λ (r : List RowView). r ++ rest) same ∙ ap (λ (r : List RowView). there ++ r) tails ∙ sym cut
 
 -- nothing is passed
-pub goes_none : (limit : ℕ) (bytes : List ℕ) (index : List Row) (c : Pending) → Goes limit bytes index c c []
+pub goes_none : (limit : ℕ) (bytes : List ℕ) (index : List RowView) (c : CursorView) → Goes limit bytes index c c []
 goes_none limit bytes index c =
     record {
       passed = [];
@@ -76,7 +75,7 @@ goes_none limit bytes index c =
     }
 
 -- the first of the rows at hand is given
-pub goes_taken : (limit : ℕ) (bytes : List ℕ) (index : List Row) (first old new : Pending) (r : Row) → Goes limit bytes index first old [] → old ≡ record { low = new.low; high = new.high; rows = r ∷ new.rows; next = new.next } → Goes limit bytes index first new (r ∷ [])
+pub goes_taken : (limit : ℕ) (bytes : List ℕ) (index : List RowView) (first old new : CursorView) (r : RowView) → Goes limit bytes index first old [] → old ≡ record { low = new.low; high = new.high; rows = r ∷ new.rows; next = new.next } → Goes limit bytes index first new (r ∷ [])
 goes_taken limit bytes index first old new r g e =
     record {
       passed = g.passed;
@@ -84,36 +83,36 @@ goes_taken limit bytes index first old new r g e =
       read = g.read;
       split = g.split;
       blocks = g.blocks;
-      next = ap (λ (c : Pending). c.next) (sym e) ∙ g.next;
-      low = ap (λ (c : Pending). c.low) (sym e) ∙ g.low;
-      high = ap (λ (c : Pending). c.high) (sym e) ∙ g.high;
-      rows = g.rows ∙ ap (λ (c : Pending). c.rows) e;
+      next = ap (λ (c : CursorView). c.next) (sym e) ∙ g.next;
+      low = ap (λ (c : CursorView). c.low) (sym e) ∙ g.low;
+      high = ap (λ (c : CursorView). c.high) (sym e) ∙ g.high;
+      rows = g.rows ∙ ap (λ (c : CursorView). c.rows) e;
     }
 
 -- the rest of an index from a number on
-pub rest_at : (index passed rest : List Row) (n : ℕ) → drop n index ≡ passed ++ rest → found_at index (n + length passed) ≡ first_behind (last_key (last_key None (take n index)) passed) rest
+pub rest_at : (index passed rest : List RowView) (n : ℕ) → drop n index ≡ passed ++ rest → found_at index (n + length passed) ≡ first_after (last_key (last_key None (take n index)) passed) rest
 rest_at index passed rest n e =
     let back : drop (n + length passed) index ≡ rest =
     sym (drop-drop (length passed) n index) ∙ ap (drop (length passed)) e ∙ drop_at passed rest (length passed) refl in
     let front : take (n + length passed) index ≡ take n index ++ passed =
     take-add n (length passed) index
-    ∙ ap (λ (xs : List Row). take n index ++ take (length passed) xs) e
-    ∙ ap (λ (xs : List Row). take n index ++ xs) (take_at passed rest (length passed) refl) in
-    (λ i. first_behind (last_key None (front i)) (back i))
-    ∙ ap (λ (k : Option (List ℕ)). first_behind k rest) (last_key-append None (take n index) passed)
+    ∙ ap (λ (xs : List RowView). take n index ++ take (length passed) xs) e
+    ∙ ap (λ (xs : List RowView). take n index ++ xs) (take_at passed rest (length passed) refl) in
+    (λ i. first_after (last_key None (front i)) (back i))
+    ∙ ap (λ (k : Option (List ℕ)). first_after k rest) (last_key-append None (take n index) passed)
 
 -- one more entry of an index is passed
-pub first_is : (low low' : Option (List ℕ)) (rest : List Row) (e : Row) → first_behind low rest ≡ Some (low', e) → (low ≡ low') × ((more : List Row) × (rest ≡ e ∷ more))
+pub first_is : (low low' : Option (List ℕ)) (rest : List RowView) (e : RowView) → first_after low rest ≡ Some (low', e) → (low ≡ low') × ((more : List RowView) × (rest ≡ e ∷ more))
 first_is low low' [] e h = cc
 first_is low low' (r ∷ rest) e h =
-    let both : ◌≡◌ {A = Option (Option (List ℕ) × Row)} (Some (low, r)) (Some (low', e)) = h in
-    let inner : ◌≡◌ {A = Option (List ℕ) × Row} (low, r) (low', e) = cc in
-    (ap (λ (x : Option (List ℕ) × Row). x.0) inner, (rest, ap (λ (x : Option (List ℕ) × Row). x.1 ∷ rest) inner))
+    let both : ◌≡◌ {A = Option (Option (List ℕ) × RowView)} (Some (low, r)) (Some (low', e)) = h in
+    let inner : ◌≡◌ {A = Option (List ℕ) × RowView} (low, r) (low', e) = cc in
+    (ap (λ (x : Option (List ℕ) × RowView). x.0) inner, (rest, ap (λ (x : Option (List ℕ) × RowView). x.1 ∷ rest) inner))
 
-pub goes_on : (limit : ℕ) (bytes : List ℕ) (index : List Row) (first old new : Pending) → Goes limit bytes index first old [] → old.rows ≡ [] → Fills {T = Unit {0}} limit bytes index old new (Ok (tt {0})) → Goes limit bytes index first new []
+pub goes_on : (limit : ℕ) (bytes : List ℕ) (index : List RowView) (first old new : CursorView) → Goes limit bytes index first old [] → old.rows ≡ [] → Fills {T = Unit {0}} limit bytes index old new (Ok (tt {0})) → Goes limit bytes index first new []
 goes_on limit bytes index first old new g n ((low, e, h, rows, at, one, s, between, kept), low_is, high_is, next_is) =
     let base = last_key None (take first.next index) in
-    let here : first_behind (last_key base g.passed) g.rest ≡ Some (low, e) =
+    let here : first_after (last_key base g.passed) g.rest ≡ Some (low, e) =
     sym (rest_at index g.passed g.rest first.next g.split) ∙ ap (found_at index) (sym g.next) ∙ at in
     let cut = first_is (last_key base g.passed) low g.rest e here in
     let block : Blocks limit bytes (last_key base g.passed) (e ∷ []) rows =
@@ -122,46 +121,46 @@ goes_on limit bytes index first old new g n ((low, e, h, rows, at, one, s, betwe
       passed = g.passed ++ e ∷ [];
       rest = cut.1.0;
       read = g.read ++ rows;
-      split = g.split ∙ ap (λ (xs : List Row). g.passed ++ xs) cut.1.1 ∙ sym (append_assoc g.passed (e ∷ []) cut.1.0);
+      split = g.split ∙ ap (λ (xs : List RowView). g.passed ++ xs) cut.1.1 ∙ sym (append_assoc g.passed (e ∷ []) cut.1.0);
       next = next_is ∙ simp length-append (let m = g.next in omega arith);
       blocks = blocks-append limit bytes base g.passed (e ∷ []) g.read rows g.blocks block;
       low = low_is ∙ g.low;
       high = high_is ∙ g.high;
       rows =
-          ap (λ (xs : List Row). first.rows ++ xs) (in_range-append first.low first.high g.read rows)
+          ap (λ (xs : List RowView). first.rows ++ xs) (in_range-append first.low first.high g.read rows)
           ∙ sym (append_assoc first.rows (in_range first.low first.high g.read) (in_range first.low first.high rows))
-          ∙ ap (λ (xs : List Row). xs ++ in_range first.low first.high rows) (g.rows ∙ n)
+          ∙ ap (λ (xs : List RowView). xs ++ in_range first.low first.high rows) (g.rows ∙ n)
           ∙ (λ i. in_range (sym g.low i) (sym g.high i) rows)
           ∙ sym kept;
     }
 
 -- after a refusal nothing more is passed
-pub goes_still : (limit : ℕ) (bytes : List ℕ) (index : List Row) (first old new : Pending) → Goes limit bytes index first old [] → new ≡ old → Goes limit bytes index first new []
-goes_still limit bytes index first old new g e = subst (λ (c : Pending). Goes limit bytes index first c []) (sym e) g
+pub goes_still : (limit : ℕ) (bytes : List ℕ) (index : List RowView) (first old new : CursorView) → Goes limit bytes index first old [] → new ≡ old → Goes limit bytes index first new []
+goes_still limit bytes index first old new g e = subst (λ (c : CursorView). Goes limit bytes index first c []) (sym e) g
 
 -- what is read of a block, or why it is refused
-pub next_read : {V : Type 0} (items : V → List Row) (r : Result V TableErr) (limit : ℕ) (bytes block text : List ℕ) (index : List Row) (next : ℕ) (a : Around) (h : Handle) (low high : List ℕ) → limit ≤ length bytes → IsBlockAt index next a h → ReadsBlock {T = Unit {0}} limit bytes h block (Ok (tt {0})) → text ≡ block → MatchResult r (λ v. KeepsRange (lies_in a) text low high (items v)) (λ e. RefusesBlock (lies_in a) h.offset text e) → MatchResult r (λ v. ReadsNext limit bytes index next low high (items v)) (λ e. RefusesNext limit bytes index next e)
+pub next_read : {V : Type 0} (items : V → List RowView) (r : Result V TableErr) (limit : ℕ) (bytes block text : List ℕ) (index : List RowView) (next : ℕ) (a : BoundsView) (h : Handle) (low high : List ℕ) → limit ≤ length bytes → IsBlockAt index next a h → ReadsBlock {T = Unit {0}} limit bytes h block (Ok (tt {0})) → text ≡ block → MatchResult r (λ v. KeepsRange (lies_in a) text low high (items v)) (λ e. RefusesBlock (lies_in a) h.offset text e) → MatchResult r (λ v. ReadsNext limit bytes index next low high (items v)) (λ e. RefusesNext limit bytes index next e)
 next_read items (Ok v) limit bytes block text index next a h low high l i b t k =
-    let good = subst (λ (xs : List ℕ). Good xs k.0) (t ∙ b.1) k.1 in
+    let good = subst (λ (xs : List ℕ). IsBlock xs k.0) (t ∙ b.1) k.1 in
     let stored = is_stored limit bytes h k.0 l b.0 good in
-    let between = subst (λ (x : Around). Between x.low x.high k.0) i.keys (between_is a k.0 k.2) in
+    let between = subst (λ (x : BoundsView). Between x.low x.high k.0) i.keys (between_is a k.0 k.2) in
     (i.low, i.entry, h, k.0, i.here, i.named, stored, between, k.3)
 next_read items (Err e) limit bytes block text index next a h low high l i b t r =
     let refuses = subst (λ (xs : List ℕ). RefusesBlock (lies_in a) h.offset xs e) (t ∙ b.1) r in
     inr (a, h, i, inr (inr (b.0, refuses)))
 
 -- no block is left: the index ends
-pub done_at_end : (index : List Row) (entries : List IndexEntry) (next : ℕ) (high : List ℕ) → Decodes index entries → length entries ≤ next → IsDone index next high
+pub done_at_end : (index : List RowView) (entries : List IndexEntry) (next : ℕ) (high : List ℕ) → Decodes index entries → length entries ≤ next → IsDone index next high
 done_at_end index entries next high d l = let size = decodes_length index entries d in inl (omega arith)
 
 -- or the last index key is behind the range
-pub done_behind : (index : List Row) (next : ℕ) (k high : List ℕ) (b : Bool) → Some k ≡ last_key None (take next index) → b ≡ is_before k high → not b ≡ true → IsDone index next high
+pub done_behind : (index : List RowView) (next : ℕ) (k high : List ℕ) (b : Bool) → Some k ≡ last_key None (take next index) → b ≡ is_before k high → not b ≡ true → IsDone index next high
 done_behind index next k high b e t n = inr (k, sym e, sym t ∙ not_true b n)
 
 -- the same of equal numbers and keys
-pub next_same : (limit : ℕ) (bytes : List ℕ) (index : List Row) (next next' : ℕ) (low low' high high' : List ℕ) (kept : List Row) → next ≡ next' → low ≡ low' → high ≡ high' → ReadsNext limit bytes index next low high kept → ReadsNext limit bytes index next' low' high' kept
+pub next_same : (limit : ℕ) (bytes : List ℕ) (index : List RowView) (next next' : ℕ) (low low' high high' : List ℕ) (kept : List RowView) → next ≡ next' → low ≡ low' → high ≡ high' → ReadsNext limit bytes index next low high kept → ReadsNext limit bytes index next' low' high' kept
 next_same limit bytes index next next' low low' high high' kept n l h (k, e, hd, rows, at, one, s, between, is) =
     (k, e, hd, rows, ap (found_at index) (sym n) ∙ at, one, s, between, is ∙ (λ i. in_range (l i) (h i) rows))
 
-pub refuses_same : (limit : ℕ) (bytes : List ℕ) (index : List Row) (next next' : ℕ) (e : TableErr) → next ≡ next' → RefusesNext limit bytes index next e → RefusesNext limit bytes index next' e
+pub refuses_same : (limit : ℕ) (bytes : List ℕ) (index : List RowView) (next next' : ℕ) (e : TableErr) → next ≡ next' → RefusesNext limit bytes index next e → RefusesNext limit bytes index next' e
 refuses_same limit bytes index next next' e n r = subst (λ (k : ℕ). RefusesNext limit bytes index k e) n r

@@ -3,21 +3,24 @@ use Rattle.std.proofs.Common.{◌≡◌, ℕ, ◌-◌, Bool, true, false, List, 
 use Rattle.std.specs.Prelude.{IsTrue, not, if◌then◌else◌, nat_lt}
 use Rattle.std.proofs.lemmas.List.Elements.{All-weaker, All-head, All-tail, All-append, All-same, All-cons, All-nil}
 use Rattle.st_base.specs.Damages.{DamageView, unmet}
-use Rattle.st_tblock.specs.Reading.{Read}
-use Rattle.st_tblock.specs.Block.{Row, Walk, Rows, Good, next_in, is_above, is_before, is_had}
-use Rattle.st_tblock.specs.Cursor.{fault_at}
+use Rattle.st_tblock.specs.Parsing.{Read}
+use Rattle.st_tblock.specs.Block.{RowView, BlockReading, Rows, IsBlock, next_in, is_above, is_before, is_had}
+use Rattle.st_tblock.specs.Cursor.{damage_at}
 use Rattle.st_tblock.specs.Handles.{IsHandle}
 use Rattle.st_tblock.specs.declared.handle.Handle.{Handle}
-use Rattle.st_tblock.proofs.Following.{no_next, front_of_good, one_reading}
-use Rattle.st_table.specs.Table.{Stored, Blocks, IsTable, is_at_most}
+use Rattle.st_tblock.proofs.Following.{no_next, prefix_of_block, one_reading}
+use Rattle.st_table.specs.TableFile.{Stored, Blocks, IsTable, is_at_most}
 use Rattle.st_tblock.specs.Lookup.{lookup}
-use Rattle.st_table.specs.Lookup.{find}
-use Rattle.st_table.specs.Errors.{Refusal, refusal_of, IsOutside}
-use Rattle.st_table.specs.ReadingRows.{Fails, entry_wrong, row_wrong, row_of, lies_in}
-use Rattle.st_table.specs.ReadingIndex.{Entered, RefusesStored, RefusesTable, holds_handle, footer_wrong, moved}
+use Rattle.st_table.specs.IndexLookup.{entry_for}
+use Rattle.st_table.specs.Errors.{TableErrView, err_view, NoCheckFailed}
+use Rattle.st_table.specs.Rows.{Fails, entry_wrong, row_wrong, row_of, lies_in}
+use Rattle.st_table.specs.Index.{Entered, RefusesStored, RefusesTable, holds_handle, footer_wrong, moved}
 use Rattle.st_table.proofs.Indexes.{handle_passes}
 use Rattle.std.proofs.lemmas.Bool.Decides.{nat_tests}
-use Rattle.st_table.specs.ReadingTable.{Rises, Named, RefusesNamed, Gets, GetsRow, around}
+use Rattle.st_table.specs.RowOrder.{KeysRiseAbove}
+use Rattle.st_table.specs.IndexLookup.{Named}
+use Rattle.st_table.specs.Table.{RefusesNamed, Gets, GetsRow}
+use Rattle.st_table.specs.Index.{around}
 use Rattle.st_table.specs.declared.errors.TableErr.{TableErr}
 use Rattle.st_table.specs.declared.index.IndexEntry.{IndexEntry}
 use Rattle.st_tblock.proofs.Order.{before_trans, at_most_before, not_behind}
@@ -31,42 +34,42 @@ not_true true h = cc
 not_true false h = refl
 
 -- no check fails at an entry of a good block whose rows pass
-entry_is_good : (takes : Row → Bool) (place : ℕ) (w v : Walk) (more : List Row) (f : DamageView) → Rows w more v → v.rest ≡ [] → IsTrue (is_had v.at v.left) → All (λ r. IsTrue (takes r)) more → entry_wrong takes place w ≡ Some f → ⊥
-entry_is_good takes place w v [] f h e t a wrong =
-    let rest : w.rest ≡ [] = ap (λ (u : Walk). u.rest) h ∙ e in
-    let had : is_had w.at w.left ≡ true = ap (λ (u : Walk). is_had u.at u.left) h ∙ t in
-    let none : fault_at place w w.rest ≡ None = ap (fault_at place w) rest ∙ ap (λ (b : Bool). if b then None else Some (unmet place)) had in
-    let no_row : row_wrong takes place w (next_in w) ≡ None = ap (row_wrong takes place w) (no_next w rest) in
+entry_is_good : (takes : RowView → Bool) (base : ℕ) (w v : BlockReading) (more : List RowView) (f : DamageView) → Rows w more v → v.rest ≡ [] → IsTrue (is_had v.at v.left) → All (λ r. IsTrue (takes r)) more → entry_wrong takes base w ≡ Some f → ⊥
+entry_is_good takes base w v [] f h e t a wrong =
+    let rest : w.rest ≡ [] = ap (λ (u : BlockReading). u.rest) h ∙ e in
+    let had : is_had w.at w.left ≡ true = ap (λ (u : BlockReading). is_had u.at u.left) h ∙ t in
+    let none : damage_at base w w.rest ≡ None = ap (damage_at base w) rest ∙ ap (λ (b : Bool). if b then None else Some (unmet base)) had in
+    let no_row : row_wrong takes base w (next_in w) ≡ None = ap (row_wrong takes base w) (no_next w rest) in
     let both : ◌≡◌ {A = Option DamageView} None (Some f) = rw (none, no_row) at wrong in
     cc
-entry_is_good takes place w v (r ∷ more) f h e t a wrong =
+entry_is_good takes base w v (r ∷ more) f h e t a wrong =
     let row : row_of w h.0 ≡ r = λ i. (h.2 i, h.3 i) in
     let pass : takes (row_of w h.0) ≡ true = ap takes row ∙ All-head (λ q. IsTrue (takes q)) r more a in
-    let here = row_is_wrong takes place w h.0 h.1 in
-    let none : row_wrong takes place w (Some h.0) ≡ None = rw pass refl in
+    let here = row_is_wrong takes base w h.0 h.1 in
+    let none : row_wrong takes base w (Some h.0) ≡ None = rw pass refl in
     let both : ◌≡◌ {A = Option DamageView} None (Some f) = sym none ∙ sym here ∙ wrong in
     cc
 
 -- the second part of a list whose elements all pass
-pub rest_pass : (P : Row → Type 0) (xs ys : List Row) → All P (xs ++ ys) → All P ys
+pub rest_pass : (P : RowView → Type 0) (xs ys : List RowView) → All P (xs ++ ys) → All P ys
 rest_pass P [] ys a = a
 rest_pass P (x ∷ xs) ys a = rest_pass P xs ys (All-tail P x (xs ++ ys) a)
 
 -- no check of a good block fails whose rows pass
-pub good_block : (takes : Row → Bool) (place : ℕ) (block : List ℕ) (rows : List Row) (f : DamageView) → Good block rows → All (λ r. IsTrue (takes r)) rows → Fails takes place block f → ⊥
-good_block takes place block rows f g a (inl h) =
-    let both : ◌≡◌ {A = Option (List ℕ × List ℕ)} (Some (g.text, g.places)) None = sym g.restarts ∙ h.0 in
+pub good_block : (takes : RowView → Bool) (base : ℕ) (block : List ℕ) (rows : List RowView) (f : DamageView) → IsBlock block rows → All (λ r. IsTrue (takes r)) rows → Fails takes base block f → ⊥
+good_block takes base block rows f g a (inl h) =
+    let both : ◌≡◌ {A = Option (List ℕ × List ℕ)} (Some (g.text, g.restarts)) None = sym g.split ∙ h.0 in
     cc
-good_block takes place block rows f g a (inr (w, done, b, wrong)) =
-    let front = front_of_good block b.text b.places done rows w b.restarts b.entries g in
+good_block takes base block rows f g a (inr (w, done, b, wrong)) =
+    let front = prefix_of_block block b.text b.restarts done rows w b.split b.entries g in
     let more = rest_pass (λ r. IsTrue (takes r)) done front.0 (All-same (λ r. IsTrue (takes r)) (done ++ front.0) rows (sym front.1) a) in
-    entry_is_good takes place w g.end front.0 f front.2 g.whole g.had more wrong
+    entry_is_good takes base w g.end front.0 f front.2 g.whole g.had more wrong
 
 -- a stored block whose rows pass is refused only by the outside
-pub stored_stands : (takes : Row → Bool) (limit : ℕ) (bytes : List ℕ) (h : Handle) (rows : List Row) (e : TableErr) → Stored limit bytes h rows → All (λ r. IsTrue (takes r)) rows → RefusesStored takes limit bytes h e → IsOutside e
+pub stored_stands : (takes : RowView → Bool) (limit : ℕ) (bytes : List ℕ) (h : Handle) (rows : List RowView) (e : TableErr) → Stored limit bytes h rows → All (λ r. IsTrue (takes r)) rows → RefusesStored takes limit bytes h e → NoCheckFailed e
 stored_stands takes limit bytes h rows e s a (inl o) = o
 stored_stands takes limit bytes h rows e s a (inr (inl w)) =
-    absurd (let none = (stored_is limit bytes h rows s).0 in let both : ◌≡◌ {A = Option Refusal} None (Some (refusal_of e)) = sym none ∙ w in cc)
+    absurd (let none = (stored_is limit bytes h rows s).0 in let both : ◌≡◌ {A = Option TableErrView} None (Some (err_view e)) = sym none ∙ w in cc)
 stored_stands takes limit bytes h rows e s a (inr (inr (w, inl o))) = o
 stored_stands takes limit bytes h rows e s a (inr (inr (w, inr (f, fails, r)))) =
     absurd (good_block takes h.offset (take h.size (drop h.offset bytes)) rows f (stored_is limit bytes h rows s).1 a fails)
@@ -78,13 +81,13 @@ handle_once value h k a b =
     let inner : ◌≡◌ {A = Handle × List ℕ} (h, []) (k, []) = cc in
     ap (λ (x : Handle × List ℕ). x.0) inner
 
-pub stored_once : (limit : ℕ) (bytes : List ℕ) (h k : Handle) (rows others : List Row) → h ≡ k → Stored limit bytes h rows → Stored limit bytes k others → rows ≡ others
+pub stored_once : (limit : ℕ) (bytes : List ℕ) (h k : Handle) (rows others : List RowView) → h ≡ k → Stored limit bytes h rows → Stored limit bytes k others → rows ≡ others
 stored_once limit bytes h k rows others e s t =
     let again = subst (λ (x : Handle). Stored limit bytes x others) (sym e) t in
     one_reading (take h.size (drop h.offset bytes)) rows others (stored_is limit bytes h rows s).1 (stored_is limit bytes h others again).1
 
 -- rows before a key don't have it
-skip_before : (key : List ℕ) (here more : List Row) → All (λ r. is_before r.0 key ≡ true) here → lookup key (here ++ more) ≡ lookup key more
+skip_before : (key : List ℕ) (here more : List RowView) → All (λ r. is_before r.0 key ≡ true) here → lookup key (here ++ more) ≡ lookup key more
 skip_before key [] more a = refl
 skip_before key (r ∷ here) more a =
     let low = All-head (λ q. is_before q.0 key ≡ true) r here a in
@@ -92,20 +95,20 @@ skip_before key (r ∷ here) more a =
     rw low rest
 
 -- and rows behind it neither
-none_behind : (key : List ℕ) (more : List Row) → All (λ r. is_before key r.0 ≡ true) more → lookup key more ≡ None
+none_behind : (key : List ℕ) (more : List RowView) → All (λ r. is_before key r.0 ≡ true) more → lookup key more ≡ None
 none_behind key [] a = refl
 none_behind key (r ∷ more) a =
     let high = All-head (λ q. is_before key q.0 ≡ true) r more a in
     let low = not_behind key r.0 high in
     rw (low, high) refl
 
-stop_behind : (key : List ℕ) (here more : List Row) → All (λ r. is_before key r.0 ≡ true) more → lookup key (here ++ more) ≡ lookup key here
+stop_behind : (key : List ℕ) (here more : List RowView) → All (λ r. is_before key r.0 ≡ true) more → lookup key (here ++ more) ≡ lookup key here
 stop_behind key [] more a = none_behind key more a
 stop_behind key (r ∷ here) more a =
     ap (λ (o : Option (List ℕ)). if is_before r.0 key then o else if is_before key r.0 then None else Some r.1) (stop_behind key here more a)
 
 -- the rows of blocks lie above the key that their index rises from
-pub blocks_above : (limit : ℕ) (bytes k : List ℕ) (index rows : List Row) → Blocks limit bytes (Some k) index rows → Rises (Some k) index → All (λ r. is_before k r.0 ≡ true) rows
+pub blocks_above : (limit : ℕ) (bytes k : List ℕ) (index rows : List RowView) → Blocks limit bytes (Some k) index rows → KeysRiseAbove (Some k) index → All (λ r. is_before k r.0 ≡ true) rows
 blocks_above limit bytes k [] rows b h = All-same (λ r. is_before k r.0 ≡ true) rows [] b (All-nil (λ r. is_before k r.0 ≡ true))
 blocks_above limit bytes k (e ∷ index) rows (hd, here, more, n, s, between, split, rest) h =
     let front = All-weaker (λ r. IsTrue (is_before k r.0) × IsTrue (is_at_most e.0 r.0)) (λ r. is_before k r.0 ≡ true) (λ r p. p.0) here between in
@@ -113,12 +116,12 @@ blocks_above limit bytes k (e ∷ index) rows (hd, here, more, n, s, between, sp
     All-same (λ r. is_before k r.0 ≡ true) rows (here ++ more) split (All-append (λ r. is_before k r.0 ≡ true) here more front tail)
 
 -- a key's value stands in the block that the index names for it, or nowhere
-pub value_is : (limit : ℕ) (bytes key : List ℕ) (low : Option (List ℕ)) (index rows : List Row) (answer : Option (List ℕ)) → Blocks limit bytes low index rows → Rises low index → Named limit bytes key answer (find key low index) → answer ≡ lookup key rows
+pub value_is : (limit : ℕ) (bytes key : List ℕ) (low : Option (List ℕ)) (index rows : List RowView) (answer : Option (List ℕ)) → Blocks limit bytes low index rows → KeysRiseAbove low index → Named limit bytes key answer (entry_for key low index) → answer ≡ lookup key rows
 value_is limit bytes key low [] rows answer b h n = n ∙ ap (lookup key) (sym b)
 value_is limit bytes key low (e ∷ index) rows answer (hd, here, more, one, s, between, split, rest) h n =
     either (is_before e.0 key) refl n (value_is limit bytes key (Some e.0) index more answer rest h.1) ∙ ap (lookup key) (sym split)
   where
-    either : (b : Bool) → is_before e.0 key ≡ b → Named limit bytes key answer (if b then find key (Some e.0) index else Some (low, e)) → (Named limit bytes key answer (find key (Some e.0) index) → answer ≡ lookup key more) → answer ≡ lookup key (here ++ more)
+    either : (b : Bool) → is_before e.0 key ≡ b → Named limit bytes key answer (if b then entry_for key (Some e.0) index else Some (low, e)) → (Named limit bytes key answer (entry_for key (Some e.0) index) → answer ≡ lookup key more) → answer ≡ lookup key (here ++ more)
     either true t m next =
         let below = All-weaker (λ r. IsTrue (is_above low r.0) × IsTrue (is_at_most e.0 r.0)) (λ r. is_before r.0 key ≡ true) (λ r p. at_most_before r.0 e.0 key (not_true (is_before e.0 r.0) p.1) t) here between in
         next m ∙ sym (skip_before key here more below)
@@ -128,12 +131,12 @@ value_is limit bytes key low (e ∷ index) rows answer (hd, here, more, one, s, 
         a ∙ ap (lookup key) (sym same) ∙ sym (stop_behind key here more above)
 
 -- and that block is refused only by the outside
-pub named_stands : (limit : ℕ) (bytes key : List ℕ) (low : Option (List ℕ)) (index rows : List Row) (e : TableErr) → Blocks limit bytes low index rows → RefusesNamed limit bytes (find key low index) e → IsOutside e
+pub named_stands : (limit : ℕ) (bytes key : List ℕ) (low : Option (List ℕ)) (index rows : List RowView) (e : TableErr) → Blocks limit bytes low index rows → RefusesNamed limit bytes (entry_for key low index) e → NoCheckFailed e
 named_stands limit bytes key low [] rows e b n = absurd n
 named_stands limit bytes key low (r ∷ index) rows e (hd, here, more, one, s, between, split, rest) n =
     either (is_before r.0 key) n (named_stands limit bytes key (Some r.0) index more e rest)
   where
-    either : (b : Bool) → RefusesNamed limit bytes (if b then find key (Some r.0) index else Some (low, r)) e → (RefusesNamed limit bytes (find key (Some r.0) index) e → IsOutside e) → IsOutside e
+    either : (b : Bool) → RefusesNamed limit bytes (if b then entry_for key (Some r.0) index else Some (low, r)) e → (RefusesNamed limit bytes (entry_for key (Some r.0) index) e → NoCheckFailed e) → NoCheckFailed e
     either true m next = next m
     either false (k, two, refuses) next =
         let same = handle_once r.1 hd k one two in
@@ -141,39 +144,39 @@ named_stands limit bytes key low (r ∷ index) rows e (hd, here, more, one, s, b
         stored_stands (lies_in (around (low, r))) limit bytes k here e there (is_between low r.0 here between) refuses
 
 -- a table has one index
-pub index_once : (bytes : List ℕ) (rows : List Row) (entries : List IndexEntry) → (t : IsTable bytes rows) → (n : Entered bytes entries) → t.index ≡ n.index
+pub index_once : (bytes : List ℕ) (rows : List RowView) (entries : List IndexEntry) → (t : IsTable bytes rows) → (n : Entered bytes entries) → t.index ≡ n.index
 index_once bytes rows entries t n =
     let both : ◌≡◌ {A = Result (Handle × Handle) DamageView} (Ok (t.meta, t.named)) (Ok (n.meta, n.named)) = sym t.handles ∙ n.handles in
     let inner : ◌≡◌ {A = Handle × Handle} (t.meta, t.named) (n.meta, n.named) = cc in
     stored_once (length bytes - 48) bytes t.named n.named t.index n.index (ap (λ (x : Handle × Handle). x.1) inner) t.stored n.stored
 
 -- the keys of an index rise
-pub entered_rises : (bytes : List ℕ) (entries : List IndexEntry) → (n : Entered bytes entries) → Rises None n.index
+pub entered_rises : (bytes : List ℕ) (entries : List IndexEntry) → (n : Entered bytes entries) → KeysRiseAbove None n.index
 entered_rises bytes entries n = good_rises _ n.index (stored_is (length bytes - 48) bytes n.named n.index n.stored).1
 
 -- so what the index says of a key over a table is the row's value
-pub gets_row : (bytes key : List ℕ) (rows : List Row) (entries : List IndexEntry) (r : Result (Option (List ℕ)) TableErr) → (t : IsTable bytes rows) → (n : Entered bytes entries) → Gets (length bytes - 48) bytes key n.index r → GetsRow key rows r
+pub gets_row : (bytes key : List ℕ) (rows : List RowView) (entries : List IndexEntry) (r : Result (Option (List ℕ)) TableErr) → (t : IsTable bytes rows) → (n : Entered bytes entries) → Gets (length bytes - 48) bytes key n.index r → GetsRow key rows r
 gets_row bytes key rows entries (Ok answer) t n g =
-    let blocks = subst (λ (i : List Row). Blocks (length bytes - 48) bytes None i rows) (index_once bytes rows entries t n) t.blocks in
+    let blocks = subst (λ (i : List RowView). Blocks (length bytes - 48) bytes None i rows) (index_once bytes rows entries t n) t.blocks in
     value_is (length bytes - 48) bytes key None n.index rows answer blocks (entered_rises bytes entries n) g
 gets_row bytes key rows entries (Err e) t n (inl o) = o
 gets_row bytes key rows entries (Err e) t n (inr g) =
-    let blocks = subst (λ (i : List Row). Blocks (length bytes - 48) bytes None i rows) (index_once bytes rows entries t n) t.blocks in
+    let blocks = subst (λ (i : List RowView). Blocks (length bytes - 48) bytes None i rows) (index_once bytes rows entries t n) t.blocks in
     named_stands (length bytes - 48) bytes key None n.index rows e blocks g
 
 -- each entry of an index that names blocks is one handle
-blocks_handles : (limit : ℕ) (bytes : List ℕ) (low : Option (List ℕ)) (index rows : List Row) → Blocks limit bytes low index rows → All (λ r. IsTrue (holds_handle r)) index
+blocks_handles : (limit : ℕ) (bytes : List ℕ) (low : Option (List ℕ)) (index rows : List RowView) → Blocks limit bytes low index rows → All (λ r. IsTrue (holds_handle r)) index
 blocks_handles limit bytes low [] rows b = All-nil (λ r. IsTrue (holds_handle r))
 blocks_handles limit bytes low (e ∷ index) rows (h, here, more, one, s, between, split, rest) =
     All-cons (λ r. IsTrue (holds_handle r)) e index (handle_passes e.1 h one) (blocks_handles limit bytes (Some e.0) index more rest)
 
 -- over a table nothing but the outside is in the way of entering it
-pub table_entered : (bytes : List ℕ) (rows : List Row) (e : TableErr) → IsTable bytes rows → RefusesTable bytes e → IsOutside e
+pub table_entered : (bytes : List ℕ) (rows : List RowView) (e : TableErr) → IsTable bytes rows → RefusesTable bytes e → NoCheckFailed e
 table_entered bytes rows e t (inl o) = o
 table_entered bytes rows e t (inr (inl w)) =
     let some : nat_lt (length bytes) 48 ≡ false = let l = t.footer in grind (arith, nat_tests) in
     let none : footer_wrong bytes ≡ None = rw some (ap (moved (length bytes - 48)) t.handles) in
-    absurd (let both : ◌≡◌ {A = Option Refusal} None (Some (refusal_of e)) = sym none ∙ w in cc)
+    absurd (let both : ◌≡◌ {A = Option TableErrView} None (Some (err_view e)) = sym none ∙ w in cc)
 table_entered bytes rows e t (inr (inr (named, f, refuses))) =
     let both : ◌≡◌ {A = Result (Handle × Handle) DamageView} (Ok (t.meta, t.named)) (Ok (f.1.0, named)) = sym t.handles ∙ f.1.1 in
     let inner : ◌≡◌ {A = Handle × Handle} (t.meta, t.named) (f.1.0, named) = cc in

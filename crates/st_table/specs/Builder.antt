@@ -1,86 +1,74 @@
--- A table that is being written: LevelDB's table/table_builder.cc, with its default restart
--- intervals and block size.
-use Rattle.std.specs.Prelude.{ℕ, ◌+◌, List, [], ◌∷◌, ◌++◌, length, Bool, is_none, nat_le, if◌then◌else◌}
-use Rattle.byteorder.specs.Endian.{little_bytes}
-use Rattle.st_tblock.specs.Block.{Row, front_of}
-use Rattle.st_tblock.specs.Build.{Draft, empty, added, block_size, block_text}
-use Rattle.st_tblock.specs.Handles.{handle_text, footer_text}
+-- What the calls of `builder` require and ensure: which row may be added, what a builder keeps, and
+-- which rows and bytes it represents, since it keeps neither.
+use Rattle.std.specs.Prelude.{ℕ, ◌+◌, List, ◌++◌, length, ◌≡◌, ◌*◌, ◌<◌, ◌≤◌, All, Option, Some, None, IsTrue, Result, Ok, Err}
+use Rattle.st_tblock.specs.Block.{RowView, key_or_empty, is_above}
+use Rattle.st_tblock.specs.Builder.{EntryBlockView, added, block_size, HasRows}
+use Rattle.st_tblock.specs.Handles.{handle_text}
 use Rattle.st_tblock.specs.declared.handle.Handle.{Handle}
-use Rattle.st_table.specs.declared.limits.TheConstants.{BLOCK_SIZE, DATA_INTERVAL, INDEX_INTERVAL}
-use Rattle.st_table.specs.Table.{sum_of}
+use Rattle.st_table.specs.TableBuilderView.{TableBuilderView, room_of}
+use Rattle.st_table.specs.TableFile.{Blocks}
+use Rattle.st_table.specs.declared.limits.TheConstants.{BLOCK_SIZE, DATA_INTERVAL, INDEX_INTERVAL, MAX_KEY, VALUE_LIMIT, ROOM_LIMIT}
 
--- the data block that is being filled, the index block, how many bytes stand in the file, and the
--- room that the rows took
-pub record Kept : Type 0 where
-  pub block : Draft
-  pub index : Draft
-  pub at : ℕ
-  pub spent : ℕ
+-- the key of the data block at hand, or where that has none the one before it
+abbrev pub later_key : Option (List ℕ) → Option (List ℕ) → Option (List ℕ)
+later_key low None = low
+later_key low (Some key) = Some key
 
--- no rows yet, and no bytes
-abbrev pub fresh : Kept
-fresh = record { block = empty DATA_INTERVAL; index = empty INDEX_INTERVAL; at = 0; spent = 0 }
+-- the last key that was added, where there is one
+abbrev pub last_added : TableBuilderView → Option (List ℕ)
+last_added k = later_key k.index.last k.block.last
 
--- a block as it stands in the file: its bytes, the type byte 0, and the masked sum of both
-unfoldable pub stored_text : List ℕ → List ℕ
-stored_text block = block ++ (0 ∷ little_bytes 4 (sum_of 0 block))
+-- a builder of these parts, whatever room its rows took
+abbrev pub view_of : EntryBlockView → EntryBlockView → ℕ → TableBuilderView
+view_of block index at = record { block = block; index = index; at = at; spent = 0 }
 
--- the handle of the next block in the file, of so many bytes
-abbrev pub next_handle : ℕ → ℕ → Handle
-next_handle at size = record { offset = at; size = size }
+-- the row may be added: its key is above the last one and not too long, its value's length fits 32
+-- bits, and there is room
+pub record MayAdd (k : TableBuilderView) (r : RowView) : Type 0 where
+  pub above : IsTrue (is_above (last_added k) r.0)
+  pub key : length r.0 ≤ MAX_KEY
+  pub value : length r.1 < VALUE_LIMIT
+  pub room : k.spent + room_of r < ROOM_LIMIT
 
--- the room that a row takes: its bytes, and 32 for its entry, the end of its block and the five
--- bytes behind that
-abbrev pub room_of : Row → ℕ
-room_of row = length row.0 + length row.1 + 32
+-- a key, where there is one, lies above this one
+abbrev pub Follows : Option (List ℕ) → Option (List ℕ) → Type 0
+Follows low None = Unit {0}
+Follows low (Some key) = IsTrue (is_above low key)
 
--- with one more row in its data block
-abbrev pub filled : Kept → Row → Kept
-filled k row =
-    record { block = added k.block row.0 row.1; index = k.index; at = k.at; spent = k.spent + room_of row }
+-- what a builder keeps however full its data block is: keys rise, no more is written than the rows
+-- have room, and the index has at most 103 bytes for each 4,101 of data, a full block and its five
+pub record IsWithinLimits (k : TableBuilderView) : Type 0 where
+  pub block : k.block.interval ≡ DATA_INTERVAL
+  pub index : k.index.interval ≡ INDEX_INTERVAL
+  pub key : length (key_or_empty k.block.last) ≤ MAX_KEY
+  pub order : Follows k.index.last k.block.last
+  pub spent : k.spent < ROOM_LIMIT
+  pub room : k.at + block_size k.block ≤ k.spent + 8
+  pub entries : 4101 * block_size k.index ≤ 4101 * 8 + 103 * k.at
 
--- with its data block closed: the index names it under its last key
-abbrev pub closed : Kept → Kept
-closed k =
-    record {
-      block = empty DATA_INTERVAL;
-      index = added k.index (front_of k.block.last) (handle_text (next_handle k.at (block_size k.block)));
-      at = k.at + (block_size k.block + 5);
-      spent = k.spent;
-    }
+-- what every builder keeps: besides, its data block isn't full
+pub record IsSteady (k : TableBuilderView) : Type 0 where
+  pub sound : IsWithinLimits k
+  pub small : block_size k.block < BLOCK_SIZE
 
--- a data block is closed once it takes so many bytes or more
-abbrev pub is_full : Kept → Bool
-is_full k = nat_le BLOCK_SIZE (block_size k.block)
+-- an index block of this draft names whole data blocks of these bytes, which have these rows
+pub record Indexes (index : EntryBlockView) (bytes : List ℕ) (rows : List RowView) : Type 0 where
+  pub entries : List RowView
+  pub held : HasRows index entries
+  pub blocks : Blocks (length bytes) bytes None entries rows
 
--- what closing a data block writes
-abbrev pub closing : Kept → List ℕ
-closing k = stored_text (block_text k.block)
+-- these bytes were written for these rows: whole data blocks, which the index names, have the first
+-- of them, and the block at hand has the others
+pub record Builds (k : TableBuilderView) (bytes : List ℕ) (rows : List RowView) : Type 0 where
+  pub done : List RowView
+  pub here : List RowView
+  pub split : rows ≡ done ++ here
+  pub at : k.at ≡ length bytes
+  pub index : Indexes k.index bytes done
+  pub block : HasRows k.block here
+  pub above : All (λ r. IsTrue (is_above k.index.last r.0)) here
 
--- the builder after one more row: a data block that is full by it is closed
-abbrev pub after_row : Kept → Row → Kept
-after_row k row = if is_full (filled k row) then closed (filled k row) else filled k row
-
--- what that row writes: the data block that it fills, or nothing
-abbrev pub written_by : Kept → Row → List ℕ
-written_by k row = if is_full (filled k row) then closing (filled k row) else []
-
--- the metaindex block of a written table: no entries
-abbrev pub metaindex : List ℕ
-metaindex = block_text (empty INDEX_INTERVAL)
-
--- what stands behind the last data block, from this offset on: the metaindex block, the index block
--- and the footer
-abbrev pub ending_at : ℕ → Draft → List ℕ
-ending_at at index =
-    stored_text metaindex
-    ++ (stored_text (block_text index)
-    ++ footer_text (next_handle at (length metaindex)) (next_handle (at + (length metaindex + 5)) (block_size index)))
-
--- the same of a builder without rows at hand
-abbrev pub ending : Kept → List ℕ
-ending k = ending_at k.at k.index
-
--- what finishing writes: the data block at hand, where it has rows, and the ending
-abbrev pub finishing : Kept → List ℕ
-finishing k = if is_none k.block.last then ending k else closing k ++ ending (closed k)
+-- the index names one more block under this key, or after an error it is as it was
+abbrev pub Names : {T E : Type 0} → EntryBlockView → EntryBlockView → List ℕ → Handle → Result T E → Type 0
+Names old new key h (Ok x) = new ≡ added old key (handle_text h)
+Names old new key h (Err e) = new ≡ old

@@ -1,5 +1,5 @@
--- Why a call on a table refuses.
-use Rattle.std.specs.Prelude.{◌≡◌, ℕ}
+-- What an error of a call on a table says.
+use Rattle.std.specs.Prelude.{ℕ, ◌≡◌}
 use Rattle.st_base.specs.Damages.{DamageView, damage_view}
 use Rattle.st_tblock.specs.declared.cursor.CursorErr.{CursorErr}
 use Rattle.st_tblock.specs.declared.cursor.CursorErr.TheVariants as cursor
@@ -7,27 +7,27 @@ use Rattle.st_table.specs.declared.errors.TableErr.{TableErr}
 use Rattle.st_table.specs.declared.errors.TableErr.TheVariants.{ReadFault, Damaged, Compressed, NoMemory}
 
 -- what a refusal says, by its numbers: the outside failed, a check fails, a block is compressed, or memory was wanting
-pub data Refusal : Type 0 where
-  Unread : Refusal
-  Broken : DamageView → Refusal
-  Snappy : ℕ → Refusal
-  Unheld : Refusal
+pub data TableErrView : Type 0 where
+  Unread : TableErrView
+  Broken : DamageView → TableErrView
+  Snappy : ℕ → TableErrView
+  Unheld : TableErrView
 
 -- what a `TableErr` says
-abbrev pub refusal_of : TableErr → Refusal
-refusal_of ReadFault = Unread
-refusal_of (Damaged d) = Broken (damage_view d)
-refusal_of (Compressed place) = Snappy place
-refusal_of NoMemory = Unheld
+abbrev pub err_view : TableErr → TableErrView
+err_view ReadFault = Unread
+err_view (Damaged d) = Broken (damage_view d)
+err_view (Compressed place) = Snappy place
+err_view NoMemory = Unheld
 
 -- a refusal that says nothing of the file's bytes
-abbrev pub IsOutside : TableErr → Type 0
-IsOutside ReadFault = Unit {0}
-IsOutside (Damaged d) = ⊥
-IsOutside (Compressed place) = ⊥
-IsOutside NoMemory = Unit {0}
+abbrev pub NoCheckFailed : TableErr → Type 0
+NoCheckFailed ReadFault = Unit {0}
+NoCheckFailed (Damaged d) = ⊥
+NoCheckFailed (Compressed place) = ⊥
+NoCheckFailed NoMemory = Unit {0}
 
 -- a refusal of a cursor, said by a table
 abbrev pub Repeats : CursorErr → TableErr → Type 0
-Repeats (cursor.Damaged d) e = refusal_of e ≡ Broken (damage_view d)
+Repeats (cursor.Damaged d) e = err_view e ≡ Broken (damage_view d)
 Repeats cursor.NoMemory e = e ≡ NoMemory

@@ -1,54 +1,32 @@
--- A table file: LevelDB's doc/table_format.md.
--- The footer stands at the file's end and names two blocks by their handles: the index block, whose
--- entries name the data blocks in their order, and a metaindex block. The five bytes behind a block
--- are its type and its masked sum.
-use Rattle.std.specs.Prelude.{◌≡◌, ℕ, ◌+◌, ◌-◌, ◌≤◌, List, [], ◌∷◌, ◌++◌, length, take, drop, All, Option, Some, None, Bool, not, Ok, IsTrue}
-use Rattle.byteorder.specs.Endian.{little_number}
-use Rattle.st_crc.specs.Sum.{crc_of, masked}
-use Rattle.st_tblock.specs.Block.{Row, Good, is_before, is_above}
-use Rattle.st_tblock.specs.Handles.{IsHandle, footer_in}
+-- What the calls of `table` answer.
+use Rattle.std.specs.Prelude.{ℕ, List, ◌≡◌, Option, Some, None, Result, Ok, Err, ◌⊎◌}
+use Rattle.st_tblock.specs.Block.{RowView}
+use Rattle.st_tblock.specs.Handles.{IsHandle}
+use Rattle.st_tblock.specs.Lookup.{lookup}
 use Rattle.st_tblock.specs.declared.handle.Handle.{Handle}
+use Rattle.st_table.specs.Errors.{NoCheckFailed}
+use Rattle.st_table.specs.Index.{RefusesStored, Entered, RefusesTable, around}
+use Rattle.st_table.specs.IndexLookup.{entry_for, Named}
+use Rattle.st_table.specs.Rows.{lies_in}
+use Rattle.st_table.specs.declared.errors.TableErr.{TableErr}
+use Rattle.st_table.specs.declared.index.IndexEntry.{IndexEntry}
 
--- the sum that stands behind a block and its type byte: RFC 3720's CRC-32C, masked
-unfoldable pub sum_of : ℕ → List ℕ → ℕ
-sum_of kind block = masked (crc_of (block ++ kind ∷ []))
+-- a table is entered, or refused
+abbrev pub Enters : {T : Type 0} → List ℕ → List IndexEntry → Result T TableErr → Type 0
+Enters bytes entries (Ok x) = Entered bytes entries
+Enters bytes entries (Err e) = RefusesTable bytes e
 
--- these bytes are a plain block of so many bytes and the five behind it, and the block is good for
--- these rows
-pub record Plain (part : List ℕ) (size : ℕ) (rows : List Row) : Type 0 where
-  pub whole : length part ≡ size + 5
-  pub kind : take 1 (drop size part) ≡ 0 ∷ []
-  pub sum : little_number 4 (drop (size + 1) part) ≡ sum_of 0 (take size part)
-  pub good : Good (take size part) rows
+-- the first check that fails in the block that the index names for a key
+abbrev pub RefusesNamed : ℕ → List ℕ → Option (Option (List ℕ) × RowView) → TableErr → Type 0
+RefusesNamed limit bytes None e = ⊥
+RefusesNamed limit bytes (Some x) e = (h : Handle) × IsHandle x.1.1 h × RefusesStored (lies_in (around x)) limit bytes h e
 
--- the handle names a plain block of these rows, and the block and its five bytes end at or before
--- the limit
-pub record Stored (limit : ℕ) (bytes : List ℕ) (h : Handle) (rows : List Row) : Type 0 where
-  pub within : h.offset + (h.size + 5) ≤ limit
-  pub plain : Plain (take (h.size + 5) (drop h.offset bytes)) h.size rows
+-- what is answered for a key, by the index
+abbrev pub Gets : ℕ → List ℕ → List ℕ → List RowView → Result (Option (List ℕ)) TableErr → Type 0
+Gets limit bytes key index (Ok answer) = Named limit bytes key answer (entry_for key None index)
+Gets limit bytes key index (Err e) = NoCheckFailed e ⊎ RefusesNamed limit bytes (entry_for key None index) e
 
--- a key is at most this one, by bytes
-abbrev pub is_at_most : List ℕ → List ℕ → Bool
-is_at_most high key = not (is_before high key)
-
--- the keys of these rows lie above one index key, where there is one, and are at most the next
-abbrev pub Between : Option (List ℕ) → List ℕ → List Row → Type 0
-Between low high rows = All (λ r. IsTrue (is_above low r.0) × IsTrue (is_at_most high r.0)) rows
-
--- the entries of an index name blocks that have these rows, in their order, each between its index
--- keys
-abbrev pub Blocks : ℕ → List ℕ → Option (List ℕ) → List Row → List Row → Type 0
-Blocks limit bytes low [] rows = rows ≡ []
-Blocks limit bytes low (e ∷ index) rows =
-    (h : Handle) × (here : List Row) × (more : List Row) × IsHandle e.1 h × Stored limit bytes h here
-    × Between low e.0 here × (rows ≡ here ++ more) × Blocks limit bytes (Some e.0) index more
-
--- these bytes are a table of these rows; the metaindex block is not looked at
-pub record IsTable (bytes : List ℕ) (rows : List Row) : Type 0 where
-  pub footer : 48 ≤ length bytes
-  pub meta : Handle
-  pub named : Handle
-  pub handles : footer_in (drop (length bytes - 48) bytes) ≡ Ok (meta, named)
-  pub index : List Row
-  pub stored : Stored (length bytes - 48) bytes named index
-  pub blocks : Blocks (length bytes - 48) bytes None index rows
+-- what is answered for a key over a table of these rows: its value or none; nothing but the outside is in the way
+abbrev pub GetsRow : List ℕ → List RowView → Result (Option (List ℕ)) TableErr → Type 0
+GetsRow key rows (Ok answer) = answer ≡ lookup key rows
+GetsRow key rows (Err e) = NoCheckFailed e

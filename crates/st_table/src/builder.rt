@@ -1,13 +1,12 @@
 ghost use Rattle.std.specs.Prelude.{◌≡◌, ◌≤◌, ◌<◌, ◌+◌, ◌^◌, ◌++◌, ◌∷◌, [], List, ℕ, length, OnOk, IfOk, IsTrue, Some, Ok, ◌↔◌};
 ghost use Rattle.st_base.specs.Faults.{HasCauseOf};
 ghost use Rattle.st_base.specs.Pieces.{Puts};
-ghost use Rattle.st_tblock.specs.Block.{Row, Good, front_of, is_above};
-ghost use Rattle.st_tblock.specs.Build.{empty, block_size, block_text, Holds};
+ghost use Rattle.st_tblock.specs.Block.{RowView, IsBlock, key_or_empty, is_above};
+ghost use Rattle.st_tblock.specs.Builder.{empty, block_size, block_text, HasRows};
 ghost use Rattle.st_tblock.specs.Handles.{handle_text, footer_text, footer_in};
-ghost use Rattle.st_table.specs.Table.{IsTable};
-ghost use Rattle.st_table.specs.Builder.{fresh, room_of, next_handle, stored_text, after_row, written_by, ending_at, finishing};
-ghost use Rattle.st_table.specs.Builds.{Builds, Indexes, MayAdd, Follows, kept_at, last_added};
-ghost use Rattle.st_table.specs.Writing.{Names};
+ghost use Rattle.st_table.specs.TableFile.{IsTable};
+ghost use Rattle.st_table.specs.TableBuilderView.{no_rows, room_of, next_handle, stored_text, after_row, written_by, ending_at, finishing};
+ghost use Rattle.st_table.specs.Builder.{Builds, Indexes, MayAdd, Follows, view_of, last_added, Names};
 
 use crate::build_errors::BuildErr;
 use crate::limits::{BLOCK_SIZE, DATA_INTERVAL, INDEX_INTERVAL, MAX_KEY, ROOM_LIMIT, VALUE_LIMIT};
@@ -27,13 +26,13 @@ fn put_named<S: Sink>(
     handle: Handle,
     sink: &mut S,
 ) -> Result<(), BuildErr>
-    requires above { IsTrue (is_above index.old.last (front_of block.old.last)) }
-    requires key { length (front_of block.old.last) ≤ MAX_KEY }
+    requires above { IsTrue (is_above index.old.last (key_or_empty block.old.last)) }
+    requires key { length (key_or_empty block.old.last) ≤ MAX_KEY }
     requires room { block_size index.old < 2 ^ 32 }
     ensures bytes { Puts (S.written sink.old) (S.written sink.new) (stored_text (block_text block.old)) result }
-    ensures good { OnOk result ((rows : List Row) → Holds block.old rows → Good (block_text block.old) rows) }
-    ensures index { Names index.old index.new (front_of block.old.last) handle result }
-    ensures named { OnOk result ((rows : List Row) → Holds index.old rows → Holds index.new (rows ++ (front_of block.old.last, handle_text handle) ∷ [])) }
+    ensures good { OnOk result ((rows : List RowView) → HasRows block.old rows → IsBlock (block_text block.old) rows) }
+    ensures index { Names index.old index.new (key_or_empty block.old.last) handle result }
+    ensures named { OnOk result ((rows : List RowView) → HasRows index.old rows → HasRows index.new (rows ++ (key_or_empty block.old.last, handle_text handle) ∷ [])) }
     ensures same { block.new ≡ block.old }
     ensures cause { HasCauseOf BuildErr.WriteFault (S.faults sink.old) (S.faults sink.new) result }
     ensures rest { S.beside sink.new ≡ S.beside sink.old }
@@ -55,14 +54,14 @@ fn close<S: Sink>(
     at: &mut u64,
     sink: &mut S,
 ) -> Result<(), BuildErr>
-    requires above { IsTrue (is_above index.old.last (front_of block.old.last)) }
-    requires key { length (front_of block.old.last) ≤ MAX_KEY }
+    requires above { IsTrue (is_above index.old.last (key_or_empty block.old.last)) }
+    requires key { length (key_or_empty block.old.last) ≤ MAX_KEY }
     requires room { block_size index.old < 2 ^ 32 }
     requires at { at.old + block_size block.old < 2 ^ 63 }
     ensures bytes { Puts (S.written sink.old) (S.written sink.new) (stored_text (block_text block.old)) result }
-    ensures good { OnOk result ((rows : List Row) → Holds block.old rows → Good (block_text block.old) rows) }
-    ensures index { Names index.old index.new (front_of block.old.last) (next_handle at.old (block_size block.old)) result }
-    ensures named { OnOk result ((rows : List Row) → Holds index.old rows → Holds index.new (rows ++ (front_of block.old.last, handle_text (next_handle at.old (block_size block.old))) ∷ [])) }
+    ensures good { OnOk result ((rows : List RowView) → HasRows block.old rows → IsBlock (block_text block.old) rows) }
+    ensures index { Names index.old index.new (key_or_empty block.old.last) (next_handle at.old (block_size block.old)) result }
+    ensures named { OnOk result ((rows : List RowView) → HasRows index.old rows → HasRows index.new (rows ++ (key_or_empty block.old.last, handle_text (next_handle at.old (block_size block.old))) ∷ [])) }
     ensures block { block.new ≡ empty block.old.interval }
     ensures at { at.new ≡ at.old + (block_size block.old + 5) }
     ensures cause { HasCauseOf BuildErr.WriteFault (S.faults sink.old) (S.faults sink.new) result }
@@ -84,7 +83,7 @@ fn put_index<S: Sink>(
     sink: &mut S,
 ) -> Result<(), BuildErr>
     ensures bytes { Puts (S.written sink.old) (S.written sink.new) (stored_text (block_text index.old) ++ footer_text meta named) result }
-    ensures good { OnOk result ((rows : List Row) → Holds index.old rows → Good (block_text index.old) rows) }
+    ensures good { OnOk result ((rows : List RowView) → HasRows index.old rows → IsBlock (block_text index.old) rows) }
     ensures size { length (footer_text meta named) ≡ 48 }
     ensures read { footer_in (footer_text meta named) ≡ Ok (meta, named) }
     ensures cause { HasCauseOf BuildErr.WriteFault (S.faults sink.old) (S.faults sink.new) result }
@@ -106,7 +105,7 @@ fn put_ending<S: Sink>(index: &mut EntryBlock, at: u64, sink: &mut S) -> Result<
     requires room { block_size index.old < 2 ^ 62 }
     ensures bytes { Puts (S.written sink.old) (S.written sink.new) (ending_at at index.old) result }
     ensures length { IfOk result (λ n. n ≡ at + length (ending_at at index.old)) }
-    ensures table { OnOk result ((bytes : List ℕ) (rows : List Row) → length bytes ≡ at → Indexes index.old bytes rows → IsTable (bytes ++ ending_at at index.old) rows) }
+    ensures table { OnOk result ((bytes : List ℕ) (rows : List RowView) → length bytes ≡ at → Indexes index.old bytes rows → IsTable (bytes ++ ending_at at index.old) rows) }
     ensures cause { HasCauseOf BuildErr.WriteFault (S.faults sink.old) (S.faults sink.new) result }
     ensures rest { S.beside sink.new ≡ S.beside sink.old }
 {
@@ -136,13 +135,13 @@ fn put_rest<S: Sink>(
     sink: &mut S,
 ) -> Result<u64, BuildErr>
     requires order { Follows index.old.last block.old.last }
-    requires key { length (front_of block.old.last) ≤ MAX_KEY }
+    requires key { length (key_or_empty block.old.last) ≤ MAX_KEY }
     requires room { block_size index.old < 2 ^ 32 }
     requires at { at + block_size block.old < 2 ^ 61 }
-    ensures bytes { Puts (S.written sink.old) (S.written sink.new) (finishing (kept_at block.old index.old at)) result }
-    ensures length { IfOk result (λ n. n ≡ at + length (finishing (kept_at block.old index.old at))) }
-    ensures table { OnOk result ((bytes : List ℕ) (rows : List Row) → Builds (kept_at block.old index.old at) bytes rows
-        → IsTable (bytes ++ finishing (kept_at block.old index.old at)) rows) }
+    ensures bytes { Puts (S.written sink.old) (S.written sink.new) (finishing (view_of block.old index.old at)) result }
+    ensures length { IfOk result (λ n. n ≡ at + length (finishing (view_of block.old index.old at))) }
+    ensures table { OnOk result ((bytes : List ℕ) (rows : List RowView) → Builds (view_of block.old index.old at) bytes rows
+        → IsTable (bytes ++ finishing (view_of block.old index.old at)) rows) }
     ensures cause { HasCauseOf BuildErr.WriteFault (S.faults sink.old) (S.faults sink.new) result }
     ensures rest { S.beside sink.new ≡ S.beside sink.old }
 {
@@ -170,10 +169,10 @@ pub struct TableBuilder {
 }
 
 impl Model for TableBuilder {
-    ghost use Rattle.st_table.specs.Builder.{Kept};
-    ghost use Rattle.st_table.specs.Builds.{IsSteady};
+    ghost use Rattle.st_table.specs.TableBuilderView.{TableBuilderView};
+    ghost use Rattle.st_table.specs.Builder.{IsSteady};
 
-    ghost Value = { Kept };
+    ghost Value = { TableBuilderView };
 
     ghost view = { λ a. record { block = a.block; index = a.index; at = a.at; spent = a.spent } };
 
@@ -185,7 +184,7 @@ impl TableBuilder {
     ///
     /// Source: LevelDB, table/table_builder.cc; docs/FORMAT.md, "Table file".
     pub fn new(alloc: Global) -> Result<TableBuilder, NoMemory>
-        ensures fresh { IfOk result (λ b. b ≡ fresh) }
+        ensures no_rows { IfOk result (λ b. b ≡ no_rows) }
         ensures builds { IfOk result (λ b. Builds b [] []) }
     {
         let block = EntryBlock::new(alloc, DATA_INTERVAL)?;
@@ -234,7 +233,7 @@ impl TableBuilder {
         ensures last { OnOk result (last_added self.new ≡ Some key.now) }
         ensures spent { OnOk result (self.new.spent ≡ self.old.spent + room_of (key.now, value.now)) }
         // The rows for which it stands.
-        ensures builds { OnOk result ((bytes : List ℕ) (rows : List Row) → Builds self.old bytes rows
+        ensures builds { OnOk result ((bytes : List ℕ) (rows : List RowView) → Builds self.old bytes rows
             → Builds self.new (bytes ++ written_by self.old (key.now, value.now)) (rows ++ (key.now, value.now) ∷ [])) }
         // When it fails, and what stays.
         ensures cause { HasCauseOf BuildErr.WriteFault (S.faults sink.old) (S.faults sink.new) result }
@@ -261,7 +260,7 @@ impl TableBuilder {
     pub fn finish<S: Sink>(self, sink: &mut S) -> Result<u64, BuildErr>
         ensures bytes { Puts (S.written sink.old) (S.written sink.new) (finishing self) result }
         ensures length { IfOk result (λ n. n ≡ self.at + length (finishing self)) }
-        ensures table { OnOk result ((bytes : List ℕ) (rows : List Row) → Builds self bytes rows → IsTable (bytes ++ finishing self) rows) }
+        ensures table { OnOk result ((bytes : List ℕ) (rows : List RowView) → Builds self bytes rows → IsTable (bytes ++ finishing self) rows) }
         ensures cause { HasCauseOf BuildErr.WriteFault (S.faults sink.old) (S.faults sink.new) result }
         ensures rest { S.beside sink.new ≡ S.beside sink.old }
     {

@@ -3,9 +3,9 @@
 ghost use Rattle.std.specs.Prelude.{◌≡◌, ◌+◌, ◌-◌, ◌<◌, List, ℕ, [], ◌∷◌, length, Some, IfOk, OnOk, OnErr, MatchOption, MatchResult, true, false};
 ghost use Rattle.st_base.specs.Faults.{HasCauseOf};
 ghost use Rattle.st_base.specs.PlacedReads.{IsSameFile};
-ghost use Rattle.st_tblock.specs.Block.{Row as Pair};
-ghost use Rattle.st_table.specs.ReadingIndex.{Decodes};
-ghost use Rattle.st_table.specs.ReadingRange.{unread, Fills, IsDone, ReadsNext, RefusesNext, Steps};
+ghost use Rattle.st_tblock.specs.Block.{RowView};
+ghost use Rattle.st_table.specs.Index.{Decodes};
+ghost use Rattle.st_table.specs.Cursor.{unread, Fills, IsDone, ReadsNext, RefusesNext, Steps};
 
 use crate::errors::TableErr;
 use crate::index::{IndexEntry, block_at, key_before};
@@ -18,7 +18,7 @@ use std::marker::Model;
 
 /// Where a reading of the rows between two keys stands.
 ///
-/// It is seen as `Pending`: the two keys, the rows of the block at hand that are still to come, and
+/// It is seen as `CursorView`: the two keys, the rows of the block at hand that are still to come, and
 /// the number of the index entry that names the next block.
 #[derive(Drop)]
 pub struct Cursor {
@@ -29,9 +29,9 @@ pub struct Cursor {
 }
 
 impl Model for Cursor {
-    ghost use Rattle.st_table.specs.ReadingRange.{Pending};
+    ghost use Rattle.st_table.specs.Cursor.{CursorView};
 
-    ghost Value = { Pending };
+    ghost Value = { CursorView };
 
     ghost view = { λ a. record { low = a.low; high = a.high; rows = a.rows.items; next = a.next } };
 }
@@ -63,7 +63,7 @@ impl Cursor {
     /// Whether no block is left that may have rows in the range.
     fn is_done(&self, entries: &[IndexEntry]) -> bool
         ensures left { result ≡ false → self.now.next < length entries.now }
-        ensures done { (index : List Pair) → Decodes index entries.now → result ≡ true
+        ensures done { (index : List RowView) → Decodes index entries.now → result ≡ true
             → IsDone index self.now.next self.now.high }
     {
         ends(entries, self.next, self.high.bytes())
@@ -78,7 +78,7 @@ impl Cursor {
         block: &mut Vec<u8>,
     ) -> Result<(), TableErr>
         requires { self.old.next < length entries.now }
-        ensures fills { (bytes : List ℕ) (index : List Pair) → R.content file.old ≡ Some bytes
+        ensures fills { (bytes : List ℕ) (index : List RowView) → R.content file.old ≡ Some bytes
             → Decodes index entries.now
             → Fills (length bytes - 48) bytes index self.old self.new result }
         ensures next { OnOk result (self.new.next ≡ self.old.next + 1) }
@@ -101,7 +101,7 @@ impl Cursor {
 /// the index says.
 fn ends(entries: &[IndexEntry], next: usize, high: &[u8]) -> bool
     ensures left { result ≡ false → next < length entries.now }
-    ensures done { (index : List Pair) → Decodes index entries.now → result ≡ true
+    ensures done { (index : List RowView) → Decodes index entries.now → result ≡ true
         → IsDone index next high.now }
 {
     if next >= entries.len() {
@@ -125,7 +125,7 @@ fn read_rows<R: Reader>(
     high: &[u8],
 ) -> Result<VecDeque<Row>, TableErr>
     requires { next < length entries.now }
-    ensures rows { (bytes : List ℕ) (index : List Pair) → R.content file.old ≡ Some bytes
+    ensures rows { (bytes : List ℕ) (index : List RowView) → R.content file.old ≡ Some bytes
         → Decodes index entries.now
         → MatchResult result (λ kept. ReadsNext (length bytes - 48) bytes index next low.now high.now kept.items)
         (λ e. RefusesNext (length bytes - 48) bytes index next e) }
@@ -148,7 +148,7 @@ pub fn step_in<R: Reader>(
     block: &mut Vec<u8>,
     cursor: &mut Cursor,
 ) -> Result<Option<Row>, TableErr>
-    ensures steps { (bytes : List ℕ) (index : List Pair) → R.content file.old ≡ Some bytes
+    ensures steps { (bytes : List ℕ) (index : List RowView) → R.content file.old ≡ Some bytes
         → Decodes index entries.now
         → Steps (length bytes - 48) bytes index cursor.old cursor.new result }
     ensures cause { HasCauseOf TableErr.ReadFault (R.faults file.old) (R.faults file.new) result }

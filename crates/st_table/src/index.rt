@@ -4,12 +4,12 @@ ghost use Rattle.std.specs.Prelude.{◌≡◌, ◌≢◌, ◌+◌, ◌^◌, ◌<
 ghost use Rattle.st_base.specs.Faults.{HasCauseOf};
 ghost use Rattle.st_base.specs.PlacedReads.{IsSameFile};
 ghost use Rattle.st_tblock.specs.Handles.{handle_in, IsHandle};
-ghost use Rattle.st_table.specs.Errors.{refusal_of};
-ghost use Rattle.st_table.specs.ReadingIndex.{is_whole, StepsIndex, HasEntries, ReadsFooter, Entered, RefusesTable, Decodes, holds_handle};
-ghost use Rattle.st_table.specs.ReadingTable.{IsBlockAt, Rises, found_at, last_key};
-ghost use Rattle.st_table.specs.Lookup.{find};
-ghost use Rattle.st_tblock.specs.Block.{Row, front_of, is_before};
-ghost use Rattle.st_table.specs.ReadingRows.{RefusesBlock};
+ghost use Rattle.st_table.specs.Errors.{err_view};
+ghost use Rattle.st_table.specs.Index.{is_whole, StepsIndex, HasEntries, ReadsFooter, Entered, RefusesTable, Decodes, holds_handle, IsBlockAt};
+ghost use Rattle.st_table.specs.RowOrder.{KeysRiseAbove, last_key};
+ghost use Rattle.st_table.specs.IndexLookup.{found_at, entry_for};
+ghost use Rattle.st_tblock.specs.Block.{RowView, key_or_empty, is_before};
+ghost use Rattle.st_table.specs.Rows.{RefusesBlock};
 
 use crate::errors::TableErr;
 use crate::rows::{Bounds, refused_by};
@@ -39,7 +39,7 @@ fn handle_of(value: &[u8]) -> Option<Handle>
 /// Goes behind the next entry of the index block, and gives it.
 fn next_entry(alloc: Global, cursor: &mut EntryCursor<'_>) -> Result<Option<IndexEntry>, TableErr>
     ensures steps { StepsIndex cursor.old cursor.new result }
-    ensures shorter { IfOk result (λ o. OnSome o (length cursor.new.walk.rest < length cursor.old.walk.rest)) }
+    ensures shorter { IfOk result (λ o. OnSome o (length cursor.new.reading.rest < length cursor.old.reading.rest)) }
     ensures error { IfErr result (λ e. e ≢ TableErr.ReadFault) }
 {
     let place = cursor.offset();
@@ -56,13 +56,13 @@ fn next_entry(alloc: Global, cursor: &mut EntryCursor<'_>) -> Result<Option<Inde
     }
 }
 
-/// The entries of the index block `block`, which stands at the offset `place` of its file.
-fn entries_in(alloc: Global, block: &[u8], place: u64) -> Result<Vec<IndexEntry>, TableErr>
-    requires { place + length block.now < 2 ^ 64 }
-    ensures entries { MatchResult result (λ v. HasEntries block.now v.items) (λ e. RefusesBlock holds_handle place block.now e) }
+/// The entries of the index block `block`, which is at the offset `base` of its file.
+fn entries_in(alloc: Global, block: &[u8], base: u64) -> Result<Vec<IndexEntry>, TableErr>
+    requires { base + length block.now < 2 ^ 64 }
+    ensures entries { MatchResult result (λ v. HasEntries block.now v.items) (λ e. RefusesBlock holds_handle base block.now e) }
     ensures error { IfErr result (λ e. e ≢ TableErr.ReadFault) }
 {
-    let mut cursor = match EntryCursor::new(block, place) {
+    let mut cursor = match EntryCursor::new(block, base) {
         Ok(cursor) => cursor,
         Err(damage) => return Err(TableErr::Damaged(damage)),
     };
@@ -147,11 +147,11 @@ pub fn read_index<R: Reader>(
 
 /// The number of the first entry whose key is `key` or behind it, which names the block that may
 /// have `key`; or the number of entries.
-pub fn position(entries: &[IndexEntry], key: &[u8]) -> usize
+pub fn lower_bound(entries: &[IndexEntry], key: &[u8]) -> usize
     ensures within { result ≤ length entries.now }
-    ensures found { (index : List Row) → Decodes index entries.now → Rises None index
-        → find key.now None index ≡ found_at index result }
-    ensures before { (index : List Row) → Decodes index entries.now → Rises None index
+    ensures found { (index : List RowView) → Decodes index entries.now → KeysRiseAbove None index
+        → entry_for key.now None index ≡ found_at index result }
+    ensures before { (index : List RowView) → Decodes index entries.now → KeysRiseAbove None index
         → All (λ e. is_before e.0 key.now ≡ true) (take result index) }
 {
     let mut low = 0;
@@ -170,7 +170,7 @@ pub fn position(entries: &[IndexEntry], key: &[u8]) -> usize
 /// The key of the entry before the one of this number, where there is one.
 pub fn key_before(entries: &[IndexEntry], i: usize) -> Option<&[u8]>
     requires { i < length entries.now }
-    ensures { (index : List Row) → Decodes index entries.now
+    ensures { (index : List RowView) → Decodes index entries.now
         → option_map (λ k. k.now) result ≡ last_key None (take i index) }
 {
     if i == 0 {
@@ -182,7 +182,7 @@ pub fn key_before(entries: &[IndexEntry], i: usize) -> Option<&[u8]>
 /// The index keys around the block that the entry of this number names, and where it stands.
 pub fn block_at(entries: &[IndexEntry], i: usize) -> (Bounds<'_>, Handle)
     requires { i < length entries.now }
-    ensures { (index : List Row) → Decodes index entries.now → IsBlockAt index i result.0 result.1 }
+    ensures { (index : List RowView) → Decodes index entries.now → IsBlockAt index i result.0 result.1 }
 {
     let low = key_before(entries, i);
     let entry = &entries[i];
@@ -192,7 +192,7 @@ pub fn block_at(entries: &[IndexEntry], i: usize) -> (Bounds<'_>, Handle)
 
 /// The key of the last entry, or no bytes where there is none.
 pub fn last_of(entries: &[IndexEntry]) -> &[u8]
-    ensures { (index : List Row) → Decodes index entries.now → result.now ≡ front_of (last_key None index) }
+    ensures { (index : List RowView) → Decodes index entries.now → result.now ≡ key_or_empty (last_key None index) }
 {
     if entries.is_empty() {
         return &[];

@@ -13,18 +13,18 @@
 //! - Over a table a reader gives the value of a key, or none, by one read at most (`Table::get`),
 //!   and the rows between two keys in their order (`Table::range`, `Table::step`). Over other bytes
 //!   it is refused by the first check that fails in what it reads, with its place.
-//! - A fault of the sink or of the file is told only where its count rose.
+//! - A fault of the sink or of the file is known only where its count rose.
 //! - The keys of a table rise over all its blocks, and bytes are a table of one list of rows at
 //!   most (`keys_rise`, `one_list_of_rows`).
-//! - A data block counts as walked only where all its checks held; in such a block `Table::get`
+//! - A data block counts as checked only where all its checks held; in such a block `Table::get`
 //!   looks a key up without walking it again, and gives the same answer.
 //!
 //! # From call to call
 //!
 //! What `get`, `range` and `step` say of rows rests on two facts of what the table keeps, over a
-//! content that stays: `Entered`, its entries are those of the index block, and `Walked`, the
-//! blocks that count as walked are good. `enter` gives both (`enters`, `walked`), and a caller goes
-//! on by `same`, `entries` and `walked` behind a `get`, by `same`, `entries` and `marks` behind a
+//! content that stays: `Entered`, its entries are those of the index block, and `Checked`, the
+//! blocks that count as checked are good. `enter` gives both (`enters`, `checked`), and a caller goes
+//! on by `same`, `entries` and `checked` behind a `get`, by `same`, `entries` and `marks` behind a
 //! `step`, whatever they answer.
 //!
 //! # What it leaves to others
@@ -36,7 +36,7 @@
 //! # Where to read
 //!
 //! `specs/Table.antt` says what a table is, `specs/Builder.antt` what a builder writes,
-//! `specs/Lookup.antt` what is looked for, `specs/Walked.antt` what a table remembers. Then
+//! `specs/Lookup.antt` what is looked for, `specs/Checked.antt` what a table remembers. Then
 //! `builder` and `puts`; `table`, and below it `stored`, `index`, `rows`, `marks` and `cursor`.
 #![tactic(auto)]
 

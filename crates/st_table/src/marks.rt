@@ -1,4 +1,4 @@
-//! Marks of a table's index entries: those whose data blocks were walked to their end.
+//! Marks of a table's index entries: those whose data blocks were checked to their end.
 
 ghost use Rattle.std.specs.Prelude.{◌≡◌, IfOk, replicate, slice_index_or, slice_set, true, false};
 
@@ -17,7 +17,7 @@ pub fn unmarked(alloc: Global, count: usize) -> Result<Vec<bool>, NoMemory>
 }
 
 /// Whether the index entry of this number is marked.
-pub fn is_walked(marks: &[bool], i: usize) -> bool
+pub fn is_checked(marks: &[bool], i: usize) -> bool
     ensures { result ≡ slice_index_or marks.now i false }
 {
     i < marks.len() && marks[i]

@@ -4,10 +4,10 @@ ghost use Rattle.std.specs.Prelude.{◌≡◌, ◌∷◌, List, OnOk};
 ghost use Rattle.byteorder.specs.Endian.{little_bytes};
 ghost use Rattle.st_base.specs.Faults.{HasCause, HasCauseOf};
 ghost use Rattle.st_base.specs.Pieces.{Puts};
-ghost use Rattle.st_tblock.specs.Block.{Row, Good};
-ghost use Rattle.st_tblock.specs.Build.{block_text, Holds};
-ghost use Rattle.st_table.specs.Table.{sum_of};
-ghost use Rattle.st_table.specs.Builder.{stored_text};
+ghost use Rattle.st_tblock.specs.Block.{RowView, IsBlock};
+ghost use Rattle.st_tblock.specs.Builder.{block_text, HasRows};
+ghost use Rattle.st_table.specs.TableFile.{sum_of};
+ghost use Rattle.st_table.specs.TableBuilderView.{stored_text};
 
 use crate::build_errors::BuildErr;
 use byteorder::{ByteOrder, LittleEndian};
@@ -15,7 +15,7 @@ use st_base::{Failed, NoMemory, Sink, put};
 use st_tblock::{EntryBlock, crc32c, mask};
 
 /// The five bytes behind a block: its type byte, 0, and the masked sum of both.
-#[tactic(auto, unfolding(crate::specs::Table::sum_of))]
+#[tactic(auto, unfolding(crate::specs::TableFile::sum_of))]
 fn trailer(block: &[u8]) -> [u8; 5]
     ensures { result ≡ 0 ∷ little_bytes 4 (sum_of 0 block.now) }
 {
@@ -40,7 +40,7 @@ pub fn put_stored<S: Sink>(sink: &mut S, block: &[u8]) -> Result<(), Failed>
 /// Puts the block that was built, which itself stays as it was.
 pub fn put_block<S: Sink>(block: &mut EntryBlock, sink: &mut S) -> Result<(), BuildErr>
     ensures bytes { Puts (S.written sink.old) (S.written sink.new) (stored_text (block_text block.old)) result }
-    ensures good { OnOk result ((rows : List Row) → Holds block.old rows → Good (block_text block.old) rows) }
+    ensures good { OnOk result ((rows : List RowView) → HasRows block.old rows → IsBlock (block_text block.old) rows) }
     ensures same { block.new ≡ block.old }
     ensures cause { HasCauseOf BuildErr.WriteFault (S.faults sink.old) (S.faults sink.new) result }
     ensures rest { S.beside sink.new ≡ S.beside sink.old }

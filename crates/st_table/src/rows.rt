@@ -1,12 +1,11 @@
 //! The rows of a data block, which lie between the index keys around it.
 
 ghost use Rattle.std.specs.Prelude.{◌≡◌, ◌+◌, ◌^◌, ◌<◌, ◌≤◌, List, ℕ, length, IfOk, IfErr, OnSome, ◌≢◌, option_map, OnOk, MatchResult, ◌++◌, ◌∷◌, []};
-ghost use Rattle.st_tblock.specs.Block.{Row as Pair, Good, front_of};
+ghost use Rattle.st_tblock.specs.Block.{RowView, IsBlock, key_or_empty};
 ghost use Rattle.st_tblock.specs.Lookup.{lookup};
 ghost use Rattle.st_table.specs.Errors.{Repeats};
-ghost use Rattle.st_table.specs.ReadingRows.{lies_in, StepsOn, ReadsValue, RefusesBlock, answer_behind};
-ghost use Rattle.st_table.specs.ReadingRange.{KeepsRange};
-ghost use Rattle.st_table.specs.Lookup.{in_range};
+ghost use Rattle.st_table.specs.Rows.{lies_in, StepsOn, ReadsValue, RefusesBlock, answer_after, KeepsRange};
+ghost use Rattle.st_table.specs.RowOrder.{in_range};
 
 use crate::errors::TableErr;
 use st_base::{Damage, NoMemory, Octets};
@@ -25,9 +24,9 @@ pub struct Bounds<'a> {
 
 impl<'a> Model for Bounds<'a> {
     ghost use Rattle.std.specs.Prelude.{option_map};
-    ghost use Rattle.st_table.specs.ReadingRows.{Around};
+    ghost use Rattle.st_table.specs.Rows.{BoundsView};
 
-    ghost Value = { Around };
+    ghost Value = { BoundsView };
 
     ghost view = { λ a. record { low = option_map (λ k. k.now) a.low; high = a.high.now } };
 }
@@ -62,7 +61,7 @@ fn next_row<'a>(
     bounds: &Bounds<'_>,
 ) -> Result<Option<&'a [u8]>, TableErr>
     ensures steps { StepsOn (lies_in bounds.now) cursor.old cursor.new result }
-    ensures shorter { IfOk result (λ o. OnSome o (length cursor.new.walk.rest < length cursor.old.walk.rest)) }
+    ensures shorter { IfOk result (λ o. OnSome o (length cursor.new.reading.rest < length cursor.old.reading.rest)) }
     ensures error { IfErr result (λ e. e ≢ TableErr.ReadFault) }
 {
     let place = cursor.offset();
@@ -85,7 +84,7 @@ fn chosen<'a>(
     key: &[u8],
     wanted: &[u8],
 ) -> Option<&'a [u8]>
-    ensures { option_map (λ v. v.now) result ≡ answer_behind wanted.now (key.now, value.now) (option_map (λ v. v.now) found.entry) }
+    ensures { option_map (λ v. v.now) result ≡ answer_after wanted.now (key.now, value.now) (option_map (λ v. v.now) found.entry) }
 {
     if key.cmp(wanted).is_lt() || wanted.cmp(key).is_lt() {
         return found;
@@ -107,23 +106,23 @@ fn copied(alloc: Global, found: Option<&[u8]>) -> Result<Option<Octets>, TableEr
     }
 }
 
-/// The value of `wanted` in the data block `block`, which stands at the offset `place` of its file
-/// and is read to its end.
+/// The value of `wanted` in the data block `block`, which is at the offset `base` of its file and is
+/// read to its end.
 ///
 /// Damage is that of the first check that fails: the restarts, an entry, its key against the index
 /// keys around the block.
 pub fn value_in(
     alloc: Global,
     block: &[u8],
-    place: u64,
+    base: u64,
     bounds: &Bounds<'_>,
     wanted: &[u8],
 ) -> Result<Option<Octets>, TableErr>
-    requires { place + length block.now < 2 ^ 64 }
-    ensures value { ReadsValue (lies_in bounds.now) wanted.now place block.now result }
+    requires { base + length block.now < 2 ^ 64 }
+    ensures value { ReadsValue (lies_in bounds.now) wanted.now base block.now result }
     ensures error { IfErr result (λ e. e ≢ TableErr.ReadFault) }
 {
-    let mut cursor = match EntryCursor::new(block, place) {
+    let mut cursor = match EntryCursor::new(block, base) {
         Ok(cursor) => cursor,
         Err(damage) => return Err(TableErr::Damaged(damage)),
     };
@@ -137,10 +136,10 @@ pub fn value_in(
     }
 }
 
-/// The value of `wanted` in the data block `block`, which was walked to its end before: over bytes
+/// The value of `wanted` in the data block `block`, which was checked to its end before: over bytes
 /// that fail a check the answer says nothing.
 pub fn value_found(alloc: Global, block: &[u8], wanted: &[u8]) -> Result<Option<Octets>, TableErr>
-    ensures value { (rows : List Pair) → Good block.now rows → IfOk result (λ o. o ≡ lookup wanted.now rows) }
+    ensures value { (rows : List RowView) → IsBlock block.now rows → IfOk result (λ o. o ≡ lookup wanted.now rows) }
     ensures error { IfErr result (λ e. e ≡ TableErr.NoMemory) }
 {
     copied(alloc, find(block, wanted))
@@ -191,17 +190,17 @@ fn keep(
 pub fn rows_in(
     alloc: Global,
     block: &[u8],
-    place: u64,
+    base: u64,
     bounds: &Bounds<'_>,
     low: &[u8],
     high: &[u8],
 ) -> Result<VecDeque<Row>, TableErr>
-    requires { place + length block.now < 2 ^ 64 }
+    requires { base + length block.now < 2 ^ 64 }
     ensures rows { MatchResult result (λ kept. KeepsRange (lies_in bounds.now) block.now low.now high.now kept.items)
-        (λ e. RefusesBlock (lies_in bounds.now) place block.now e) }
+        (λ e. RefusesBlock (lies_in bounds.now) base block.now e) }
     ensures error { IfErr result (λ e. e ≢ TableErr.ReadFault) }
 {
-    let mut cursor = match EntryCursor::new(block, place) {
+    let mut cursor = match EntryCursor::new(block, base) {
         Ok(cursor) => cursor,
         Err(damage) => return Err(TableErr::Damaged(damage)),
     };

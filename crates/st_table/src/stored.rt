@@ -3,9 +3,9 @@
 ghost use Rattle.std.specs.Prelude.{◌≡◌, ◌≢◌, ◌+◌, ◌-◌, ◌^◌, ◌<◌, ◌≤◌, List, ℕ, length, Some, OnOk, IfErr, IfSome, MatchOption, option_map, vec_len};
 ghost use Rattle.st_base.specs.Faults.{HasCauseOf};
 ghost use Rattle.st_base.specs.PlacedReads.{HasPart, IsSameFile};
-ghost use Rattle.st_table.specs.Table.{sum_of};
-ghost use Rattle.st_table.specs.Errors.{refusal_of, IsOutside};
-ghost use Rattle.st_table.specs.ReadingBlock.{handle_wrong, part_wrong, ReadsBlock};
+ghost use Rattle.st_table.specs.TableFile.{sum_of};
+ghost use Rattle.st_table.specs.Errors.{err_view, NoCheckFailed};
+ghost use Rattle.st_table.specs.Stored.{handle_wrong, part_wrong, ReadsBlock};
 
 use crate::errors::TableErr;
 use byteorder::{ByteOrder, LittleEndian};
@@ -13,7 +13,7 @@ use st_base::{Damage, Reader, read_whole};
 use st_tblock::{Handle, crc32c, mask};
 
 /// The sum that is stored behind `block` and the type byte 0.
-#[tactic(auto, unfolding(crate::specs::Table::sum_of))]
+#[tactic(auto, unfolding(crate::specs::TableFile::sum_of))]
 fn sum_behind(block: &[u8]) -> u32
     ensures { result ≡ sum_of 0 block.now }
 {
@@ -21,11 +21,11 @@ fn sum_behind(block: &[u8]) -> u32
 }
 
 /// What is wrong with the type byte or the sum of a block that was read with them.
-#[tactic(auto, unfolding(crate::specs::ReadingBlock::part_wrong))]
+#[tactic(auto, unfolding(crate::specs::Stored::part_wrong))]
 fn part_refused(handle: Handle, part: &[u8]) -> Option<TableErr>
     requires whole { length part.now ≡ handle.size + 5 }
     requires fits { handle.offset + handle.size + 5 < 2 ^ 64 }
-    ensures value { option_map refusal_of result ≡ part_wrong handle.offset handle.size part.now }
+    ensures value { option_map err_view result ≡ part_wrong handle.offset handle.size part.now }
     ensures found { IfSome result (λ e. e ≢ TableErr.ReadFault) }
 {
     let size = handle.size as usize;
@@ -54,10 +54,10 @@ fn part_refused(handle: Handle, part: &[u8]) -> Option<TableErr>
 }
 
 /// What is wrong with where a block and its five bytes end.
-#[tactic(auto, unfolding(crate::specs::ReadingBlock::handle_wrong))]
+#[tactic(auto, unfolding(crate::specs::Stored::handle_wrong))]
 fn handle_refused(limit: u64, handle: Handle) -> Option<TableErr>
     requires { limit < 2 ^ 64 - 1 }
-    ensures value { option_map refusal_of result ≡ handle_wrong limit handle }
+    ensures value { option_map err_view result ≡ handle_wrong limit handle }
     ensures within { MatchOption result (handle.offset + (handle.size + 5) ≤ limit) (λ e. e ≢ TableErr.ReadFault) }
 {
     let end = u128::from(handle.offset) + (u128::from(handle.size) + 5);
@@ -81,7 +81,7 @@ fn read_part<R: Reader>(
     requires { place + len ≤ R.extent file.old }
     ensures bytes { OnOk result ((vec_len part.new ≡ len)
         × HasPart (R.content file.old) place part.new.items) }
-    ensures error { IfErr result IsOutside }
+    ensures error { IfErr result NoCheckFailed }
     ensures cause { HasCauseOf TableErr.ReadFault (R.faults file.old) (R.faults file.new) result }
     ensures reads { R.reads file.new ≤ R.reads file.old + 1 }
     ensures same { IsSameFile (R.content file.old) (R.content file.new) (R.extent file.old) (R.extent file.new) (R.beside file.old) (R.beside file.new) }

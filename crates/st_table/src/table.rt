@@ -1,34 +1,35 @@
 ghost use Rattle.std.specs.Prelude.{◌≡◌, ◌≤◌, ◌+◌, ◌-◌, List, ℕ, [], length, Some, None, All, IfOk, IfErr, OnOk, OnErr, IsTrue};
 ghost use Rattle.st_base.specs.Faults.{HasCauseOf};
 ghost use Rattle.st_base.specs.PlacedReads.{IsSameFile};
-ghost use Rattle.st_tblock.specs.Block.{Row as Pair, front_of};
-ghost use Rattle.st_table.specs.Table.{IsTable, is_at_most};
-ghost use Rattle.st_table.specs.Lookup.{find, in_range};
-ghost use Rattle.st_table.specs.ReadingRange.{unread, Steps, Coming, StepsRow, IsSound, GivesNamed};
-ghost use Rattle.st_table.specs.Errors.{IsOutside};
-ghost use Rattle.st_table.specs.ReadingIndex.{Decodes, Entered, Enters};
-ghost use Rattle.st_table.specs.ReadingTable.{Rises, Gets, GetsRow, found_at, last_key};
-ghost use Rattle.st_table.specs.Walked.{Walked};
+ghost use Rattle.st_tblock.specs.Block.{RowView, key_or_empty};
+ghost use Rattle.st_table.specs.TableFile.{IsTable, is_at_most};
+ghost use Rattle.st_table.specs.IndexLookup.{entry_for, found_at};
+ghost use Rattle.st_table.specs.RowOrder.{in_range, KeysRiseAbove, last_key};
+ghost use Rattle.st_table.specs.Cursor.{unread, Steps, Coming, StepsRow, HoldsNamed, GivesNamed};
+ghost use Rattle.st_table.specs.Errors.{NoCheckFailed};
+ghost use Rattle.st_table.specs.Index.{Decodes, Entered};
+ghost use Rattle.st_table.specs.Table.{Enters, Gets, GetsRow};
+ghost use Rattle.st_table.specs.Marks.{Checked};
 
 use crate::cursor::{Cursor, step_in};
 use crate::errors::TableErr;
-use crate::index::{IndexEntry, block_at, last_of, position, read_index};
-use crate::marks::{is_walked, mark, unmarked};
+use crate::index::{IndexEntry, block_at, last_of, lower_bound, read_index};
+use crate::marks::{is_checked, mark, unmarked};
 use crate::rows::{Row, value_found, value_in};
 use crate::stored::read_block;
 use st_base::{NoMemory, Octets, Reader};
 use std::alloc::Global;
 
 /// What a table keeps of its file: the entries of its index, a mark for each whose data block was
-/// walked to its end, and the memory of the block that was read last.
+/// checked to its end, and the memory of the block that was read last.
 #[derive(Drop)]
 pub struct Kept {
     entries: Vec<IndexEntry>,
-    walked: Vec<bool>,
+    checked: Vec<bool>,
     block: Vec<u8>,
 }
 
-/// A table in a file that it reads at places.
+/// A table in a file that it reads at restarts.
 ///
 /// What it keeps has a parameter's type, which is always `Kept`: so a drop says what becomes of
 /// the file, which it could not of a struct whose own fields hold memory.
@@ -51,7 +52,7 @@ impl<R, K: Drop> Drop for Table<'_, R, K> {
 
 /// The value of `key`, by one read at most, of the block that the index names for it.
 ///
-/// In a block that is marked `key` is only looked up; another one is walked to its end, and marked
+/// In a block that is marked `key` is only looked up; another one is checked to its end, and marked
 /// where no check fails.
 fn get_in<R: Reader>(
     alloc: Global,
@@ -61,19 +62,19 @@ fn get_in<R: Reader>(
     block: &mut Vec<u8>,
     key: &[u8],
 ) -> Result<Option<Octets>, TableErr>
-    ensures gets { (bytes : List ℕ) (index : List Pair) → R.content file.old ≡ Some bytes
-        → Decodes index entries.now → Rises None index
-        → Walked (length bytes - 48) bytes None entries.now marks.old
+    ensures gets { (bytes : List ℕ) (index : List RowView) → R.content file.old ≡ Some bytes
+        → Decodes index entries.now → KeysRiseAbove None index
+        → Checked (length bytes - 48) bytes None entries.now marks.old
         → Gets (length bytes - 48) bytes key.now index result }
-    ensures walked { (bytes : List ℕ) (index : List Pair) → R.content file.old ≡ Some bytes
+    ensures checked { (bytes : List ℕ) (index : List RowView) → R.content file.old ≡ Some bytes
         → Decodes index entries.now
-        → Walked (length bytes - 48) bytes None entries.now marks.old
-        → Walked (length bytes - 48) bytes None entries.now marks.new }
+        → Checked (length bytes - 48) bytes None entries.now marks.old
+        → Checked (length bytes - 48) bytes None entries.now marks.new }
     ensures cause { HasCauseOf TableErr.ReadFault (R.faults file.old) (R.faults file.new) result }
     ensures reads { R.reads file.new ≤ R.reads file.old + 1 }
     ensures same { IsSameFile (R.content file.old) (R.content file.new) (R.extent file.old) (R.extent file.new) (R.beside file.old) (R.beside file.new) }
 {
-    let i = position(entries, key);
+    let i = lower_bound(entries, key);
     if i >= entries.len() {
         return Ok(None);
     }
@@ -82,7 +83,7 @@ fn get_in<R: Reader>(
         Ok(()) => {}
         Err(error) => return Err(error),
     }
-    if is_walked(marks, i) {
+    if is_checked(marks, i) {
         return value_found(alloc, block.as_slice(), key);
     }
     match value_in(alloc, block.as_slice(), handle.offset, &bounds, key) {
@@ -100,13 +101,13 @@ impl<'a, R: Reader> Table<'a, R> {
         ensures same_reference { result.file.ghost_name ≡ file.entry.ghost_name }
         ensures same { result.file.now ≡ file.old }
         ensures none { result.kept.entries.items ≡ [] }
-        ensures unmarked { result.kept.walked.items ≡ [] }
+        ensures unmarked { result.kept.checked.items ≡ [] }
     {
         Table {
             file,
             kept: Kept {
                 entries: Vec::new(alloc),
-                walked: Vec::new(alloc),
+                checked: Vec::new(alloc),
                 block: Vec::new(alloc),
             },
         }
@@ -118,16 +119,16 @@ impl<'a, R: Reader> Table<'a, R> {
     /// file holds a footer, its magic number, its handles; the index block's end, its type byte,
     /// its sum, its restarts; each entry, its key above the last one, its value one handle.
     /// `Compressed` comes exactly where the type byte is 1. `ReadFault` comes only where the file
-    /// failed in this call. Where it succeeds, no data block counts as walked yet. After an error
-    /// the table has the entries that it had, and the same data blocks count as walked.
+    /// failed in this call. Where it succeeds, no data block counts as checked yet. After an error
+    /// the table has the entries that it had, and the same data blocks count as checked.
     pub fn enter(&mut self, alloc: Global) -> Result<(), TableErr>
         ensures enters { (bytes : List ℕ) → R.content self.old.file.now ≡ Some bytes
             → Enters bytes self.new.kept.entries.items result }
-        ensures table { (bytes : List ℕ) (rows : List Pair) → R.content self.old.file.now ≡ Some bytes
-            → IsTable bytes rows → IfErr result IsOutside }
-        ensures walked { OnOk result ((bytes : List ℕ)
-            → Walked (length bytes - 48) bytes None self.new.kept.entries.items self.new.kept.walked.items) }
-        ensures err { OnErr result ((self.new.kept.entries ≡ self.old.kept.entries) × (self.new.kept.walked ≡ self.old.kept.walked)) }
+        ensures table { (bytes : List ℕ) (rows : List RowView) → R.content self.old.file.now ≡ Some bytes
+            → IsTable bytes rows → IfErr result NoCheckFailed }
+        ensures checked { OnOk result ((bytes : List ℕ)
+            → Checked (length bytes - 48) bytes None self.new.kept.entries.items self.new.kept.checked.items) }
+        ensures err { OnErr result ((self.new.kept.entries ≡ self.old.kept.entries) × (self.new.kept.checked ≡ self.old.kept.checked)) }
 
         // What becomes of the file.
         ensures same_reference { self.new.file.ghost_name ≡ self.old.file.ghost_name }
@@ -137,9 +138,9 @@ impl<'a, R: Reader> Table<'a, R> {
     {
         match read_index(alloc, self.file, &mut self.kept.block) {
             Ok(entries) => match unmarked(alloc, entries.len()) {
-                Ok(walked) => {
+                Ok(checked) => {
                     self.kept.entries = entries;
-                    self.kept.walked = walked;
+                    self.kept.checked = checked;
                     Ok(())
                 }
                 Err(NoMemory) => Err(TableErr::NoMemory),
@@ -157,20 +158,20 @@ impl<'a, R: Reader> Table<'a, R> {
     /// file failed in this call. The table's entries stay.
     ///
     /// Restarts and entries are checked until no check fails: from then on the block counts as
-    /// walked, and only its end, its type byte and its sum are checked at each call.
+    /// checked, and only its end, its type byte and its sum are checked at each call.
     pub fn get(&mut self, alloc: Global, key: &[u8]) -> Result<Option<Octets>, TableErr>
         ensures gets { (bytes : List ℕ) → R.content self.old.file.now ≡ Some bytes
             → (entered : Entered bytes self.old.kept.entries.items)
-            → Walked (length bytes - 48) bytes None self.old.kept.entries.items self.old.kept.walked.items
+            → Checked (length bytes - 48) bytes None self.old.kept.entries.items self.old.kept.checked.items
             → Gets (length bytes - 48) bytes key.now entered.index result }
-        ensures table { (bytes : List ℕ) (rows : List Pair) → R.content self.old.file.now ≡ Some bytes
+        ensures table { (bytes : List ℕ) (rows : List RowView) → R.content self.old.file.now ≡ Some bytes
             → Entered bytes self.old.kept.entries.items
-            → Walked (length bytes - 48) bytes None self.old.kept.entries.items self.old.kept.walked.items
+            → Checked (length bytes - 48) bytes None self.old.kept.entries.items self.old.kept.checked.items
             → IsTable bytes rows → GetsRow key.now rows result }
-        ensures walked { (bytes : List ℕ) → R.content self.old.file.now ≡ Some bytes
+        ensures checked { (bytes : List ℕ) → R.content self.old.file.now ≡ Some bytes
             → Entered bytes self.old.kept.entries.items
-            → Walked (length bytes - 48) bytes None self.old.kept.entries.items self.old.kept.walked.items
-            → Walked (length bytes - 48) bytes None self.new.kept.entries.items self.new.kept.walked.items }
+            → Checked (length bytes - 48) bytes None self.old.kept.entries.items self.old.kept.checked.items
+            → Checked (length bytes - 48) bytes None self.new.kept.entries.items self.new.kept.checked.items }
         ensures entries { self.new.kept.entries ≡ self.old.kept.entries }
 
         // What becomes of the file.
@@ -183,7 +184,7 @@ impl<'a, R: Reader> Table<'a, R> {
             alloc,
             self.file,
             self.kept.entries.as_slice(),
-            self.kept.walked.as_mut_slice(),
+            self.kept.checked.as_mut_slice(),
             &mut self.kept.block,
             key,
         )
@@ -196,12 +197,12 @@ impl<'a, R: Reader> Table<'a, R> {
     pub fn range(&self, alloc: Global, low: &[u8], high: &[u8]) -> Result<Cursor, NoMemory>
         ensures unread { IfOk result (λ c. c ≡ unread low.now high.now c.next) }
         ensures first { (bytes : List ℕ) (entered : Entered bytes self.now.kept.entries.items)
-            → IfOk result (λ c. find low.now None entered.index ≡ found_at entered.index c.next) }
-        ensures table { (bytes : List ℕ) (rows : List Pair) (entered : Entered bytes self.now.kept.entries.items)
+            → IfOk result (λ c. entry_for low.now None entered.index ≡ found_at entered.index c.next) }
+        ensures table { (bytes : List ℕ) (rows : List RowView) (entered : Entered bytes self.now.kept.entries.items)
             → IsTable bytes rows
             → IfOk result (λ c. Coming (length bytes - 48) bytes entered.index c (in_range low.now high.now rows)) }
     {
-        let next = position(self.kept.entries.as_slice(), low);
+        let next = lower_bound(self.kept.entries.as_slice(), low);
         Cursor::begin(alloc, low, high, next)
     }
 
@@ -217,16 +218,16 @@ impl<'a, R: Reader> Table<'a, R> {
         ensures steps { (bytes : List ℕ) → R.content self.old.file.now ≡ Some bytes
             → (entered : Entered bytes self.old.kept.entries.items)
             → Steps (length bytes - 48) bytes entered.index cursor.old cursor.new result }
-        ensures table { (bytes : List ℕ) (more : List Pair) → R.content self.old.file.now ≡ Some bytes
+        ensures table { (bytes : List ℕ) (more : List RowView) → R.content self.old.file.now ≡ Some bytes
             → (entered : Entered bytes self.old.kept.entries.items)
             → Coming (length bytes - 48) bytes entered.index cursor.old more
             → StepsRow (length bytes - 48) bytes entered.index more cursor.new result }
         ensures sound { (bytes : List ℕ) → R.content self.old.file.now ≡ Some bytes
             → (entered : Entered bytes self.old.kept.entries.items)
-            → IsSound (length bytes - 48) bytes entered.index cursor.old
-            → IsSound (length bytes - 48) bytes entered.index cursor.new × GivesNamed (length bytes - 48) bytes entered.index result }
+            → HoldsNamed (length bytes - 48) bytes entered.index cursor.old
+            → HoldsNamed (length bytes - 48) bytes entered.index cursor.new × GivesNamed (length bytes - 48) bytes entered.index result }
         ensures entries { self.new.kept.entries ≡ self.old.kept.entries }
-        ensures marks { self.new.kept.walked ≡ self.old.kept.walked }
+        ensures marks { self.new.kept.checked ≡ self.old.kept.checked }
 
         // What becomes of the file.
         ensures same_reference { self.new.file.ghost_name ≡ self.old.file.ghost_name }
@@ -246,8 +247,8 @@ impl<'a, R: Reader> Table<'a, R> {
     /// no entries.
     pub fn last_key(&self) -> &[u8]
         ensures last { (bytes : List ℕ) (entered : Entered bytes self.now.kept.entries.items)
-            → result.now ≡ front_of (last_key None entered.index) }
-        ensures table { (bytes : List ℕ) (rows : List Pair) → Entered bytes self.now.kept.entries.items
+            → result.now ≡ key_or_empty (last_key None entered.index) }
+        ensures table { (bytes : List ℕ) (rows : List RowView) → Entered bytes self.now.kept.entries.items
             → IsTable bytes rows → All (λ r. IsTrue (is_at_most result.now r.0)) rows }
     {
         last_of(self.kept.entries.as_slice())

@@ -4,8 +4,8 @@ use Rattle.std.specs.Prelude.{nat_lt}
 use Rattle.std.proofs.lemmas.List.{length-drop, drop-drop}
 use Rattle.std.proofs.lemmas.Bool.Decides.{nat_tests}
 use Rattle.st_tblock.specs.Varint.{Found, below, groups_in, varint32_in}
-use Rattle.st_tblock.specs.Reading.{Read, length_in}
-use Rattle.st_tblock.specs.Block.{Row, Entry, Walk, Rows, parts_in, entry_in, front_of, past, start}
+use Rattle.st_tblock.specs.Parsing.{Read, length_in}
+use Rattle.st_tblock.specs.Block.{RowView, Entry, BlockReading, Rows, parts_in, entry_in, key_or_empty, past, start}
 use Rattle.st_tblock.proofs.Longer.{chosen, go_some, past_some, varint32_front, rising_some}
 
 -- bytes that end others
@@ -48,35 +48,35 @@ pub record Spelled (last : ℕ) (bytes : List ℕ) (x : Entry × List ℕ) : Typ
   pub within : (limit : ℕ) → x.0.shared ≤ limit → entry_in limit bytes ≡ Some x
 
 -- the same of its parts
-record Parted (last shared fresh value : ℕ) (bytes : List ℕ) (x : Entry × List ℕ) : Type 0 where
+record Parted (last shared unshared value : ℕ) (bytes : List ℕ) (x : Entry × List ℕ) : Type 0 where
   same : shared ≡ x.0.shared
   shares : shared ≤ last
   end : IsEnd bytes x.1
-  within : (limit : ℕ) → shared ≤ limit → parts_in limit shared fresh value bytes ≡ Some x
+  within : (limit : ℕ) → shared ≤ limit → parts_in limit shared unshared value bytes ≡ Some x
 
 -- parts within a limit
-parts_within : (limit shared fresh value : ℕ) (bytes : List ℕ) (x : Entry × List ℕ) → nat_lt (length bytes) (fresh + value) ≡ false → ◌≡◌ {A = Read Entry} (Some (record { shared = shared; fresh = take fresh bytes; value = take value (drop fresh bytes) }, drop value (drop fresh bytes))) (Some x) → shared ≤ limit → parts_in limit shared fresh value bytes ≡ Some x
-parts_within limit shared fresh value bytes x room e l =
+parts_within : (limit shared unshared value : ℕ) (bytes : List ℕ) (x : Entry × List ℕ) → nat_lt (length bytes) (unshared + value) ≡ false → ◌≡◌ {A = Read Entry} (Some (record { shared = shared; unshared = take unshared bytes; value = take value (drop unshared bytes) }, drop value (drop unshared bytes))) (Some x) → shared ≤ limit → parts_in limit shared unshared value bytes ≡ Some x
+parts_within limit shared unshared value bytes x room e l =
     let fits : nat_lt limit shared ≡ false = grind (arith, nat_tests) in
     rw (fits, room) e
 
-parted : (last shared fresh value : ℕ) (bytes : List ℕ) (x : Entry × List ℕ) → parts_in last shared fresh value bytes ≡ Some x → Parted last shared fresh value bytes x
-parted last shared fresh value bytes x e = elim (chosen (nat_lt last shared) None _ (Some x) e) [
+parted : (last shared unshared value : ℕ) (bytes : List ℕ) (x : Entry × List ℕ) → parts_in last shared unshared value bytes ≡ Some x → Parted last shared unshared value bytes x
+parted last shared unshared value bytes x e = elim (chosen (nat_lt last shared) None _ (Some x) e) [
   | inl h ↦ absurd (let impossible : ◌≡◌ {A = Read Entry} None (Some x) = h.1 in cc)
-  | inr h ↦ elim (chosen (nat_lt (length bytes) (fresh + value)) None _ (Some x) h.1) [
+  | inr h ↦ elim (chosen (nat_lt (length bytes) (unshared + value)) None _ (Some x) h.1) [
     | inl g ↦ absurd (let impossible : ◌≡◌ {A = Read Entry} None (Some x) = g.1 in cc)
     | inr g ↦
-        let some : ◌≡◌ {A = Read Entry} (Some (record { shared = shared; fresh = take fresh bytes; value = take value (drop fresh bytes) }, drop value (drop fresh bytes))) (Some x) = g.1 in
-        let entry : ◌≡◌ {A = Entry} (record { shared = shared; fresh = take fresh bytes; value = take value (drop fresh bytes) }) x.0 = cc in
-        let rest : drop value (drop fresh bytes) ≡ x.1 = cc in
-        let size : length x.1 ≡ length bytes - fresh - value = ap length (sym rest) ∙ simp (length-drop) in
-        let room : fresh + value ≤ length bytes = let t = g.0 in grind (arith, nat_tests) in
+        let some : ◌≡◌ {A = Read Entry} (Some (record { shared = shared; unshared = take unshared bytes; value = take value (drop unshared bytes) }, drop value (drop unshared bytes))) (Some x) = g.1 in
+        let entry : ◌≡◌ {A = Entry} (record { shared = shared; unshared = take unshared bytes; value = take value (drop unshared bytes) }) x.0 = cc in
+        let rest : drop value (drop unshared bytes) ≡ x.1 = cc in
+        let size : length x.1 ≡ length bytes - unshared - value = ap length (sym rest) ∙ simp (length-drop) in
+        let room : unshared + value ≤ length bytes = let t = g.0 in grind (arith, nat_tests) in
         let fits : shared ≤ last = let t = h.0 in grind (arith, nat_tests) in
         record {
           same = ap (λ (z : Entry). z.shared) entry;
           shares = fits;
-          end = (fresh + value, omega arith, sym rest ∙ drop-drop value fresh bytes);
-          within = λ limit l. parts_within limit shared fresh value bytes x g.0 some l;
+          end = (unshared + value, omega arith, sym rest ∙ drop-drop value unshared bytes);
+          within = λ limit l. parts_within limit shared unshared value bytes x g.0 some l;
         }
   ]
 ]
@@ -100,24 +100,24 @@ spelled last bytes x e =
       within = λ limit l. rw (one.1, two.1, three.1) (parts.within limit (omega (arith, parts.same)));
     }
 
--- the next entry of a walk
-pub spelled_next : (w : Walk) (r : Row) (rows : List Row) (v : Walk) → (h : Rows w (r ∷ rows) v) → Spelled (length (front_of w.last)) w.rest h.0
+-- the next entry of a reading
+pub spelled_next : (w : BlockReading) (r : RowView) (rows : List RowView) (v : BlockReading) → (h : Rows w (r ∷ rows) v) → Spelled (length (key_or_empty w.last)) w.rest h.0
 spelled_next w r rows v h =
-    spelled (length (front_of w.last)) w.rest h.0 (rising_some w.last (entry_in (length (front_of w.last)) w.rest) h.0 h.1).0
+    spelled (length (key_or_empty w.last)) w.rest h.0 (rising_some w.last (entry_in (length (key_or_empty w.last)) w.rest) h.0 h.1).0
 
--- a walk goes as far as its text gets shorter
-walk_end : (rows : List Row) (w v : Walk) → Rows w rows v → (v.at + length v.rest ≡ w.at + length w.rest) × IsEnd w.rest v.rest
+-- a reading goes as far as its text gets shorter
+walk_end : (rows : List RowView) (w v : BlockReading) → Rows w rows v → (v.at + length v.rest ≡ w.at + length w.rest) × IsEnd w.rest v.rest
 walk_end [] w v h =
-    subst (λ (u : Walk). (u.at + length u.rest ≡ w.at + length w.rest) × IsEnd w.rest u.rest) h (refl, (0, omega arith, refl))
+    subst (λ (u : BlockReading). (u.at + length u.rest ≡ w.at + length w.rest) × IsEnd w.rest u.rest) h (refl, (0, omega arith, refl))
 walk_end (r ∷ rows) w v h =
     let read = (spelled_next w r rows v h).end in
     let tail = walk_end rows (past w h.0) v h.4 in
     (omega (arith, tail.0, read.1), end_trans w.rest h.0.1 v.rest read tail.1)
 
--- the text to come stands behind as many bytes as a walk has gone
-pub rest_at : (text places : List ℕ) (rows : List Row) (v : Walk) → Rows (start text places) rows v → v.rest ≡ drop v.at text
-rest_at text places rows v h =
-    let gone = walk_end rows (start text places) v h in
+-- the text to come stands behind as many bytes as a reading has gone
+pub rest_at : (text restarts : List ℕ) (rows : List RowView) (v : BlockReading) → Rows (start text restarts) rows v → v.rest ≡ drop v.at text
+rest_at text restarts rows v h =
+    let gone = walk_end rows (start text restarts) v h in
     let end = gone.1 in
     let same : end.0 ≡ v.at = omega (arith, gone.0, end.1) in
     end.2 ∙ ap (λ (n : ℕ). drop n text) same

@@ -1,7 +1,7 @@
 -- What is read at the front of bytes is read there whatever follows.
 use Rattle.std.proofs.Common.{◌≡◌, ℕ, ◌<◌, ◌^◌, List, [], ◌∷◌, ◌++◌, length, take, drop, Some, refl, ap}
 use Rattle.st_tblock.specs.Varint.{groups_of}
-use Rattle.st_tblock.specs.Reading.{Read, number_in, length_in}
+use Rattle.st_tblock.specs.Parsing.{Read, number_in, length_in}
 use Rattle.st_tblock.proofs.Groups.{varint_again, varint32_again}
 
 -- equal parts of what was read

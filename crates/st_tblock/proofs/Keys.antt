@@ -14,10 +14,10 @@ common_front (x ∷ xs) ys zs =
     ap (λ o. ordering_then o (slice_cmp nat_cmp (xs ++ ys) (xs ++ zs))) (tied_itself nat_cmp_total x) ∙ common_front xs ys zs
 
 -- a key against one that shares its first bytes
-pub above_shared : (key fresh : List ℕ) (shared : ℕ) → is_before key (take shared key ++ fresh) ≡ is_before (drop shared key) fresh
-above_shared key fresh shared =
-    ap (λ (k : List ℕ). is_before k (take shared key ++ fresh)) (sym (take-append-drop shared key))
-    ∙ ap is_lt (common_front (take shared key) (drop shared key) fresh)
+pub above_shared : (key unshared : List ℕ) (shared : ℕ) → is_before key (take shared key ++ unshared) ≡ is_before (drop shared key) unshared
+above_shared key unshared shared =
+    ap (λ (k : List ℕ). is_before k (take shared key ++ unshared)) (sym (take-append-drop shared key))
+    ∙ ap is_lt (common_front (take shared key) (drop shared key) unshared)
 
 -- what is behind a key that is above the last one is above the last one, too
 pub above_trans : (last : Option (List ℕ)) (a b : List ℕ) → is_above last a ≡ true → is_before a b ≡ true → is_above last b ≡ true

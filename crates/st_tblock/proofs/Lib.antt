@@ -1,7 +1,7 @@
 pub mod Groups
 pub mod Order
 mod Keys
-mod Restarts
+mod RestartNumbers
 pub mod Fronts
 pub mod Footers
 mod Shared

@@ -8,7 +8,7 @@ use Rattle.std.specs.Ordering.{nat_cmp, is_lt, ordering_then}
 use Rattle.std.specs.Cmp.Lexicographic.{slice_cmp}
 use Rattle.std.proofs.lemmas.Bool.{cases_order}
 use Rattle.std.proofs.lemmas.Bool.Decides.{nat_tests}
-use Rattle.st_tblock.specs.Block.{front_of, is_before}
+use Rattle.st_tblock.specs.Block.{key_or_empty, is_before}
 use Rattle.st_tblock.specs.Search.{Compares}
 
 -- two keys that go on with one byte
@@ -50,15 +50,15 @@ behind_common (x ∷ xs) (y ∷ ys) =
     ]
 
 -- behind what the last key has in common with another, an entry's key stands to that one as what follows does
-near : (last key fresh : List ℕ) (shared : ℕ) → shared ≤ common_prefix_len nat_eq last key → (slice_cmp nat_cmp (take shared last ++ fresh) key ≡ slice_cmp nat_cmp fresh (drop shared key)) × (common_prefix_len nat_eq (take shared last ++ fresh) key ≡ shared + common_prefix_len nat_eq fresh (drop shared key))
-near last key fresh zero l = (refl, omega arith)
-near [] key fresh (suc s) l = absurd (omega arith)
-near (x ∷ xs) [] fresh (suc s) l = absurd (omega arith)
-near (x ∷ xs) (y ∷ ys) fresh (suc s) l = elim (cases_order x y) [
+near : (last key unshared : List ℕ) (shared : ℕ) → shared ≤ common_prefix_len nat_eq last key → (slice_cmp nat_cmp (take shared last ++ unshared) key ≡ slice_cmp nat_cmp unshared (drop shared key)) × (common_prefix_len nat_eq (take shared last ++ unshared) key ≡ shared + common_prefix_len nat_eq unshared (drop shared key))
+near last key unshared zero l = (refl, omega arith)
+near [] key unshared (suc s) l = absurd (omega arith)
+near (x ∷ xs) [] unshared (suc s) l = absurd (omega arith)
+near (x ∷ xs) (y ∷ ys) unshared (suc s) l = elim (cases_order x y) [
   | inl e ↦
       let old = goes_on x y xs ys e in
-      let new = goes_on x y (take s xs ++ fresh) ys e in
-      let tail = near xs ys fresh s (omega (arith, old.1)) in
+      let new = goes_on x y (take s xs ++ unshared) ys e in
+      let tail = near xs ys unshared s (omega (arith, old.1)) in
       (new.0 ∙ tail.0, omega (arith, new.1, tail.1))
   | inr d ↦ elim d [
     | inl low ↦ absurd (omega (arith, (parts_below x y xs ys low).1))
@@ -67,32 +67,32 @@ near (x ∷ xs) (y ∷ ys) fresh (suc s) l = elim (cases_order x y) [
 ]
 
 -- an entry that shares more than the last key has in common with another parts from that where the last key does
-far : (last key fresh : List ℕ) (shared : ℕ) → common_prefix_len nat_eq last key < shared → shared ≤ length last → is_before last key ≡ true → (slice_cmp nat_cmp (take shared last ++ fresh) key ≡ Less) × (common_prefix_len nat_eq (take shared last ++ fresh) key ≡ common_prefix_len nat_eq last key)
-far last key fresh zero c l b = absurd (omega arith)
-far [] key fresh (suc s) c l b = absurd (omega arith)
-far (x ∷ xs) [] fresh (suc s) c l b = cc
-far (x ∷ xs) (y ∷ ys) fresh (suc s) c l b = elim (cases_order x y) [
+far : (last key unshared : List ℕ) (shared : ℕ) → common_prefix_len nat_eq last key < shared → shared ≤ length last → is_before last key ≡ true → (slice_cmp nat_cmp (take shared last ++ unshared) key ≡ Less) × (common_prefix_len nat_eq (take shared last ++ unshared) key ≡ common_prefix_len nat_eq last key)
+far last key unshared zero c l b = absurd (omega arith)
+far [] key unshared (suc s) c l b = absurd (omega arith)
+far (x ∷ xs) [] unshared (suc s) c l b = cc
+far (x ∷ xs) (y ∷ ys) unshared (suc s) c l b = elim (cases_order x y) [
   | inl e ↦
       let old = goes_on x y xs ys e in
-      let new = goes_on x y (take s xs ++ fresh) ys e in
+      let new = goes_on x y (take s xs ++ unshared) ys e in
       let before : is_before xs ys ≡ true = ap is_lt (sym old.0) ∙ b in
-      let tail = far xs ys fresh s (omega (arith, old.1)) (omega arith) before in
+      let tail = far xs ys unshared s (omega (arith, old.1)) (omega arith) before in
       (new.0 ∙ tail.0, omega (arith, new.1, tail.1, old.1))
   | inr d ↦ elim d [
-    | inl low ↦ ((parts_below x y (take s xs ++ fresh) ys low).0, (parts_below x y (take s xs ++ fresh) ys low).1 ∙ sym (parts_below x y xs ys low).1)
+    | inl low ↦ ((parts_below x y (take s xs ++ unshared) ys low).0, (parts_below x y (take s xs ++ unshared) ys low).1 ∙ sym (parts_below x y xs ys low).1)
     | inr high ↦ absurd (let no : true ≡ false = sym b ∙ ap is_lt (parts_above x y xs ys high).0 in cc)
   ]
 ]
 
 -- an entry that shares more is before the wanted key
-pub compares_far : (key fresh : List ℕ) (matched shared : ℕ) → matched < shared → Compares key matched shared fresh (Less, matched)
-compares_far key fresh matched shared l None a m s = absurd (omega arith)
-compares_far key fresh matched shared l (Some last) a m s =
-    let both = far last key fresh shared (omega arith) s a in
+pub compares_far : (key unshared : List ℕ) (matched shared : ℕ) → matched < shared → Compares key matched shared unshared (Less, matched)
+compares_far key unshared matched shared l None a m s = absurd (omega arith)
+compares_far key unshared matched shared l (Some last) a m s =
+    let both = far last key unshared shared (omega arith) s a in
     (sym both.0, sym m ∙ sym both.1)
 
 -- any other is compared behind what it shares
-pub compares_near : (key fresh : List ℕ) (matched shared same : ℕ) (order : Ordering) → shared ≤ matched → same ≡ common_prefix_len nat_eq fresh (drop shared key) → order ≡ slice_cmp nat_cmp (drop same fresh) (drop same (drop shared key)) → Compares key matched shared fresh (order, shared + same)
-compares_near key fresh matched shared same order l c o last a m s =
-    let both = near (front_of last) key fresh shared (omega arith) in
-    (o ∙ ap (λ (n : ℕ). slice_cmp nat_cmp (drop n fresh) (drop n (drop shared key))) c ∙ behind_common fresh (drop shared key) ∙ sym both.0, ap (λ (n : ℕ). shared + n) c ∙ sym both.1)
+pub compares_near : (key unshared : List ℕ) (matched shared same : ℕ) (order : Ordering) → shared ≤ matched → same ≡ common_prefix_len nat_eq unshared (drop shared key) → order ≡ slice_cmp nat_cmp (drop same unshared) (drop same (drop shared key)) → Compares key matched shared unshared (order, shared + same)
+compares_near key unshared matched shared same order l c o last a m s =
+    let both = near (key_or_empty last) key unshared shared (omega arith) in
+    (o ∙ ap (λ (n : ℕ). slice_cmp nat_cmp (drop n unshared) (drop n (drop shared key))) c ∙ behind_common unshared (drop shared key) ∙ sym both.0, ap (λ (n : ℕ). shared + n) c ∙ sym both.1)

@@ -4,8 +4,8 @@ use Rattle.std.specs.Prelude.{nat_eq, nat_lt, nat_le, IsTrue, if◌then◌else�
 use Rattle.std.proofs.lemmas.Bool.Decides.{nat_tests}
 use Rattle.std.proofs.lemmas.List.{length-take, take_all}
 use Rattle.std.proofs.lemmas.List.Elements.{All-head, All-tail, All-weaker, All-push}
-use Rattle.st_tblock.specs.Block.{begins, rises_from, front_of}
-use Rattle.st_tblock.specs.Build.{Draft, draft_of, empty, IsSound, added, since_of, places_of, shared_of, entry_text, block_size}
+use Rattle.st_tblock.specs.Block.{begins, rises_from, key_or_empty}
+use Rattle.st_tblock.specs.Builder.{EntryBlockView, block_view, empty, IsSound, added, since_of, restarts_of, shared_of, entry_text, block_size}
 use Rattle.st_tblock.proofs.Adding.{shared_fits, entry_some, whole_key}
 
 -- a draft without entries
@@ -47,50 +47,50 @@ begins_push m (k ∷ ns) h a =
     rw (both.0, tail) refl
 
 -- the restarts with the next entry's
-record IsPlaces (places : List ℕ) (size : ℕ) : Type 0 where
-  begins : IsTrue (begins places)
-  within : All (λ n. n < max 1 size) places
-  fit : All (λ n. n < 2 ^ 32) places
-  count : 4 * length places ≤ 2 ^ 32
+record IsPlaces (restarts : List ℕ) (size : ℕ) : Type 0 where
+  begins : IsTrue (begins restarts)
+  within : All (λ n. n < max 1 size) restarts
+  fit : All (λ n. n < 2 ^ 32) restarts
+  count : 4 * length restarts ≤ 2 ^ 32
 
-places_sound : (d : Draft) (more : ℕ) → IsSound d → block_size d < 2 ^ 32 → 1 ≤ more → IsPlaces (places_of d) (length d.text + more)
+places_sound : (d : EntryBlockView) (more : ℕ) → IsSound d → block_size d < 2 ^ 32 → 1 ≤ more → IsPlaces (restarts_of d) (length d.text + more)
 places_sound d more sound room some = either (nat_le d.interval d.since) refl
   where
-    either : (b : Bool) → nat_le d.interval d.since ≡ b → IsPlaces (if b then d.places ++ length d.text ∷ [] else d.places) (length d.text + more)
+    either : (b : Bool) → nat_le d.interval d.since ≡ b → IsPlaces (if b then d.restarts ++ length d.text ∷ [] else d.restarts) (length d.text + more)
     either false e =
         record {
           begins = sound.begins;
-          within = All-weaker (λ n. n < max 1 (length d.text)) (λ n. n < max 1 (length d.text + more)) (λ n l. omega arith) d.places sound.within;
+          within = All-weaker (λ n. n < max 1 (length d.text)) (λ n. n < max 1 (length d.text + more)) (λ n l. omega arith) d.restarts sound.within;
           fit = sound.fit;
           count = sound.count;
         }
     either true e =
         let again : d.interval ≤ d.since = grind (arith, nat_tests) in
         let text = sound.begun (let i = sound.interval in omega arith) in
-        let below = All-weaker (λ n. n < max 1 (length d.text)) (λ n. n < length d.text) (λ n l. omega arith) d.places sound.within in
-        let weaker = All-weaker (λ n. n < max 1 (length d.text)) (λ n. n < max 1 (length d.text + more)) (λ n l. omega arith) d.places sound.within in
+        let below = All-weaker (λ n. n < max 1 (length d.text)) (λ n. n < length d.text) (λ n l. omega arith) d.restarts sound.within in
+        let weaker = All-weaker (λ n. n < max 1 (length d.text)) (λ n. n < max 1 (length d.text + more)) (λ n l. omega arith) d.restarts sound.within in
         record {
-          begins = begins_push (length d.text) d.places sound.begins below;
-          within = All-push (λ n. n < max 1 (length d.text + more)) d.places (length d.text) weaker (omega arith);
-          fit = All-push (λ n. n < 2 ^ 32) d.places (length d.text) sound.fit (omega arith);
-          count = omega (arith, length-append d.places (length d.text ∷ []));
+          begins = begins_push (length d.text) d.restarts sound.begins below;
+          within = All-push (λ n. n < max 1 (length d.text + more)) d.restarts (length d.text) weaker (omega arith);
+          fit = All-push (λ n. n < 2 ^ 32) d.restarts (length d.text) sound.fit (omega arith);
+          count = omega (arith, length-append d.restarts (length d.text ∷ []));
         }
 
 -- a draft is sound with one more entry
-pub added_sound : (d : Draft) (key value : List ℕ) → IsSound d → length key < 2 ^ 32 → length value < 2 ^ 32 → block_size d < 2 ^ 32 → IsSound (added d key value)
+pub added_sound : (d : EntryBlockView) (key value : List ℕ) → IsSound d → length key < 2 ^ 32 → length value < 2 ^ 32 → block_size d < 2 ^ 32 → IsSound (added d key value)
 added_sound d key value sound lk lv room =
     let ys = entry_text (shared_of d key) key value in
     let some = entry_some (shared_of d key) key value (shared_fits d key).1 lk lv in
     let size : length (d.text ++ ys) ≡ length d.text + length ys = length-append d.text ys in
-    let places = places_sound d (length ys) sound room some in
+    let restarts = places_sound d (length ys) sound room some in
     record {
       interval = sound.interval;
       begun = λ h. omega arith;
       first = λ h. absurd (omega arith);
-      begins = places.begins;
-      within = subst (λ (n : ℕ). All (λ k. k < max 1 n) (places_of d)) (sym size) places.within;
-      fit = places.fit;
-      count = places.count;
+      begins = restarts.begins;
+      within = subst (λ (n : ℕ). All (λ k. k < max 1 n) (restarts_of d)) (sym size) restarts.within;
+      fit = restarts.fit;
+      count = restarts.count;
     }
 
 -- the first restart is 0
@@ -103,24 +103,24 @@ begins_first (n ∷ ns) h =
     ap (λ (k : ℕ). k ∷ []) zero
 
 -- a draft with one more entry, part by part: no restart
-pub added_within : (d : Draft) (key value text : List ℕ) (last : Option (List ℕ)) (shared : ℕ) → shared ≡ shared_of d key → d.since < d.interval → text ≡ d.text ++ entry_text shared key value → last ≡ Some (take shared (front_of d.last) ++ drop shared key) → draft_of d.interval (d.since + 1) text d.places last ≡ added d key value
+pub added_within : (d : EntryBlockView) (key value text : List ℕ) (last : Option (List ℕ)) (shared : ℕ) → shared ≡ shared_of d key → d.since < d.interval → text ≡ d.text ++ entry_text shared key value → last ≡ Some (take shared (key_or_empty d.last) ++ drop shared key) → block_view d.interval (d.since + 1) text d.restarts last ≡ added d key value
 added_within d key value text last shared s l t k =
     let within : nat_le d.interval d.since ≡ false = grind (arith, nat_tests) in
     let since : since_of d ≡ d.since + 1 = ap (λ (b : Bool). if b then 1 else d.since + 1) within in
-    let places : places_of d ≡ d.places = ap (λ (b : Bool). if b then d.places ++ length d.text ∷ [] else d.places) within in
+    let restarts : restarts_of d ≡ d.restarts = ap (λ (b : Bool). if b then d.restarts ++ length d.text ∷ [] else d.restarts) within in
     let text_is : text ≡ d.text ++ entry_text (shared_of d key) key value = t ∙ ap (λ (n : ℕ). d.text ++ entry_text n key value) s in
-    let last_is : last ≡ Some key = k ∙ ap (λ (n : ℕ). Some (take n (front_of d.last) ++ drop n key)) s ∙ ap Some (whole_key d key) in
-    λ i. record { interval = d.interval; since = sym since i; text = text_is i; places = sym places i; last = last_is i }
+    let last_is : last ≡ Some key = k ∙ ap (λ (n : ℕ). Some (take n (key_or_empty d.last) ++ drop n key)) s ∙ ap Some (whole_key d key) in
+    λ i. record { interval = d.interval; since = sym since i; text = text_is i; restarts = sym restarts i; last = last_is i }
 
 -- the same at a restart
-pub added_again : (d : Draft) (key value text : List ℕ) (last : Option (List ℕ)) (shared : ℕ) → shared ≡ shared_of d key → d.interval ≤ d.since → text ≡ d.text ++ entry_text shared key value → last ≡ Some (take shared (front_of d.last) ++ drop shared key) → draft_of d.interval 1 text (d.places ++ length d.text ∷ []) last ≡ added d key value
+pub added_again : (d : EntryBlockView) (key value text : List ℕ) (last : Option (List ℕ)) (shared : ℕ) → shared ≡ shared_of d key → d.interval ≤ d.since → text ≡ d.text ++ entry_text shared key value → last ≡ Some (take shared (key_or_empty d.last) ++ drop shared key) → block_view d.interval 1 text (d.restarts ++ length d.text ∷ []) last ≡ added d key value
 added_again d key value text last shared s l t k =
     let again : nat_le d.interval d.since ≡ true = grind (arith, nat_tests) in
     let since : since_of d ≡ 1 = ap (λ (b : Bool). if b then 1 else d.since + 1) again in
-    let places : places_of d ≡ d.places ++ length d.text ∷ [] = ap (λ (b : Bool). if b then d.places ++ length d.text ∷ [] else d.places) again in
+    let restarts : restarts_of d ≡ d.restarts ++ length d.text ∷ [] = ap (λ (b : Bool). if b then d.restarts ++ length d.text ∷ [] else d.restarts) again in
     let text_is : text ≡ d.text ++ entry_text (shared_of d key) key value = t ∙ ap (λ (n : ℕ). d.text ++ entry_text n key value) s in
-    let last_is : last ≡ Some key = k ∙ ap (λ (n : ℕ). Some (take n (front_of d.last) ++ drop n key)) s ∙ ap Some (whole_key d key) in
-    λ i. record { interval = d.interval; since = sym since i; text = text_is i; places = sym places i; last = last_is i }
+    let last_is : last ≡ Some key = k ∙ ap (λ (n : ℕ). Some (take n (key_or_empty d.last) ++ drop n key)) s ∙ ap Some (whole_key d key) in
+    λ i. record { interval = d.interval; since = sym since i; text = text_is i; restarts = sym restarts i; last = last_is i }
 
 -- how many bytes a front has
 pub front_size : (n : ℕ) (text : List ℕ) → n ≤ length text → length (take n text) ≡ n
@@ -133,24 +133,24 @@ kept_front n text cut new l c k =
     ap (λ (m : ℕ). take m new) (sym size) ∙ k ∙ c
 
 -- what stands in a block's parts behind one more entry: no restart
-pub appended_within : (d now : Draft) (key value fresh new places : List ℕ) (last : Option (List ℕ)) (n shared : ℕ) → d ≡ now → IsSound d → shared ≡ shared_of now key → length key < 2 ^ 32 → length value < 2 ^ 32 → block_size now < 2 ^ 32 → d.since < d.interval → n ≡ length new → new ≡ d.text ++ entry_text shared key value → places ≡ d.places → fresh ≡ drop shared key → last ≡ Some (take shared (front_of d.last) ++ fresh) → (draft_of d.interval (d.since + 1) (take n new) places last ≡ added now key value) × IsSound (draft_of d.interval (d.since + 1) (take n new) places last)
-appended_within d now key value fresh new places last n shared same sound s lk lv room within size t p f k =
-    let shared_is : shared ≡ shared_of d key = s ∙ ap (λ (e : Draft). shared_of e key) (sym same) in
+pub appended_within : (d now : EntryBlockView) (key value unshared new restarts : List ℕ) (last : Option (List ℕ)) (n shared : ℕ) → d ≡ now → IsSound d → shared ≡ shared_of now key → length key < 2 ^ 32 → length value < 2 ^ 32 → block_size now < 2 ^ 32 → d.since < d.interval → n ≡ length new → new ≡ d.text ++ entry_text shared key value → restarts ≡ d.restarts → unshared ≡ drop shared key → last ≡ Some (take shared (key_or_empty d.last) ++ unshared) → (block_view d.interval (d.since + 1) (take n new) restarts last ≡ added now key value) × IsSound (block_view d.interval (d.since + 1) (take n new) restarts last)
+appended_within d now key value unshared new restarts last n shared same sound s lk lv room within size t p f k =
+    let shared_is : shared ≡ shared_of d key = s ∙ ap (λ (e : EntryBlockView). shared_of e key) (sym same) in
     let text : take n new ≡ d.text ++ entry_text shared key value = take_all n new (omega arith) ∙ t in
-    let key_is : last ≡ Some (take shared (front_of d.last) ++ drop shared key) = k ∙ ap (λ (xs : List ℕ). Some (take shared (front_of d.last) ++ xs)) f in
-    let room_is : block_size d < 2 ^ 32 = subst (λ (e : Draft). block_size e < 2 ^ 32) (sym same) room in
+    let key_is : last ≡ Some (take shared (key_or_empty d.last) ++ drop shared key) = k ∙ ap (λ (xs : List ℕ). Some (take shared (key_or_empty d.last) ++ xs)) f in
+    let room_is : block_size d < 2 ^ 32 = subst (λ (e : EntryBlockView). block_size e < 2 ^ 32) (sym same) room in
     let parts = added_within d key value (take n new) last shared shared_is within text key_is in
-    let draft : draft_of d.interval (d.since + 1) (take n new) places last ≡ added d key value = ap (λ (ps : List ℕ). draft_of d.interval (d.since + 1) (take n new) ps last) p ∙ parts in
-    (draft ∙ ap (λ (e : Draft). added e key value) same, subst IsSound (sym draft) (added_sound d key value sound lk lv room_is))
+    let draft : block_view d.interval (d.since + 1) (take n new) restarts last ≡ added d key value = ap (λ (ps : List ℕ). block_view d.interval (d.since + 1) (take n new) ps last) p ∙ parts in
+    (draft ∙ ap (λ (e : EntryBlockView). added e key value) same, subst IsSound (sym draft) (added_sound d key value sound lk lv room_is))
 
 -- the same at a restart
-pub appended_again : (d now : Draft) (key value fresh new places : List ℕ) (last : Option (List ℕ)) (n shared at : ℕ) → d ≡ now → IsSound d → shared ≡ shared_of now key → length key < 2 ^ 32 → length value < 2 ^ 32 → block_size now < 2 ^ 32 → d.interval ≤ d.since → n ≡ length new → new ≡ d.text ++ entry_text shared key value → places ≡ d.places ++ at ∷ [] → at ≡ length d.text → fresh ≡ drop shared key → last ≡ Some (take shared (front_of d.last) ++ fresh) → (draft_of d.interval 1 (take n new) places last ≡ added now key value) × IsSound (draft_of d.interval 1 (take n new) places last)
-appended_again d now key value fresh new places last n shared at same sound s lk lv room again size t p a f k =
-    let shared_is : shared ≡ shared_of d key = s ∙ ap (λ (e : Draft). shared_of e key) (sym same) in
+pub appended_again : (d now : EntryBlockView) (key value unshared new restarts : List ℕ) (last : Option (List ℕ)) (n shared at : ℕ) → d ≡ now → IsSound d → shared ≡ shared_of now key → length key < 2 ^ 32 → length value < 2 ^ 32 → block_size now < 2 ^ 32 → d.interval ≤ d.since → n ≡ length new → new ≡ d.text ++ entry_text shared key value → restarts ≡ d.restarts ++ at ∷ [] → at ≡ length d.text → unshared ≡ drop shared key → last ≡ Some (take shared (key_or_empty d.last) ++ unshared) → (block_view d.interval 1 (take n new) restarts last ≡ added now key value) × IsSound (block_view d.interval 1 (take n new) restarts last)
+appended_again d now key value unshared new restarts last n shared at same sound s lk lv room again size t p a f k =
+    let shared_is : shared ≡ shared_of d key = s ∙ ap (λ (e : EntryBlockView). shared_of e key) (sym same) in
     let text : take n new ≡ d.text ++ entry_text shared key value = take_all n new (omega arith) ∙ t in
-    let key_is : last ≡ Some (take shared (front_of d.last) ++ drop shared key) = k ∙ ap (λ (xs : List ℕ). Some (take shared (front_of d.last) ++ xs)) f in
-    let room_is : block_size d < 2 ^ 32 = subst (λ (e : Draft). block_size e < 2 ^ 32) (sym same) room in
-    let places_are : places ≡ d.places ++ length d.text ∷ [] = p ∙ ap (λ (m : ℕ). d.places ++ m ∷ []) a in
+    let key_is : last ≡ Some (take shared (key_or_empty d.last) ++ drop shared key) = k ∙ ap (λ (xs : List ℕ). Some (take shared (key_or_empty d.last) ++ xs)) f in
+    let room_is : block_size d < 2 ^ 32 = subst (λ (e : EntryBlockView). block_size e < 2 ^ 32) (sym same) room in
+    let places_are : restarts ≡ d.restarts ++ length d.text ∷ [] = p ∙ ap (λ (m : ℕ). d.restarts ++ m ∷ []) a in
     let parts = added_again d key value (take n new) last shared shared_is again text key_is in
-    let draft : draft_of d.interval 1 (take n new) places last ≡ added d key value = ap (λ (ps : List ℕ). draft_of d.interval 1 (take n new) ps last) places_are ∙ parts in
-    (draft ∙ ap (λ (e : Draft). added e key value) same, subst IsSound (sym draft) (added_sound d key value sound lk lv room_is))
+    let draft : block_view d.interval 1 (take n new) restarts last ≡ added d key value = ap (λ (ps : List ℕ). block_view d.interval 1 (take n new) ps last) places_are ∙ parts in
+    (draft ∙ ap (λ (e : EntryBlockView). added e key value) same, subst IsSound (sym draft) (added_sound d key value sound lk lv room_is))

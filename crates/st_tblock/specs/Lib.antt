@@ -1,9 +1,9 @@
 pub mod Varint
-pub mod Reading
+pub mod Parsing
 pub mod Handles
 pub mod Block
 pub mod Lookup
 pub mod Search
-pub mod Standing
+pub mod EntryCursorView
 pub mod Cursor
-pub mod Build
+pub mod Builder

@@ -6,14 +6,14 @@ abbrev pub Found : Type 0
 Found = ℕ × ℕ
 
 -- a group whose byte says that more come, before what these give
-abbrev pub behind : ℕ → Option Found → Option Found
-behind b None = None
-behind b (Some x) = Some (b - 128 + 128 * x.0, x.1 + 1)
+abbrev pub with_group : ℕ → Option Found → Option Found
+with_group b None = None
+with_group b (Some x) = Some (b - 128 + 128 * x.0, x.1 + 1)
 
 -- the number in the groups at the front, of which there may be so many; leading groups of zeros are allowed
 abbrev pub groups_in : ℕ → List ℕ → Option Found
 groups_in k [] = None
-groups_in k (b ∷ bytes) = if nat_eq k 0 then None else if nat_lt b 128 then Some (b, 1) else behind b (groups_in (k - 1) bytes)
+groups_in k (b ∷ bytes) = if nat_eq k 0 then None else if nat_lt b 128 then Some (b, 1) else with_group b (groups_in (k - 1) bytes)
 
 -- a number that is below a limit
 abbrev pub below : ℕ → Option Found → Option Found

@@ -1,10 +1,11 @@
 ghost use Rattle.std.specs.Prelude.{◌≡◌, ◌≤◌, ◌<◌, ◌-◌, ◌*◌, ◌+◌, ◌^◌, ◌++◌, ◌∷◌, [], List, ℕ, length, take, drop, option_map, vec_len, is_none, IfOk, OnOk, OnErr, IsTrue};
 ghost use Rattle.std.specs.Vec.{vec_capacity};
 ghost use Rattle.byteorder.specs.Endian.{little_bytes};
-ghost use Rattle.st_tblock.specs.Block.{Row, front_of, is_above, Good};
-ghost use Rattle.st_tblock.specs.Build.{Draft, empty, entry_text, shared_of, added, block_size, places_text, block_text, Holds, IsSound};
+ghost use Rattle.st_tblock.specs.Block.{RowView, key_or_empty, is_above, IsBlock};
+ghost use Rattle.st_tblock.specs.Builder.{EntryBlockView, empty, entry_text, shared_of, added, block_size, restarts_text, block_text, HasRows, IsSound};
 
-use crate::cursor::{front, set_key};
+use crate::format::RESTART_SIZE;
+use crate::last_key::{last_or_empty, set_key};
 use crate::prefix::common;
 use crate::varint::put_varint;
 use st_base::NoMemory;
@@ -12,38 +13,38 @@ use std::alloc::Global;
 use std::marker::Model;
 
 /// Puts an entry behind `text`. A refusal may leave a part of it there.
-#[tactic(auto, unfolding(crate::specs::Build::entry_text))]
+#[tactic(auto, unfolding(crate::specs::Builder::entry_text))]
 fn put_entry(text: &mut Vec<u8>, shared: usize, key: &[u8], value: &[u8]) -> Result<(), NoMemory>
     requires { shared ≤ length key.now }
     ensures ok { OnOk result (text.new.items ≡ text.old.items ++ entry_text shared key.now value.now) }
     ensures kept { take (length text.old.items) text.new.items ≡ text.old.items }
 {
-    let fresh = key.split_at(shared).1;
+    let unshared = key.split_at(shared).1;
     text.extend_from_slice(put_varint(shared as u64).as_slice())?;
-    text.extend_from_slice(put_varint(fresh.len() as u64).as_slice())?;
+    text.extend_from_slice(put_varint(unshared.len() as u64).as_slice())?;
     text.extend_from_slice(put_varint(value.len() as u64).as_slice())?;
-    text.extend_from_slice(fresh)?;
+    text.extend_from_slice(unshared)?;
     text.extend_from_slice(value)?;
     Ok(())
 }
 
 /// Puts the restarts and their number behind `text`. A refusal may leave a part of them there.
-fn put_places(text: &mut Vec<u8>, places: &[u32]) -> Result<(), NoMemory>
-    requires { length places.now < 2 ^ 32 }
-    ensures ok { OnOk result (text.new.items ≡ text.old.items ++ places_text places.now ++ little_bytes 4 (length places.now)) }
+fn put_restarts(text: &mut Vec<u8>, restarts: &[u32]) -> Result<(), NoMemory>
+    requires { length restarts.now < 2 ^ 32 }
+    ensures ok { OnOk result (text.new.items ≡ text.old.items ++ restarts_text restarts.now ++ little_bytes 4 (length restarts.now)) }
     ensures kept { take (length text.old.items) text.new.items ≡ text.old.items }
 {
-    'places: for place in places {
-        text.extend_from_slice(&place.to_le_bytes())?;
+    'restarts: for restart in restarts {
+        text.extend_from_slice(&restart.to_le_bytes())?;
     }
-    text.extend_from_slice(&(places.len() as u32).to_le_bytes())?;
+    text.extend_from_slice(&(restarts.len() as u32).to_le_bytes())?;
     Ok(())
 }
 
 /// A block that is being built: entries in the order of their keys, each spelled behind the one
 /// before it.
 ///
-/// It is seen as its [`Draft`]: the text of its entries, the restarts and the last key; `Holds`
+/// It is seen as its [`EntryBlockView`]: the text of its entries, the restarts and the last key; `HasRows`
 /// says which rows these spell. Lengths are in bytes.
 ///
 /// Its text has the entries first, and behind them what a refused call or the last
@@ -55,27 +56,27 @@ pub struct EntryBlock {
     since: u32,
     entries: usize,
     text: Vec<u8>,
-    places: Vec<u32>,
+    restarts: Vec<u32>,
     last: Option<Vec<u8>>,
 }
 
 impl Model for EntryBlock {
     ghost use Rattle.std.specs.Prelude.{◌≤◌, length, take, option_map};
-    ghost use Rattle.st_tblock.specs.Build.{Draft, IsSound, draft_of};
+    ghost use Rattle.st_tblock.specs.Builder.{EntryBlockView, IsSound, block_view};
 
-    ghost Value = { Draft };
+    ghost Value = { EntryBlockView };
 
-    ghost view = { λ a. draft_of a.interval a.since (take a.entries a.text.items) a.places.items (option_map (λ v. v.items) a.last) };
+    ghost view = { λ a. block_view a.interval a.since (take a.entries a.text.items) a.restarts.items (option_map (λ v. v.items) a.last) };
 
-    ghost invariant = { λ a. (a.entries ≤ length a.text.items) × IsSound (draft_of a.interval a.since (take a.entries a.text.items) a.places.items (option_map (λ v. v.items) a.last)) };
+    ghost invariant = { λ a. (a.entries ≤ length a.text.items) × IsSound (block_view a.interval a.since (take a.entries a.text.items) a.restarts.items (option_map (λ v. v.items) a.last)) };
 }
 
 /// Puts a restart behind the others, for which room was made.
-fn push_reserved(places: &mut Vec<u32>, place: u32)
-    requires { vec_len places.old < vec_capacity places.old }
-    ensures { places.new.items ≡ places.old.items ++ place ∷ [] }
+fn push_reserved(restarts: &mut Vec<u32>, restart: u32)
+    requires { vec_len restarts.old < vec_capacity restarts.old }
+    ensures { restarts.new.items ≡ restarts.old.items ++ restart ∷ [] }
 {
-    let _ = places.push(place);
+    let _ = restarts.push(restart);
 }
 
 impl EntryBlock {
@@ -90,14 +91,14 @@ impl EntryBlock {
         requires { 1 ≤ interval }
         ensures { IfOk result (λ b. b ≡ empty interval) }
     {
-        let places = Vec::from_slice(alloc, &[0])?;
+        let restarts = Vec::from_slice(alloc, &[0])?;
         Ok(EntryBlock {
             alloc,
             interval,
             since: 0,
             entries: 0,
             text: Vec::new(alloc),
-            places,
+            restarts,
             last: None,
         })
     }
@@ -107,7 +108,7 @@ impl EntryBlock {
     pub fn size(&self) -> u64
         ensures { result ≡ block_size self.now }
     {
-        self.entries as u64 + 4 * self.places.len() as u64 + 4
+        (self.entries + RESTART_SIZE * (self.restarts.len() + 1)) as u64
     }
 
     /// Whether the block has no entries.
@@ -119,9 +120,9 @@ impl EntryBlock {
 
     /// The last key, or no bytes where there is none.
     pub fn last_key(&self) -> &[u8]
-        ensures { result.now ≡ front_of self.now.last }
+        ensures { result.now ≡ key_or_empty self.now.last }
     {
-        front(&self.last)
+        last_or_empty(&self.last)
     }
 
     /// Whether `key` is above the last key, so that it may be added.
@@ -139,19 +140,19 @@ impl EntryBlock {
         ensures sound { IsSound self.now }
         ensures shared { result ≡ shared_of self.now key.now }
         ensures key { result ≤ length key.now }
-        ensures last { result ≤ length (front_of self.now.last) }
+        ensures last { result ≤ length (key_or_empty self.now.last) }
     {
         if self.interval <= self.since {
             return 0;
         }
-        common(front(&self.last), key)
+        common(last_or_empty(&self.last), key)
     }
 
     /// Puts an entry that shares so many bytes behind the others. Unchanged after a refusal.
     fn append(&mut self, shared: usize, key: &[u8], value: &[u8]) -> Result<(), NoMemory>
         requires shared { shared ≡ shared_of self.old key.now }
         requires fits { shared ≤ length key.now }
-        requires front { shared ≤ length (front_of self.old.last) }
+        requires front { shared ≤ length (key_or_empty self.old.last) }
         requires key { length key.now < 2 ^ 32 }
         requires value { length value.now < 2 ^ 32 }
         requires room { block_size self.old < 2 ^ 32 }
@@ -160,14 +161,14 @@ impl EntryBlock {
     {
         self.text.truncate(self.entries);
         put_entry(&mut self.text, shared, key, value)?;
-        self.places.reserve(1)?;
+        self.restarts.reserve(1)?;
         set_key(self.alloc, &mut self.last, shared, key.split_at(shared).1)?;
         if self.since < self.interval {
             self.since += 1;
             self.entries = self.text.len();
             return Ok(());
         }
-        push_reserved(&mut self.places, self.entries as u32);
+        push_reserved(&mut self.restarts, self.entries as u32);
         self.since = 1;
         self.entries = self.text.len();
         Ok(())
@@ -182,7 +183,7 @@ impl EntryBlock {
         requires value { length value.now < 2 ^ 32 }
         requires room { block_size self.old < 2 ^ 32 }
         ensures ok { OnOk result (self.new ≡ added self.old key.now value.now) }
-        ensures rows { OnOk result ((rows : List Row) → Holds self.old rows → Holds self.new (rows ++ (key.now, value.now) ∷ [])) }
+        ensures rows { OnOk result ((rows : List RowView) → HasRows self.old rows → HasRows self.new (rows ++ (key.now, value.now) ∷ [])) }
         ensures err { OnErr result (self.new ≡ self.old) }
     {
         let shared = self.shared_with(key);
@@ -196,7 +197,7 @@ impl EntryBlock {
         self.since = 0;
         self.entries = 0;
         self.text.clear();
-        self.places.truncate(1);
+        self.restarts.truncate(1);
         self.last = None;
     }
 
@@ -204,15 +205,15 @@ impl EntryBlock {
     /// was, so that more entries may follow.
     ///
     /// Source: LevelDB, table/block_builder.cc; docs/FORMAT.md, "Table file".
-    #[tactic(auto, unfolding(crate::specs::Build::block_text))]
+    #[tactic(auto, unfolding(crate::specs::Builder::block_text))]
     pub fn finish(&mut self) -> Result<&[u8], NoMemory>
         ensures* after { sem 𝓛 (Rests the_row self.entry (λ d. d ≡ self.old)) }
         ensures text { IfOk result (λ bytes. bytes.now ≡ block_text self.old) }
         ensures size { IfOk result (λ bytes. length bytes.now ≡ block_size self.old) }
-        ensures good { IfOk result (λ bytes. (rows : List Row) → Holds self.old rows → Good bytes.now rows) }
+        ensures good { IfOk result (λ bytes. (rows : List RowView) → HasRows self.old rows → IsBlock bytes.now rows) }
     {
         self.text.truncate(self.entries);
-        put_places(&mut self.text, self.places.as_slice())?;
+        put_restarts(&mut self.text, self.restarts.as_slice())?;
         Ok(self.text.as_slice())
     }
 }

@@ -1,7 +1,7 @@
 //! The entries of a block, where they lie.
 
 ghost use Rattle.std.specs.Prelude.{◌≡◌, ◌≤◌, ◌<◌, length, IfSome, option_map};
-ghost use Rattle.st_tblock.specs.Reading.{length_in};
+ghost use Rattle.st_tblock.specs.Parsing.{length_in};
 ghost use Rattle.st_tblock.specs.Block.{Entry, entry_in};
 
 use crate::varint::get_varint32;
@@ -10,7 +10,7 @@ use crate::varint::get_varint32;
 #[derive(Clone, Copy)]
 pub struct Parts<'a> {
     pub shared: usize,
-    pub fresh: &'a [u8],
+    pub unshared: &'a [u8],
     pub value: &'a [u8],
 }
 
@@ -28,21 +28,21 @@ fn length_at(bytes: &[u8]) -> Option<(u32, &[u8])>
 pub fn entry_at(last: usize, bytes: &[u8]) -> Option<(Parts<'_>, &[u8])>
     ensures shared { IfSome result (λ x. x.0.shared ≤ last) }
     ensures shorter { IfSome result (λ x. length x.1.now < length bytes.now) }
-    ensures value { option_map (λ x. (record { shared = x.0.shared; fresh = x.0.fresh.now; value = x.0.value.now }, x.1.now)) result ≡ entry_in last bytes.now }
+    ensures value { option_map (λ x. (record { shared = x.0.shared; unshared = x.0.unshared.now; value = x.0.value.now }, x.1.now)) result ≡ entry_in last bytes.now }
 {
     let (shared, more) = length_at(bytes)?;
-    let (fresh, more) = length_at(more)?;
+    let (unshared, more) = length_at(more)?;
     let (value, more) = length_at(more)?;
-    let (shared, fresh, value) = (shared as usize, fresh as usize, value as usize);
-    if last < shared || more.len() < fresh + value {
+    let (shared, unshared, value) = (shared as usize, unshared as usize, value as usize);
+    if last < shared || more.len() < unshared + value {
         return None;
     }
-    let (fresh, more) = more.split_at(fresh);
+    let (unshared, more) = more.split_at(unshared);
     let (value, rest) = more.split_at(value);
     Some((
         Parts {
             shared,
-            fresh,
+            unshared,
             value,
         },
         rest,

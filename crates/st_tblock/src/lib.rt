@@ -26,15 +26,17 @@
 //!
 //! `specs/Block.antt` says what a block is, `specs/Cursor.antt` what a cursor gives,
 //! `specs/Lookup.antt` what a lookup is, `specs/Build.antt` what a draft is and holds. Then
-//! `varint`, `handle`, `places`, `entry`, `cursor`, `prefix`, `search` and `builder`.
+//! `varint`, `handle`, `restarts`, `entry`, `cursor`, `prefix`, `search` and `builder`.
 #![tactic(auto)]
 
 mod builder;
 mod cursor;
 mod entry;
+mod format;
 mod handle;
-mod places;
+mod last_key;
 mod prefix;
+mod restarts;
 mod search;
 #[cfg(test)]
 mod tests;
@@ -42,6 +44,9 @@ mod varint;
 
 pub use builder::EntryBlock;
 pub use cursor::{CursorErr, EntryCursor};
+pub use format::{
+    FOOTER_SIZE, MAGIC, MAGIC_OFFSET, MAX_HANDLE, PLAIN, RESTART_SIZE, SNAPPY, TRAILER_SIZE,
+};
 pub use handle::{Handle, footer, get_handle, put_handle, read_footer};
 pub use search::find;
 pub use st_crc::{crc32c, mask};

@@ -23,20 +23,20 @@ pub fn common(last: &[u8], key: &[u8]) -> usize
     shared
 }
 
-/// How the key of an entry, `fresh` behind the first `shared` bytes of the key before it, stands to
+/// How the key of an entry, `unshared` behind the first `shared` bytes of the key before it, stands to
 /// `key`, and how many bytes the two have in common from their front on.
 ///
 /// The key before it must be before `key`, and have `matched` bytes in common with it.
-pub fn against(matched: usize, shared: usize, fresh: &[u8], key: &[u8]) -> (Ordering, usize)
+pub fn against(matched: usize, shared: usize, unshared: &[u8], key: &[u8]) -> (Ordering, usize)
     requires { matched ≤ length key.now }
-    ensures compares { Compares key.now matched shared fresh.now result }
+    ensures compares { Compares key.now matched shared unshared.now result }
     ensures within { result.1 ≤ length key.now }
 {
     if matched < shared {
         return (Ordering::Less, matched);
     }
     let wanted = key.split_at(shared).1;
-    let same = common(fresh, wanted);
-    let order = fresh.split_at(same).1.cmp(wanted.split_at(same).1);
+    let same = common(unshared, wanted);
+    let order = unshared.split_at(same).1.cmp(wanted.split_at(same).1);
     (order, shared + same)
 }

@@ -1,46 +1,47 @@
 //! Looking a key up in a block that is good.
 
 ghost use Rattle.std.specs.Prelude.{◌≡◌, ◌≤◌, List, length, option_map, IsTrue};
-ghost use Rattle.st_tblock.specs.Block.{Row, Good, numbers_in};
+ghost use Rattle.st_tblock.specs.Block.{RowView, IsBlock, numbers_in};
 ghost use Rattle.st_tblock.specs.Lookup.{lookup};
 ghost use Rattle.st_tblock.specs.Search.{IsReached, MayBegin, AnswersFrom};
 
 use crate::entry::entry_at;
-use crate::places::{halves_at, place_at};
+use crate::format::RESTART_SIZE;
 use crate::prefix::against;
+use crate::restarts::{halves_at, restart_at};
 use std::cmp::Ordering;
 
 /// As many bytes as any entry may share, since its lengths are varint32.
 const ANY: usize = 0xffff_ffff;
 
-/// Whether an entry that shares nothing stands at the offset `place`, with a key that isn't behind
+/// Whether an entry that shares nothing stands at the offset `offset`, with a key that isn't behind
 /// `key`.
-fn is_reached(text: &[u8], key: &[u8], place: usize) -> bool
-    ensures { IsTrue result → IsReached text.now key.now place }
+fn is_reached(text: &[u8], key: &[u8], offset: usize) -> bool
+    ensures { IsTrue result → IsReached text.now key.now offset }
 {
-    if text.len() < place {
+    if text.len() < offset {
         return false;
     }
-    match entry_at(0, text.split_at(place).1) {
-        Some((parts, _)) => !key.cmp(parts.fresh).is_lt(),
+    match entry_at(0, text.split_at(offset).1) {
+        Some((parts, _)) => !key.cmp(parts.unshared).is_lt(),
         None => false,
     }
 }
 
 /// The offset of a restart whose key isn't behind `key`, the last one where the restarts' keys
 /// rise, or of the text's front.
-fn restart_before(text: &[u8], places: &[u8], key: &[u8]) -> usize
-    ensures begins { MayBegin text.now (numbers_in places.now) key.now result }
+fn restart_before(text: &[u8], restarts: &[u8], key: &[u8]) -> usize
+    ensures begins { MayBegin text.now (numbers_in restarts.now) key.now result }
     ensures within { result ≤ length text.now }
 {
     let mut best = 0;
     let mut low = 0;
-    let mut high = places.len() / 4;
+    let mut high = restarts.len() / RESTART_SIZE;
     'halves: while low < high {
         let middle = low + (high - low) / 2;
-        let place = place_at(places, middle);
-        if is_reached(text, key, place) {
-            best = place;
+        let offset = restart_at(restarts, middle);
+        if is_reached(text, key, offset) {
+            best = offset;
             low = middle + 1;
         } else {
             high = middle;
@@ -62,7 +63,7 @@ fn scan<'a>(text: &'a [u8], key: &[u8]) -> Option<&'a [u8]>
         let Some((parts, more)) = entry_at(ANY, rest) else {
             return None;
         };
-        let (order, same) = against(matched, parts.shared, parts.fresh, key);
+        let (order, same) = against(matched, parts.shared, parts.unshared, key);
         match order {
             Ordering::Less => {}
             Ordering::Equal => return Some(parts.value),
@@ -81,11 +82,11 @@ fn scan<'a>(text: &'a [u8], key: &[u8]) -> Option<&'a [u8]>
 /// `key`.
 /// Source: LevelDB, table/block.cc; docs/FORMAT.md, "Table file".
 pub fn find<'a>(bytes: &'a [u8], key: &[u8]) -> Option<&'a [u8]>
-    ensures { (rows : List Row) → Good bytes.now rows → option_map (λ v. v.now) result ≡ lookup key.now rows }
+    ensures { (rows : List RowView) → IsBlock bytes.now rows → option_map (λ v. v.now) result ≡ lookup key.now rows }
 {
-    let Some((text, places)) = halves_at(bytes) else {
+    let Some((text, restarts)) = halves_at(bytes) else {
         return None;
     };
-    let from = restart_before(text, places, key);
+    let from = restart_before(text, restarts, key);
     scan(text.split_at(from).1, key)
 }

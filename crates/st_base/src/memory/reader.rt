@@ -1,8 +1,8 @@
 ghost use Rattle.std.specs.Prelude.{◌≡◌, ◌+◌, ◌-◌, ◌^◌, ◌≤◌, ◌<◌, min, List, [], length, take, drop, IfOk, Some};
 
 use crate::failures::{Failed, NoMemory};
-use crate::readers::Reader;
 use crate::memory::schedule::{is_listed, next_count};
+use crate::readers::Reader;
 use std::alloc::Global;
 use std::marker::Model;
 

@@ -37,9 +37,9 @@ impl Sink for RealDraft {
 impl Draft for RealDraft {
     type Sealed = RealSealed;
 
-    ghost mark = { λ d. record { kind = d.kind; number = d.number; home = 0 } };
+    ghost origin = { λ d. record { kind = d.kind; number = d.number; home = 0 } };
 
-    ghost sealed_mark = { λ s. record { kind = s.kind; number = s.number; home = 0 } };
+    ghost sealed_origin = { λ s. record { kind = s.kind; number = s.number; home = 0 } };
 
     ghost sealed_bytes = { λ s. None };
 

@@ -5,7 +5,7 @@ ghost use Rattle.st_folder.specs.Numbers.{IsLastDraft, IsBelow};
 use crate::real::names::{name_of, path_of_folder};
 use st_shelf::{Kind, Name};
 use std::alloc::Global;
-use std::fs::{DirBuilder, DirEntry, File, OpenOptions, TryLockError};
+use std::fs::{DirBuilder, DirEntry, File, OpenOptions, ReadDir, TryLockError};
 use std::io::ErrorKind;
 use std::os::unix::fs::{DirBuilderExt, OpenOptionsExt};
 use std::rt::HostRuntime;
@@ -76,7 +76,7 @@ pub(crate) fn read_names(
     names: &mut Vec<Name>,
 ) -> io::Result<()> {
     let path = path_of_folder(alloc, root, kind)?;
-    for entry in fs::read_dir(rt, path.as_str())? {
+    for entry in open_names(rt, path.as_str())? {
         match entry {
             Ok(entry) => add_entry(kind, &entry, names)?,
             // A name that is no text is none of a shelf's.
@@ -88,6 +88,17 @@ pub(crate) fn read_names(
         }
     }
     Ok(())
+}
+
+// Opens a folder to read its names, again where a signal broke that off.
+fn open_names(rt: &HostRuntime, path: &str) -> io::Result<ReadDir> {
+    'tries: for _ in 0..u64::MAX {
+        match fs::read_dir(rt, path) {
+            Err(error) if error.kind() == ErrorKind::Interrupted => {}
+            other => return other,
+        }
+    }
+    Err(io::Error::from(ErrorKind::Interrupted))
 }
 
 fn add_entry(kind: Kind, entry: &DirEntry, names: &mut Vec<Name>) -> io::Result<()> {
@@ -161,7 +172,8 @@ fn make_folder(rt: &HostRuntime, path: &str) -> io::Result<()> {
 fn sync_parent(rt: &HostRuntime, path: &str) -> io::Result<()> {
     match File::open(rt, parent_of(path)) {
         Ok(parent) => parent.sync_all(),
-        Err(_) => Ok(()),
+        Err(error) if error.kind() == ErrorKind::PermissionDenied => Ok(()),
+        Err(error) => Err(error),
     }
 }
 

@@ -2,7 +2,7 @@
 ghost use Rattle.std.specs.Prelude.{◌≡◌, ◌≢◌, ◌+◌, ◌-◌, ◌*◌, ◌/◌, ◌%◌, ◌^◌, ◌<◌, ◌≤◌, ◌++◌, ℕ, List, length, IfOk, OnOk, MatchOption, string_bytes};
 ghost use Rattle.std.specs.Fmt.{digit_glyph, decimal};
 ghost use Rattle.st_disk.specs.declared.naming.Name.{Name};
-ghost use Rattle.st_disk.specs.Folders.{kind_of};
+ghost use Rattle.st_disk.specs.Names.{kind_of};
 ghost use Rattle.st_folder.specs.FileNames.{hex_text, stamp_text, file_name, folder_name, folder_path, file_path, FitsWord};
 
 use st_disk::kind_of_name;

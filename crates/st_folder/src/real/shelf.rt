@@ -6,7 +6,7 @@ ghost use Rattle.st_folder.specs.Counting.{IsLeftAlone, SettlesUp};
 use crate::real::draft::{RealDraft, RealSealed};
 use crate::real::folders::{RealFolders, create_file, read_names};
 use crate::real::names::path_of;
-use st_base::{Failed, FileReader, NoMemory, StreamSink};
+use st_base::{Failed, FileReader, NoMemory, Reader, StreamSink};
 use st_disk::{kind_of_name, sorted_names};
 use st_shelf::{CameBack, Draft, End, Kind, LentFile, ListErr, Loans, Name, Names, Shelf};
 use std::alloc::Global;

@@ -3,10 +3,10 @@ use Rattle.std.specs.Io.KnownBytes.{Appends}
 use Rattle.std.proofs.KnownBytes.{Appends-trans}
 use Rattle.st_base.specs.Pieces.{AppendsPrefix}
 use Rattle.st_base.proofs.Putting.{prefix-more, prefix-then}
-use Rattle.st_tblock.specs.Build.{block_text}
+use Rattle.st_tblock.specs.Builder.{block_text}
 use Rattle.st_tblock.specs.Handles.{footer_text}
-use Rattle.st_table.specs.Table.{IsTable}
-use Rattle.st_table.specs.Builder.{stored_text, next_handle}
+use Rattle.st_table.specs.TableFile.{IsTable}
+use Rattle.st_table.specs.TableBuilderView.{stored_text, next_handle}
 use Rattle.st_table.proofs.Ending.{zeros_and_one, ending_is, ending_size, indexed_table}
 use Rattle.st_table.proofs.builder.put_ending.Goals as goal
 

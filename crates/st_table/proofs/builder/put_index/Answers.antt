@@ -1,9 +1,9 @@
 use Rattle.std.proofs.Common.{List, ℕ, subst}
 use Rattle.st_base.specs.Pieces.{AppendsPrefix}
 use Rattle.st_base.proofs.Putting.{prefix-more, prefix-then}
-use Rattle.st_tblock.specs.Build.{block_text}
+use Rattle.st_tblock.specs.Builder.{block_text}
 use Rattle.st_tblock.specs.Handles.{footer_text}
-use Rattle.st_table.specs.Builder.{stored_text}
+use Rattle.st_table.specs.TableBuilderView.{stored_text}
 use Rattle.st_table.proofs.builder.put_index.Goals as goal
 
 pub returns-in-Err-put-clause-bytes : goal.returns-in-Err-put-clause-bytes

@@ -1,5 +1,5 @@
-use Rattle.st_tblock.specs.Build.{block_text}
-use Rattle.st_table.specs.Builder.{stored_text}
+use Rattle.st_tblock.specs.Builder.{block_text}
+use Rattle.st_table.specs.TableBuilderView.{stored_text}
 use Rattle.st_table.proofs.Texts.{whole_front}
 use Rattle.st_table.proofs.builder.put_named.Goals as goal
 

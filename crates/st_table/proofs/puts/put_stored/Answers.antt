@@ -2,8 +2,8 @@ use Rattle.std.proofs.Common.{◌∷◌, List, ℕ, subst}
 use Rattle.byteorder.specs.Endian.{little_bytes}
 use Rattle.st_base.specs.Pieces.{Puts}
 use Rattle.st_base.proofs.Putting.{prefix-more}
-use Rattle.st_table.specs.Table.{sum_of}
-use Rattle.st_table.specs.Builder.{stored_text}
+use Rattle.st_table.specs.TableFile.{sum_of}
+use Rattle.st_table.specs.TableBuilderView.{stored_text}
 use Rattle.st_table.proofs.Texts.{puts_then}
 use Rattle.st_table.proofs.puts.put_stored.Goals as goal
 

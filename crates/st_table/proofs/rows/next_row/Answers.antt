@@ -1,5 +1,5 @@
 use Rattle.std.proofs.Common.{ap}
-use Rattle.st_table.specs.ReadingRows.{lies_in}
+use Rattle.st_table.specs.Rows.{lies_in}
 use Rattle.st_table.specs.Errors.{Broken}
 use Rattle.st_table.specs.declared.errors.TableErr.TheVariants.{Damaged}
 use Rattle.st_table.proofs.Entries.{stepped, refused, repeated}

@@ -1,5 +1,5 @@
 use Rattle.std.proofs.Common.{refl}
-use Rattle.st_table.specs.ReadingRows.{lies_in}
+use Rattle.st_table.specs.Rows.{lies_in}
 use Rattle.st_table.specs.declared.errors.TableErr.TheVariants.{Damaged}
 use Rattle.st_table.proofs.Walking.{not_begun}
 use Rattle.st_table.proofs.Ranges.{ranged_on}
@@ -7,9 +7,9 @@ use Rattle.st_table.proofs.rows.rows_in.Goals as goal
 
 pub returns-in-Err-clause-rows : goal.returns-in-Err-clause-rows
 returns-in-Err-clause-rows c =
-    not_begun (lies_in c.args.bounds.now) c.args.block.now c.args.place c.in-Err.damage (Damaged c.in-Err.damage) c.in-Err.ensures refl
+    not_begun (lies_in c.args.bounds.now) c.args.block.now c.args.base c.in-Err.damage (Damaged c.in-Err.damage) c.in-Err.ensures refl
 
 pub rows-preserved : goal.rows-preserved
 rows-preserved c =
     let s = rw c.in-Ok-Some.field-0-is at c.in-Ok-Some.ensures.steps in
-    ranged_on (lies_in c.args.bounds.now) c.args.block.now c.args.place c.args.low.now c.args.high.now c.rows.cursor c.next_row.new.cursor c.rows.kept.items c.keep.new.kept.items c.in-Ok-Some.value c.key.result.now c.rows.invariant s c.key.ensures c.in-Ok-keep.ensures
+    ranged_on (lies_in c.args.bounds.now) c.args.block.now c.args.base c.args.low.now c.args.high.now c.rows.cursor c.next_row.new.cursor c.rows.kept.items c.keep.new.kept.items c.in-Ok-Some.value c.key.result.now c.rows.invariant s c.key.ensures c.in-Ok-keep.ensures

@@ -8,14 +8,14 @@ use Rattle.st_tblock.proofs.prefix.against.Goals as goal
 
 pub returns-then-matched-shared-clause-compares : goal.returns-then-matched-shared-clause-compares
 returns-then-matched-shared-clause-compares c =
-    compares_far c.args.key.now c.args.fresh.now c.args.matched c.args.shared c.if-matched-shared.true
+    compares_far c.args.key.now c.args.unshared.now c.args.matched c.args.shared c.if-matched-shared.true
 
 pub returns-clause-compares : goal.returns-clause-compares
 returns-clause-compares c =
     let key = c.args.key.now in
-    let fresh = c.args.fresh.now in
+    let unshared = c.args.unshared.now in
     let same = c.common-same.result in
-    let common : same ≡ common_prefix_len nat_eq fresh (drop c.args.shared key) =
-    c.common-same.ensures.same ∙ ap (common_prefix_len nat_eq fresh) c.split_at.ensures.back in
-    let order : c.cmp-order.result ≡ slice_cmp nat_cmp (drop same fresh) (drop same (drop c.args.shared key)) = cc in
-    compares_near key fresh c.args.matched c.args.shared same c.cmp-order.result (omega arith) common order
+    let common : same ≡ common_prefix_len nat_eq unshared (drop c.args.shared key) =
+    c.common-same.ensures.same ∙ ap (common_prefix_len nat_eq unshared) c.split_at.ensures.back in
+    let order : c.cmp-order.result ≡ slice_cmp nat_cmp (drop same unshared) (drop same (drop c.args.shared key)) = cc in
+    compares_near key unshared c.args.matched c.args.shared same c.cmp-order.result (omega arith) common order

@@ -11,4 +11,4 @@ returns c =
     let key = c.args.key.now in
     let answer = option_map (λ v. v.now) c.scan.result in
     let there = subst (λ (t : List ℕ). AnswersFrom t key answer) c.split_at.ensures.back c.scan.ensures in
-    found_in_good c.args.bytes.now c.in-Some.text.now c.in-Some.places.now key c.restart_before-from.result answer (sym c.in-Some.ensures.value) c.restart_before-from.ensures.begins there
+    found_in_good c.args.bytes.now c.in-Some.text.now c.in-Some.restarts.now key c.restart_before-from.result answer (sym c.in-Some.ensures.value) c.restart_before-from.ensures.begins there

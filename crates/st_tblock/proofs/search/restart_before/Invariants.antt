@@ -9,7 +9,7 @@ decreases-halves l = l.high - l.low
 abbrev pub invariant-halves : goal.invariant-halves
 invariant-halves l = record {
   order : l.low ≤ l.high;
-  room : 4 * l.high ≤ length l.places;
+  room : 4 * l.high ≤ length l.restarts;
   within : l.best ≤ length l.text;
-  begins : MayBegin l.text (numbers_in l.places) l.key l.best;
+  begins : MayBegin l.text (numbers_in l.restarts) l.key l.best;
 }

@@ -1,5 +1,5 @@
 use Rattle.std.proofs.Common.{sym, subst}
-use Rattle.st_table.specs.ReadingIndex.{Decodes}
+use Rattle.st_table.specs.Index.{Decodes}
 use Rattle.st_table.proofs.Coming.{table_last}
 use Rattle.st_table.proofs.table.Table+R.last_key.Goals as goal
 
