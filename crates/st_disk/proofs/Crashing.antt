@@ -1,6 +1,7 @@
 -- A shelf that begins with an image of another.
 use Rattle.std.proofs.Common.{◌≡◌, ◌≤◌, ℕ, ◌+◌, ◌/◌, ◌^◌, List, [], length, take, refl, sym, ◌∙◌, ap, subst, arith, zero-add}
 use Rattle.std.proofs.lemmas.List.{take_all}
+use Rattle.st_disk.specs.declared.naming.Kind.{Kind}
 use Rattle.st_disk.specs.declared.naming.Kind.TheVariants as kind
 use Rattle.st_disk.specs.declared.changes.Change.{Change}
 use Rattle.st_disk.specs.declared.changes.Call.{Call}
@@ -16,13 +17,13 @@ pub whole : (n : ℕ) → n ≡ n / 2 ^ 0
 whole n = omega arith
 
 -- a folder side_from again is that folder of the log
-pub block_side : (sb si : List Update) (cs ds : List Call) (s fl : List Update) (la : List Change) (k : ℕ) → ds ≡ take k cs → s ≡ sb → side_from fl la ≡ after kind.Block (flushed_side (folder_of s)) ds → side_from fl la ≡ side kind.Block (at_moment k (log_of sb si cs))
+pub block_side : (sb si : List Update) (cs ds : List Call) (s fl : List Update) (la : List Change) (k : ℕ) → ((j : Kind) (x : Side) → after j x ds ≡ after j x (take k cs)) → s ≡ sb → side_from fl la ≡ after kind.Block (flushed_side (folder_of s)) ds → side_from fl la ≡ side kind.Block (at_moment k (log_of sb si cs))
 unfolding side
-block_side sb si cs ds s fl la k e f is = is ∙ ap (λ (xs : List Call). after kind.Block (flushed_side (folder_of s)) xs) e ∙ ap (λ (ps : List Update). after kind.Block (flushed_side (folder_of ps)) (take k cs)) f
+block_side sb si cs ds s fl la k e f is = is ∙ e kind.Block (flushed_side (folder_of s)) ∙ ap (λ (ps : List Update). after kind.Block (flushed_side (folder_of ps)) (take k cs)) f
 
-pub index_side : (sb si : List Update) (cs ds : List Call) (s fl : List Update) (la : List Change) (k : ℕ) → ds ≡ take k cs → s ≡ si → side_from fl la ≡ after kind.Index (flushed_side (folder_of s)) ds → side_from fl la ≡ side kind.Index (at_moment k (log_of sb si cs))
+pub index_side : (sb si : List Update) (cs ds : List Call) (s fl : List Update) (la : List Change) (k : ℕ) → ((j : Kind) (x : Side) → after j x ds ≡ after j x (take k cs)) → s ≡ si → side_from fl la ≡ after kind.Index (flushed_side (folder_of s)) ds → side_from fl la ≡ side kind.Index (at_moment k (log_of sb si cs))
 unfolding side
-index_side sb si cs ds s fl la k e f is = is ∙ ap (λ (xs : List Call). after kind.Index (flushed_side (folder_of s)) xs) e ∙ ap (λ (ps : List Update). after kind.Index (flushed_side (folder_of ps)) (take k cs)) f
+index_side sb si cs ds s fl la k e f is = is ∙ e kind.Index (flushed_side (folder_of s)) ∙ ap (λ (ps : List Update). after kind.Index (flushed_side (folder_of ps)) (take k cs)) f
 
 -- a log with no call yet
 reads_start : (sb si : List Update) → reads (log_of sb si []) ≡ join (folder_of sb) (folder_of si)

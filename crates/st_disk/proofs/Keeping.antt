@@ -1,5 +1,5 @@
 -- What a shelf in memory keeps, as calls go on.
-use Rattle.std.proofs.Common.{◌≡◌, ◌≤◌, ◌<◌, ◌&&◌, ℕ, List, [], ◌∷◌, ◌++◌, Option, None, Some, Bool, true, false, cond, nat_eq, refl, sym, ◌∙◌, ap, subst, ⊎_elim, arith, option_to_list, MatchOption, Result, Ok, Err, OnOk, IfErr}
+use Rattle.std.proofs.Common.{◌≡◌, ◌≤◌, ◌<◌, ◌-◌, ◌^◌, ◌&&◌, ℕ, List, [], ◌∷◌, ◌++◌, Option, None, Some, Bool, true, false, length, cond, nat_eq, refl, sym, ◌∙◌, ap, subst, ⊎_elim, arith, option_to_list, MatchOption, Result, Ok, Err, OnOk, OnErr, IfErr}
 use Rattle.std.proofs.lemmas.List.{append-nil, take_all}
 use Rattle.std.proofs.lemmas.Bool.Decides.{nat_tests}
 use Rattle.st_disk.specs.declared.naming.Kind.{Kind}
@@ -111,6 +111,16 @@ kept_still log call b i n h kept = record {
   of_indexes = kept.of_indexes ∙ sym (side_still kind.Index log call h);
   numbers = numbers_still n log call h kept.numbers;
 }
+
+-- after a call that changed nothing, or one that was not noted
+pub kept_looked : {E : Type 0} (a b : List Update) (cs ds : List Call) (ps ns : List Update) (n : ℕ) (r : Result (Unit {0}) E) → OnOk r (ds ≡ cs ++ Other ∷ []) → OnErr r ((ds ≡ cs) × (2 ^ 64 - 1 ≤ length cs)) → IsKept (log_of a b cs) ps ns n → IsKept (log_of a b ds) ps ns n
+kept_looked {E = E} a b cs ds ps ns n (Ok v) ok err kept = subst (λ (xs : List Call). IsKept (log_of a b xs) ps ns n) (sym ok) (kept_still (log_of a b cs) Other ps ns n tt kept)
+kept_looked {E = E} a b cs ds ps ns n (Err e) ok err kept = subst (λ (xs : List Call). IsKept (log_of a b xs) ps ns n) (sym err.0) kept
+
+-- after a flush
+pub kept_flushed : (a b : List Update) (k : Kind) (cs ds : List Call) (ps ns : List Update) (n : ℕ) (r : Result (Unit {0}) Call) → OnOk r (ds ≡ cs ++ Flush k ∷ []) → IfErr r (λ c. (c ≡ Flush k) × (ds ≡ cs)) → IsKept (log_of a b cs) ps ns n → IsKept (log_of a b ds) ps ns n
+kept_flushed a b k cs ds ps ns n (Ok v) ok err kept = subst (λ (xs : List Call). IsKept (log_of a b xs) ps ns n) (sym ok) (kept_still (log_of a b cs) (Flush k) ps ns n tt kept)
+kept_flushed a b k cs ds ps ns n (Err e) ok err kept = subst (λ (xs : List Call). IsKept (log_of a b xs) ps ns n) (sym err.1) kept
 
 pub kept_block : (log : Log) (c : Change) (b d i : List Update) (n m : ℕ) → change_kind c ≡ kind.Block → folder_of d ≡ apply c (folder_of b) → n ≤ m → MakesBelow m c → IsKept log b i n → IsKept (and_then log (Did c)) d i m
 kept_block log c b d i n m is done le below kept = record {

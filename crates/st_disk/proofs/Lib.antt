@@ -2,6 +2,7 @@ pub mod Joins
 pub mod Images
 pub mod Eventful
 pub mod Moments
+mod Idle
 pub mod Keeping
 pub mod Order
 pub mod Gathering

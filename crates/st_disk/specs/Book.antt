@@ -1,5 +1,6 @@
 -- What a shelf in memory keeps: its log, the folders as read, and a number above those of all its drafts.
 use Rattle.std.specs.Prelude.{◌≡◌, ◌<◌, ◌≤◌, ℕ, List, None, ⊤}
+use Rattle.std.proofs.Math.ListN.{replicate}
 use Rattle.st_disk.specs.declared.naming.Kind.{Kind}
 use Rattle.st_disk.specs.declared.naming.Kind.TheVariants as kind
 use Rattle.st_disk.specs.declared.naming.Name.TheVariants.{Draft}
@@ -29,6 +30,10 @@ MakesBelow n (Make k d) = d < n
 MakesBelow n (Settle k d s bytes) = ⊤
 MakesBelow n (Hide s) = ⊤
 MakesBelow n (Remove m) = ⊤
+
+-- this many calls that changed nothing
+abbrev pub idle_calls : ℕ → List Call
+idle_calls n = replicate n Other
 
 -- the call changed no folder
 abbrev pub ChangesNothing : Call → Type 0

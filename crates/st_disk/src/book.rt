@@ -1,16 +1,17 @@
-ghost use Rattle.std.specs.Prelude.{Option, ◌≡◌, ◌++◌, ◌∷◌, [], None, option_map, OnOk, OnErr, IfOk, IfErr, ℕ, List, ◌≤◌, ◌<◌, vec_len, vec_capacity, option_to_list, ◌↔◌, IsSome, Contains, Some, length};
+ghost use Rattle.std.specs.Prelude.{Option, ◌≡◌, ◌++◌, ◌∷◌, [], None, option_map, OnOk, OnErr, IfOk, IfErr, ℕ, List, ◌≤◌, ◌<◌, vec_len, vec_capacity, option_to_list, ◌↔◌, IsSome, Contains, Some, length, ◌+◌, ◌-◌, ◌^◌};
 ghost use Rattle.st_disk.specs.declared.changes.Change.TheVariants as change;
 ghost use Rattle.st_disk.specs.declared.changes.Call.TheVariants as call;
 ghost use Rattle.st_disk.specs.Names.{published, AreSorted};
 ghost use Rattle.st_disk.specs.Folders.{Folder, apply, folder_of};
 ghost use Rattle.st_disk.specs.declared.naming.Name.{Name};
-ghost use Rattle.st_disk.specs.LoggedCalls.{removal};
+ghost use Rattle.st_disk.specs.LoggedCalls.{Looks, Parks, removal};
 ghost use Rattle.st_disk.specs.Crashes.{IsCrash};
 ghost use Rattle.st_disk.specs.Disks.{reads, and_then, Leaves, moment, log_of};
 ghost use Rattle.st_disk.specs.declared.naming.Name.TheVariants as name;
 ghost use Rattle.st_disk.specs.declared.changes.Update.{Update};
-ghost use Rattle.st_disk.specs.Book.{MakesBelow, ChangesNothing, IsKept};
+ghost use Rattle.st_disk.specs.Book.{MakesBelow, IsKept};
 
+use crate::call_list::{CallList, Full};
 use crate::changes::{Call, Change, Update};
 use crate::crashes::{choose, copy_updates, replay};
 use crate::folders::{find, kind_of_change, kind_of_name, update_of};
@@ -22,37 +23,39 @@ use std::marker::Model;
 
 /// The log of a shelf in memory, with its two folders as they are read. Contracts see it as its log.
 ///
-/// Each call either adds one call to the log or, where it finds no memory, leaves the log as it was.
+/// Each call that returns Ok adds one call to the log. To note a call that changed nothing takes no
+/// memory.
 #[derive(Drop)]
 pub struct Book {
     start_blocks: Vec<Update>,
     start_indexes: Vec<Update>,
-    calls: Vec<Call>,
+    calls: CallList,
     blocks: Vec<Update>,
     indexes: Vec<Update>,
     next: u64,
 }
 
 impl Model for Book {
-    ghost use Rattle.st_disk.specs.Disks.{Log};
+    ghost use Rattle.st_disk.specs.Disks.{Log, log_of};
     ghost use Rattle.st_disk.specs.Book.{IsKept};
 
     ghost Value = { Log };
 
-    ghost view = { λ a. record { start_blocks = a.start_blocks.items; start_indexes = a.start_indexes.items; calls = a.calls.items } };
+    ghost view = { λ a. log_of a.start_blocks.items a.start_indexes.items a.calls };
 
-    ghost invariant = { λ a. IsKept (record { start_blocks = a.start_blocks.items; start_indexes = a.start_indexes.items; calls = a.calls.items }) a.blocks.items a.indexes.items a.next };
+    ghost invariant = { λ a. IsKept (log_of a.start_blocks.items a.start_indexes.items a.calls)
+        a.blocks.items a.indexes.items a.next };
 }
 
 impl Book {
     /// Nothing is there, and no call was made. It takes no memory.
     pub fn empty(alloc: Global) -> Book
-        ensures { result ≡ record { start_blocks = []; start_indexes = []; calls = [] } }
+        ensures { result ≡ log_of [] [] [] }
     {
         Book {
             start_blocks: Vec::new(alloc),
             start_indexes: Vec::new(alloc),
-            calls: Vec::new(alloc),
+            calls: CallList::new(alloc),
             blocks: Vec::new(alloc),
             indexes: Vec::new(alloc),
             next: 0,
@@ -80,20 +83,30 @@ impl Book {
         Ok(Names { items })
     }
 
-    /// Notes a call that changed no folder.
-    pub fn note(&mut self, call: Call) -> Result<(), NoMemory>
-        requires { ChangesNothing call }
-        ensures ok { OnOk result (self.new ≡ and_then self.old call) }
-        ensures err { OnErr result (self.new ≡ self.old) }
+    /// Notes a call that changed nothing. It takes no memory.
+    ///
+    /// `Full` comes only if the log has all the moments that a u64 numbers, and leaves it as it was.
+    pub fn look(&mut self) -> Result<(), Full>
+        ensures ok { OnOk result (self.new ≡ and_then self.old call.Other) }
+        ensures full { OnErr result ((self.new ≡ self.old) × (2 ^ 64 - 1 ≤ moment self.old)) }
+        ensures looks { Looks (Some self.old) (Some self.new) }
     {
-        if self.calls.reserve(1).is_err() {
-            return Err(NoMemory);
-        }
-        push_call(&mut self.calls, call);
-        Ok(())
+        self.calls.look()
     }
 
-    /// Makes a change other than the making of a draft. Where memory is wanting it comes back.
+    /// Notes a flush of the folder of this kind.
+    pub fn flush(&mut self, kind: Kind) -> Result<(), NoMemory>
+        ensures ok { OnOk result (self.new ≡ and_then self.old (call.Flush kind)) }
+        ensures err { OnErr result (self.new ≡ self.old) }
+    {
+        match self.calls.push(Call::Flush(kind)) {
+            Ok(()) => Ok(()),
+            Err(_) => Err(NoMemory),
+        }
+    }
+
+    /// Makes a change other than the making of a draft. The change comes back, and nothing is
+    /// changed, if memory runs out.
     pub fn change(&mut self, alloc: Global, change: Change) -> Result<(), Change>
         requires { MakesBelow 0 change }
         ensures ok { OnOk result (self.new ≡ and_then self.old (call.Did change)) }
@@ -112,7 +125,7 @@ impl Book {
     pub fn moments(&self) -> u64
         ensures { result ≡ moment self.now }
     {
-        self.calls.len() as u64
+        self.calls.count()
     }
 
     /// What a crash after the first `moment` calls leaves by this choice, flushed and with no call
@@ -124,7 +137,7 @@ impl Book {
         requires { moment ≤ length self.now.calls }
         ensures { IfOk result (IsCrash self.now moment choice) }
     {
-        let calls = self.calls.as_slice().split_at(moment as usize).0;
+        let calls = self.calls.until(moment);
         let mut blocks = replay(alloc, Kind::Block, &self.start_blocks, calls)?;
         let left = choose(alloc, choice, &mut blocks.flushed, &blocks.later)?;
         let mut indexes = replay(alloc, Kind::Index, &self.start_indexes, calls)?;
@@ -132,7 +145,7 @@ impl Book {
         Ok(Book {
             start_blocks: copy_updates(alloc, &blocks.flushed)?,
             start_indexes: copy_updates(alloc, &indexes.flushed)?,
-            calls: Vec::new(alloc),
+            calls: CallList::new(alloc),
             blocks: blocks.flushed,
             indexes: indexes.flushed,
             next: self.next,
@@ -175,13 +188,29 @@ impl Book {
         }
     }
 
-    /// Takes a name away; where it isn't there, that is a call that changes no folder.
+    /// Renames the index of this stamp, which is there, to its parked name.
+    pub fn hide(&mut self, alloc: Global, stamp: u64) -> Result<(), NoMemory>
+        requires { IsSome (reads self.old (name.Index stamp)) }
+        ensures ok { OnOk result (self.new ≡ and_then self.old (call.Did (change.Hide stamp))) }
+        ensures parked { OnOk result (Parks (Some self.old) (Some self.new) stamp) }
+        ensures err { OnErr result (self.new ≡ self.old) }
+    {
+        if self.change(alloc, Change::Hide { stamp }).is_err() {
+            return Err(NoMemory);
+        }
+        Ok(())
+    }
+
+    /// Removes a name; if it isn't there, that is a call that changes nothing.
     pub fn remove(&mut self, alloc: Global, name: Name) -> Result<(), NoMemory>
         ensures ok { OnOk result (self.new ≡ and_then self.old (removal (Some self.old) name)) }
         ensures err { OnErr result (self.new ≡ self.old) }
     {
         if self.get(name).is_none() {
-            return self.note(Call::Other);
+            return match self.look() {
+                Ok(()) => Ok(()),
+                Err(Full) => Err(NoMemory),
+            };
         }
         match self.change(alloc, Change::Remove { name }) {
             Ok(()) => Ok(()),
@@ -231,14 +260,14 @@ impl Book {
 // Adds a change to the calls, and to its folder.
 fn record_in(
     alloc: Global,
-    calls: &mut Vec<Call>,
+    calls: &mut CallList,
     blocks: &mut Vec<Update>,
     indexes: &mut Vec<Update>,
     change: Change,
 ) -> Result<(), Change>
-    ensures kept { (b i : List Update) (n m : ℕ) → n ≤ m → MakesBelow m change → IsKept (log_of b i calls.old.items) blocks.old.items indexes.old.items n → IsKept (log_of b i calls.new.items) blocks.new.items indexes.new.items m }
-    ensures ok { OnOk result (calls.new.items ≡ calls.old.items ++ call.Did change ∷ []) }
-    ensures err { IfErr result (λ c. (c ≡ change) × (calls.new.items ≡ calls.old.items)) }
+    ensures kept { (b i : List Update) (n m : ℕ) → n ≤ m → MakesBelow m change → IsKept (log_of b i calls.old) blocks.old.items indexes.old.items n → IsKept (log_of b i calls.new) blocks.new.items indexes.new.items m }
+    ensures ok { OnOk result (calls.new ≡ calls.old ++ call.Did change ∷ []) }
+    ensures err { IfErr result (λ c. (c ≡ change) × (calls.new ≡ calls.old)) }
 {
     match kind_of_change(&change) {
         Kind::Block => record_change(alloc, calls, blocks, change),
@@ -249,30 +278,28 @@ fn record_in(
 // Adds a change to the calls, and the update that it is to its folder.
 fn record_change(
     alloc: Global,
-    calls: &mut Vec<Call>,
+    calls: &mut CallList,
     updates: &mut Vec<Update>,
     change: Change,
 ) -> Result<(), Change>
-    ensures calls { OnOk result (calls.new.items ≡ calls.old.items ++ call.Did change ∷ []) }
+    ensures calls { OnOk result (calls.new ≡ calls.old ++ call.Did change ∷ []) }
     ensures updates { OnOk result (folder_of updates.new.items ≡ apply change (folder_of updates.old.items)) }
-    ensures err { IfErr result (λ c. (c ≡ change) × (calls.new.items ≡ calls.old.items) × (updates.new.items ≡ updates.old.items)) }
+    ensures err { IfErr result (λ c. (c ≡ change) × (calls.new ≡ calls.old) × (updates.new.items ≡ updates.old.items)) }
 {
     let Ok(update) = update_of(alloc, updates, &change) else {
         return Err(change);
     };
-    if calls.reserve(1).is_err() || updates.reserve(1).is_err() {
+    if updates.reserve(1).is_err() {
         return Err(change);
     }
-    push_call(calls, Call::Did(change));
-    push_update(updates, update);
-    Ok(())
-}
-
-fn push_call(calls: &mut Vec<Call>, call: Call)
-    requires { vec_len calls.old < vec_capacity calls.old }
-    ensures { calls.new.items ≡ calls.old.items ++ call ∷ [] }
-{
-    let _ = calls.push(call);
+    match calls.push(Call::Did(change)) {
+        Ok(()) => {
+            push_update(updates, update);
+            Ok(())
+        }
+        Err(Call::Did(change)) => Err(change),
+        Err(_) => unreachable!(),
+    }
 }
 
 fn push_update(updates: &mut Vec<Update>, update: Option<Update>)

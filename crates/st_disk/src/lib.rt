@@ -29,6 +29,7 @@
 #![tactic(auto)]
 
 mod book;
+mod call_list;
 mod changes;
 mod crashes;
 mod folders;
@@ -37,6 +38,7 @@ mod listing;
 mod naming;
 
 pub use book::Book;
+pub use call_list::Full;
 pub use changes::{Call, Change, Update};
 pub use folders::{kind_of_name, published_name};
 pub use laws::one_file_set;

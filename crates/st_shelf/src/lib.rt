@@ -31,17 +31,14 @@
 mod lent_file;
 mod loans;
 mod memory;
-mod memory_draft;
-mod memory_file;
-mod schedule;
 mod shelves;
 #[cfg(test)]
 mod tests;
 
-pub use lent_file::{CameBack, LentFile};
+pub use lent_file::LentFile;
 pub use loans::Loans;
-pub use memory::MemShelf;
-pub use memory_draft::{MemDraft, MemSealed};
-pub use memory_file::MemFile;
+pub use memory::draft::{MemDraft, MemSealed};
+pub use memory::file::MemFile;
+pub use memory::shelf::MemShelf;
 pub use shelves::{Draft, End, ListErr, SealedPair, Shelf};
 pub use st_disk::{Call, Change, Kind, Name, Names, Update};

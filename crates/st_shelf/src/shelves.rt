@@ -5,7 +5,8 @@ ghost use Rattle.st_disk.specs.declared.changes.Change.TheVariants as change;
 ghost use Rattle.st_disk.specs.declared.changes.Call.TheVariants as call;
 ghost use Rattle.st_disk.specs.Names.{kind_of, IsPublished, number_of, AreSorted};
 ghost use Rattle.st_disk.specs.Disks.{Log};
-ghost use Rattle.st_disk.specs.LoggedCalls.{Looks, Does, Reads, given, removal, Abandons, IsUnused, Shows};
+ghost use Rattle.st_disk.specs.Folders.{given};
+ghost use Rattle.st_disk.specs.LoggedCalls.{Looks, Does, Reads, removal, Abandons, IsUnused, Shows, Parks};
 ghost use Rattle.st_shelf.specs.Origins.{DraftOrigin, FileOrigin, draft_name};
 ghost use Rattle.st_shelf.specs.Loans.{LoansView, lend, take_back};
 ghost use Rattle.st_disk.specs.Listing.{AreAll};
@@ -130,6 +131,7 @@ pub trait Shelf {
         requires there { Reads (log self.old) (name.Index stamp) IsSome }
         requires free { Reads (log self.old) (name.Parked stamp) (λ v. v ≡ None) }
         ensures log { Does (log self.old) (log self.new) result (λ _. call.Did (change.Hide stamp)) }
+        ensures parked { OnOk result (Parks (log self.old) (log self.new) stamp) }
         ensures cause { HasCause (faults self.old) (faults self.new) result }
         ensures rest { (id self.new ≡ id self.old) × (loans self.new ≡ loans self.old) };
 
@@ -187,7 +189,10 @@ pub trait Shelf {
     /// or where the file's own count of faults had risen, `faults` rises.
     fn abandon(&mut self, end: End<Self::Draft>)
         requires { (end_origin Self.Draft.origin Self.Draft.sealed_origin end).home ≡ id self.old }
-        ensures log { Abandons (log self.old) (log self.new) (draft_name (end_origin Self.Draft.origin Self.Draft.sealed_origin end)) (faults self.old) (faults self.new) }
+        ensures log { Abandons (log self.old) (log self.new)
+            (draft_name (end_origin Self.Draft.origin Self.Draft.sealed_origin end))
+            (end_faults Self.Draft.faults Self.Draft.sealed_faults end)
+            (faults self.old) (faults self.new) }
         ensures cause { TakesFaults (end_faults Self.Draft.faults Self.Draft.sealed_faults end) (faults self.old) (faults self.new) }
         ensures rest { (id self.new ≡ id self.old) × (loans self.new ≡ loans self.old) };
 

@@ -35,17 +35,22 @@ impl RealFolders {
         let mut names = Vec::new(alloc);
         read_names(rt, alloc, root, Kind::Block, &mut names)?;
         read_names(rt, alloc, root, Kind::Index, &mut names)?;
-        let folders = RealFolders {
+        let next = match number_above(names.as_slice()) {
+            Some(next) => next,
+            // A draft has the greatest number. A lower one is free once no crash can bring back a
+            // draft that was removed.
+            None => {
+                blocks.sync_all()?;
+                indexes.sync_all()?;
+                0
+            }
+        };
+        Ok(RealFolders {
             _lock: lock,
             blocks,
             indexes,
-            next: number_above(names.as_slice()).unwrap_or(0),
-        };
-        if folders.next == 0 {
-            folders.sync(Kind::Block)?;
-            folders.sync(Kind::Index)?;
-        }
-        Ok(folders)
+            next,
+        })
     }
 
     // The number of the next draft. After the greatest one it begins again at 0.

@@ -13,6 +13,6 @@ pub returns-clause-unused : goal.returns-clause-unused
 returns-clause-unused c =
     let a = c.self.inside in
     elim c.match-record_in.branch [
-      | in-Ok w ↦ rw w.result-is (λ f h. numbers_now a.next (log_of a.start_blocks.items a.start_indexes.items a.calls.items) f c.self.invariant.numbers (subst (λ (l : Log). Leaves l f) (sym c.self.view_is) h) c.args.kind a.next (omega arith))
+      | in-Ok w ↦ rw w.result-is (λ f h. numbers_now a.next (log_of a.start_blocks.items a.start_indexes.items a.calls) f c.self.invariant.numbers (subst (λ (l : Log). Leaves l f) (sym c.self.view_is) h) c.args.kind a.next (omega arith))
       | in-Err w ↦ rw w.result-is tt
     ]

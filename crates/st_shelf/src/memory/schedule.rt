@@ -5,21 +5,21 @@ use std::sync::Arc;
 use std::sync::atomic::{AtomicU64, Ordering};
 
 #[derive(Drop)]
-struct Plan {
+struct Listed {
     fails: Vec<u64>,
     stop: Option<u64>,
     calls: AtomicU64,
 }
 
-// Shared by a shelf, its drafts and its files; with no plan no call fails, and none is counted.
+// Shared by a shelf, its drafts and its files. If no call is to fail, none is counted.
 #[derive(Drop)]
 pub(crate) struct Schedule {
-    plan: Option<Arc<Plan, Global>>,
+    listed: Option<Arc<Listed, Global>>,
 }
 
 impl Schedule {
     pub(crate) fn none() -> Schedule {
-        Schedule { plan: None }
+        Schedule { listed: None }
     }
 
     // The calls of these numbers fail, counted from 0, and all from `stop` on.
@@ -28,43 +28,43 @@ impl Schedule {
         fails: &[u64],
         stop: Option<u64>,
     ) -> Result<Schedule, NoMemory> {
-        let plan = Plan {
+        let listed = Listed {
             fails: fails.to_vec(alloc)?,
             stop,
             calls: AtomicU64::new(0),
         };
-        match Arc::new(alloc, plan) {
-            Ok(plan) => Ok(Schedule { plan: Some(plan) }),
+        match Arc::new(alloc, listed) {
+            Ok(listed) => Ok(Schedule { listed: Some(listed) }),
             Err(_) => Err(NoMemory),
         }
     }
 
     pub(crate) fn share(&self) -> Result<Schedule, NoMemory> {
-        let Some(plan) = &self.plan else {
-            return Ok(Schedule { plan: None });
+        let Some(listed) = &self.listed else {
+            return Ok(Schedule { listed: None });
         };
-        match Arc::try_clone(plan) {
-            Ok(plan) => Ok(Schedule { plan: Some(plan) }),
+        match Arc::try_clone(listed) {
+            Ok(listed) => Ok(Schedule { listed: Some(listed) }),
             Err(_) => Err(NoMemory),
         }
     }
 
     // Counts a call, and answers whether it fails.
     pub(crate) fn fails(&self) -> bool {
-        let Some(plan) = &self.plan else {
+        let Some(listed) = &self.listed else {
             return false;
         };
-        let call = plan.calls.fetch_add(1, Ordering::SeqCst);
-        let stopped = match plan.stop {
+        let call = listed.calls.fetch_add(1, Ordering::SeqCst);
+        let stopped = match listed.stop {
             Some(stop) => call >= stop,
             None => false,
         };
-        stopped || plan.fails.contains(&call)
+        stopped || listed.fails.contains(&call)
     }
 
     pub(crate) fn calls(&self) -> u64 {
-        match &self.plan {
-            Some(plan) => plan.calls.load(Ordering::SeqCst),
+        match &self.listed {
+            Some(listed) => listed.calls.load(Ordering::SeqCst),
             None => 0,
         }
     }

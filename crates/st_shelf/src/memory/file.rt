@@ -1,12 +1,11 @@
 ghost use Rattle.std.specs.Prelude.{◌≡◌, Some, length, drop};
 
-use crate::schedule::Schedule;
+use crate::memory::schedule::Schedule;
 use st_base::{Failed, Octets, Reader};
-use st_disk::Kind;
 
-/// A file that a shelf in memory has lent. It tells its bytes.
+/// The content of a file that a shelf in memory has lent, which is known.
+#[derive(Drop)]
 pub struct MemFile {
-    pub(crate) kind: Kind,
     pub(crate) content: Octets,
     pub(crate) reads: u64,
     pub(crate) asked: u64,
@@ -17,9 +16,8 @@ pub struct MemFile {
 impl Reader for MemFile {
     ghost use Rattle.std.specs.Prelude.{Some, length};
     ghost use Rattle.std.proofs.Common.{rules};
-    ghost use Rattle.st_shelf.specs.Origins.{FileOrigin};
 
-    ghost Beside = { FileOrigin };
+    ghost Beside = { Unit {0} };
 
     ghost content = { λ f. Some f.content };
 
@@ -31,7 +29,7 @@ impl Reader for MemFile {
 
     ghost asked = { λ f. f.asked };
 
-    ghost beside = { λ f. record { kind = f.kind; home = 0 } };
+    ghost beside = { λ f. tt };
 
     ghost sized = { λ f bytes same. Prim.search rules };
 
@@ -55,7 +53,7 @@ impl Reader for MemFile {
     }
 }
 
-// The bytes from `place` on, none where it lies past the end.
+// The bytes from `place` on: none if it is past the end.
 fn rest_from(bytes: &[u8], place: u64) -> &[u8]
     ensures { result.now ≡ drop place bytes.now }
 {

@@ -1,11 +1,11 @@
 ghost use Rattle.std.specs.Prelude.{◌≡◌, Some};
 
-use crate::schedule::Schedule;
+use crate::memory::schedule::Schedule;
 use crate::shelves::Draft;
 use st_base::{Failed, Octets, Sink};
 use st_disk::Kind;
 
-/// A draft of a shelf in memory. It tells its bytes.
+/// A draft of a shelf in memory. Its bytes are known.
 pub struct MemDraft {
     pub(crate) kind: Kind,
     pub(crate) number: u64,
@@ -14,7 +14,7 @@ pub struct MemDraft {
     pub(crate) schedule: Schedule,
 }
 
-/// A sealed file of a shelf in memory. It tells its bytes.
+/// A sealed file of a shelf in memory. Its bytes are known.
 pub struct MemSealed {
     pub(crate) kind: Kind,
     pub(crate) number: u64,
