@@ -1,7 +1,7 @@
 #!/usr/bin/env python3
-"""Makes the samples from recipes.txt and frames.txt, beside this file.
+"""Makes the samples from recipes.txt and frames.txt, in this folder.
 
-Usage: make.py [FOLDER]     (FOLDER: where the files go, default beside this script)
+Usage: make.py [FOLDER]     (FOLDER: where the files go, this one by default)
 """
 import pathlib
 import struct

@@ -1,9 +1,9 @@
 #!/usr/bin/env python3
-"""Tables beside LevelDB: each reads what the other writes, with sums verified, and gives the same rows.
+"""Compares tables with LevelDB's: each program reads what the other writes, and gives the same rows.
 
-Before, each byte is tried as a digit of table_rows' lines. What needs LevelDB is skipped, and that is said,
-where a C++ compiler or LevelDB's headers are missing (Debian: g++, libleveldb-dev). The last line is
-'N passed, M failed'; the status is 0 where none failed.
+Sums are verified. First each byte is tried as a digit of table_rows' lines. What needs LevelDB is left
+out, and that is said, if a C++ compiler or LevelDB's headers are missing (Debian: g++,
+libleveldb-dev). The last line is 'N passed, M failed'; the status is 0 if none failed.
 """
 import pathlib
 import random
@@ -28,8 +28,8 @@ def check(name, holds, said=""):
     CASES.append((name, holds, said))
 
 
-def run(words, given=b""):
-    done = subprocess.run([str(word) for word in words], input=given, capture_output=True, timeout=SECONDS)
+def run(command, given=b""):
+    done = subprocess.run([str(part) for part in command], input=given, capture_output=True, timeout=SECONDS)
     return done.returncode, done.stdout, done.stderr
 
 
@@ -49,13 +49,13 @@ def index_rows(numbers):
 def row_sets():
     """Rows by name: few and many, short and long, with much and with nothing in common."""
     numbers = random.Random(1)
-    common = b"common front of many keys "
+    common = b"common prefix of many keys "
     return {
         "no rows": {},
         "one row": {b"key": b"value"},
         "an empty key and an empty value": {b"": b"", b"\0": b"", b"\0\0": b"x"},
         "an index": index_rows(numbers),
-        "keys with a common front": {common + str(n).encode(): b"" for n in range(2000)},
+        "keys with a common prefix": {common + str(n).encode(): b"" for n in range(2000)},
         "keys of every length": {numbers.randbytes(n % 65): numbers.randbytes(n % 40) for n in range(3000)},
         "long values": {n.to_bytes(2, "big"): numbers.randbytes(numbers.randint(0, 9000)) for n in range(300)},
         "keys of high bytes": {b"\xff" * n: b"\xff" * n for n in range(65)},
@@ -84,7 +84,7 @@ def read_by_us(theirs, folder, name, rows):
 
 
 def lookups(theirs, folder, rows):
-    """Every key is found, and keys between, before and behind are not."""
+    """Every key is found, and no key between, before or after them."""
     keys = sorted(rows)
     asked = b"".join(key.hex().encode() + b"\n" for key in keys + [key + b"\0" for key in keys] + [b"", b"\xff" * 70])
     path = folder / "theirs.ldb"
@@ -132,7 +132,7 @@ def main():
         if compiler is None or subprocess.run(
             [compiler, "-O2", "-std=c++17", "-o", theirs, SOURCE, "-lleveldb"], capture_output=True
         ).returncode:
-            print("skipped: tables beside LevelDB, for want of a C++ compiler or of LevelDB's headers")
+            print("left out: tables compared with LevelDB's (no C++ compiler, or no LevelDB headers)")
             return report(CASES)
         for name, rows in row_sets().items():
             read_by_leveldb(theirs, folder, name, rows)

@@ -2,8 +2,8 @@
 """Has each call of the file system fail that a shelf makes, one at a time, and looks at what is left.
 
 The program is shelf_probe; a library that is preloaded before it (tests/preload/calls.c) writes down
-its calls and fails those that it is told to. It is left out, and that is said, where there is no C
-compiler. The last line is 'N passed, M failed'; the status is 0 where none failed.
+its calls and fails those that it is told to. It is left out, and that is said, if there is no C
+compiler. The last line is 'N passed, M failed'; the status is 0 if none failed.
 """
 import errno
 import os
@@ -41,7 +41,7 @@ class Probe:
         return Session(self.program, spool, env={**os.environ, **more})
 
     def written(self):
-        """The calls that were written down, as lists of words, paths below the folder; and where an answer was printed."""
+        """The calls that were written down, as lists of texts, with paths below the folder; answers too."""
         lines = pathlib.Path(self.log).read_text(errors="surrogateescape").splitlines()
         return [[word.removeprefix(self.folder + "/") for word in line.split(" ") if word] for line in lines]
 
@@ -118,7 +118,7 @@ def syncs_new_folders(probe):
     for place in made:
         path = calls[place][1]
         synced = [line for line in calls[place:draft] if line[0] == "fsync" and path_of(line, probe) == above(path) and line[2] == "0"]
-        yield f"the folder above {path} is synced before anything stands in it", bool(synced), calls
+        yield f"the folder above {path} is synced before anything is put into it", bool(synced), calls
     session = probe.start(os.path.join(probe.folder, "above", "spool"))
     session.ask("put block 11 5")
     session.end()

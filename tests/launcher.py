@@ -2,7 +2,7 @@
 """Tries the launcher in a repository of its own, with a toolchain that only pretends to prove.
 
 So nothing is proved here, and each case takes a moment. The last line is 'N passed, M failed'; the
-status is 0 where none failed.
+status is 0 if none failed.
 """
 import os
 import pathlib
@@ -62,7 +62,7 @@ esac
 
 
 class Repository:
-    """A repository with a launcher, three crates that the program stands on, and another one."""
+    """A repository with a launcher, three crates that the program is built from, and another one."""
 
     def __init__(self, folder):
         self.root = pathlib.Path(folder)
@@ -98,8 +98,8 @@ class Repository:
 
 def ran(seen, text, arguments=(), stdin=b""):
     """The program of this text ran with these arguments and this input."""
-    words = [text.encode(), *arguments]
-    return seen[0] == b"".join(word + b"\0" for word in words) + stdin and seen[2] == 5
+    parts = [text.encode(), *arguments]
+    return seen[0] == b"".join(part + b"\0" for part in parts) + stdin and seen[2] == 5
 
 
 def built(seen, text):
@@ -149,6 +149,27 @@ def passes_arguments(repository):
     yield "all of them at the start that builds", ran(seen, "first", ARGUMENTS, bytes(range(256))), seen
 
 
+def source(repository, line):
+    """Runs a line of bash that may call the launcher's functions."""
+    done = subprocess.run(["bash", "-c", f". ./steno; {line}"], cwd=repository.root, env=repository.surroundings(),
+                          capture_output=True, timeout=SECONDS)
+    return done.stdout, done.stderr
+
+
+def takes_a_program_that_was_built(repository):
+    """As the gate does, which proves and builds the program itself."""
+    seen = source(repository, 'cd crates/steno && rt run')
+    yield "sourcing the launcher runs nothing", seen == (b"", b""), seen
+    seen = source(repository, 'keep_built "$(listing)"')
+    yield "a built program is kept as such", seen == (b"", b""), seen
+    seen = repository.start()
+    yield "and starts", started(seen, "first") and seen[3] == [], seen
+    repository.write("crates/steno/src/main.rt", "second")
+    source(repository, 'listed=$(listing); printf third >crates/steno/src/main.rt; keep_built "$listed"')
+    seen = repository.start()
+    yield "but not over sources that changed since", built(seen, "third"), seen
+
+
 def set_back(path):
     os.utime(path, (LONG_AGO, LONG_AGO))
 
@@ -188,7 +209,7 @@ def builds_by_content(repository):
     repository.write("crates/low/must-fail/a.edit", "file: src/lib.rt")
     repository.write("README.md", "read me")
     seen = repository.start()
-    yield "files that the program does not stand on", started(seen, "secund source") and seen[3] == [], seen
+    yield "files that the program is not built from", started(seen, "secund source") and seen[3] == [], seen
 
 
 def builds_by_toolchain(repository):
@@ -262,7 +283,7 @@ def proves_side_by_side(repository):
 
 
 def on_terminal(repository, **more):
-    """What the launcher says where standard error is a terminal."""
+    """What the launcher says if standard error is a terminal."""
     ours, theirs = pty.openpty()
     child = subprocess.Popen([repository.root / "steno"], stdin=subprocess.DEVNULL, stdout=subprocess.DEVNULL, stderr=theirs,
                              env=repository.surroundings(**more))
@@ -282,7 +303,7 @@ def says_how_far_it_is(repository):
     good = re.search(rb"\rsteno: [1-3] of 4 crates proved, 0:0[0-9] minutes so far ", said)
     yield "on a terminal the launcher says how far it is", bool(good) and status == 5, (said, status)
     said, status = on_terminal(repository)
-    yield "and nothing where nothing is built", (said, status) == (b"", 5), (said, status)
+    yield "and nothing if nothing is built", (said, status) == (b"", 5), (said, status)
     repository.write("crates/steno/src/main.rt", "wrong")
     said, status = on_terminal(repository)
     yield "and why nothing was built", b"not proved" in said and status == NOT_BUILT, (said, status)
@@ -291,8 +312,8 @@ def says_how_far_it_is(repository):
     yield "elsewhere it says once that it builds", built(seen, "second") and seen[1].count(b"\n") == 1 and b"\r" not in seen[1], seen
 
 
-GROUPS = [starts, passes_arguments, builds_by_content, builds_by_toolchain, refuses_what_is_not_proved, builds_again_after_a_break,
-          proves_side_by_side, says_how_far_it_is]
+GROUPS = [starts, passes_arguments, takes_a_program_that_was_built, builds_by_content, builds_by_toolchain,
+          refuses_what_is_not_proved, builds_again_after_a_break, proves_side_by_side, says_how_far_it_is]
 
 
 def main():

@@ -2,7 +2,7 @@
 """Tries the shelf in a file system by the program shelf_probe, failures of the system included.
 
 What the machine does not allow (as root to become another user, a mount of one's own) is left out, and
-said. The last line is 'N passed, M failed'; the status is 0 where none failed.
+said. The last line is 'N passed, M failed'; the status is 0 if none failed.
 """
 import os
 import pathlib
@@ -22,7 +22,7 @@ NOBODY = 65534
 
 
 def build(folder):
-    """A copy of the program that every user may run. The gate has built it; where it is missing, it is proved and built first."""
+    """A copy of the program that every user may run. The gate has built it; if it is missing, it is proved and built first."""
     program = CRATE / "out" / "shelf_probe"
     if not program.exists():
         built = subprocess.run(["rt", "run", "--", os.path.join(folder, "first")], cwd=CRATE, stdin=subprocess.DEVNULL, capture_output=True)
@@ -31,9 +31,9 @@ def build(folder):
     return shutil.copy(program, os.path.join(folder, "shelf_probe"))
 
 
-def ask(program, folder, calls, before=None, words=()):
+def ask(program, folder, calls, before=None):
     """What the program answers to these calls, as a list of lines."""
-    done = subprocess.run([*words, program, folder], input="".join(call + "\n" for call in calls), capture_output=True, text=True,
+    done = subprocess.run([program, folder], input="".join(call + "\n" for call in calls), capture_output=True, text=True,
                           timeout=SECONDS, preexec_fn=before)
     return done.stdout.split("\n")[:-1]
 
@@ -234,7 +234,7 @@ def meets_a_file(program, folder):
             os.mkdir(spool)
         pathlib.Path(spool, taken).write_bytes(b"mine")
         got = ask(program, spool, CALLS)
-        yield f"a file stands where {name} should", got == REFUSED, got
+        yield f"a file is where {name} should be", got == REFUSED, got
         yield f"that file is left ({name})", pathlib.Path(spool, taken).read_bytes() == b"mine", "it is another"
 
 

@@ -9,7 +9,7 @@ use Rattle.byteorder.specs.Numbers.{little_number-reads_back}
 use Rattle.st_base.specs.Records.{Rec, InRange}
 use Rattle.st_base.specs.Damages.{damage_view}
 use Rattle.st_block.specs.Fields.{text, not_same, above}
-use Rattle.st_block.specs.BlockText.{padded_len, record_head, BlockText}
+use Rattle.st_block.specs.BlockText.{padded_len, record_head, HasBytes, BlockText}
 use Rattle.st_block.specs.Record.{head_outside, body_outside, record_outside, head_wrong, IsHeadAt, GivesHead, GivesBody, IsRecordAt, GivesHeadOf, GivesBodyOf}
 use Rattle.st_block.specs.declared.record.Head.{Head}
 use Rattle.st_block.specs.declared.errors.HeadErr.{HeadErr}
@@ -130,6 +130,7 @@ record Found (content : Option (List ℕ)) (position : ℕ) (r : Rec) : Type 0 w
   bytes : List ℕ
   known : content ≡ Some bytes
   range : InRange r
+  of_bytes : HasBytes r
   laid : Laid bytes position r
 
 found : (content : Option (List ℕ)) (position : ℕ) (r : Rec) → IsRecordAt content position r → Found content position r
@@ -141,6 +142,7 @@ found content position r s =
       bytes = BlockText s.size s.records;
       known = s.known;
       range = subst InRange same (s.whole.range s.number r within);
+      of_bytes = subst HasBytes same (s.whole.of_bytes s.number r within);
       laid = laid (BlockText s.size s.records) position r (subst (λ p. Part (BlockText s.size s.records) 0 p r) (sym s.at) part);
     }
 
@@ -199,6 +201,7 @@ record_bytes bytes position r s =
     record {
       inside = subst (λ (b : List ℕ). position + 48 + length r.body ≤ length b) same (lies_inside f.bytes position r f.laid);
       range = f.range;
+      of_bytes = f.of_bytes;
       head = record {
         sec = ap (λ l. little_number 4 (drop 4 l)) head ∙ number_of_sec f.laid.next r f.range.sec;
         nsec = ap (λ l. little_number 4 (drop 8 l)) head ∙ number_of_nsec f.laid.next r n;

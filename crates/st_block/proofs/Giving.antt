@@ -1,4 +1,4 @@
--- What a scan's calls give, from what it stands for.
+-- What the calls of a scan give, from the records that it has given.
 use Rattle.std.proofs.Common.{◌≡◌, ℕ, ◌*◌, ◌<◌, ◌≤◌, List, [], ◌∷◌, ◌++◌, take, drop, Option, None, Some, refl, sym, ap, ◌∙◌, subst, arith, Ok, Err, Result}
 use Rattle.std.specs.Prelude.{IfOk, IfSome}
 use Rattle.st_base.specs.Records.{Rec}
@@ -41,6 +41,7 @@ goes_waiting p bytes given on none =
       last = on.last;
       text = on.text;
       range = on.range;
+      of_bytes = on.of_bytes;
       short = on.short;
       stand = subst (λ (n : ℕ). SoundRecordsFit n (rest_of_block (without_block p))) (sym none) tt;
       records = on.records ∙ ap (λ (rs : List Rec). records_in given ++ rs) here;

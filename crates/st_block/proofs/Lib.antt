@@ -13,5 +13,6 @@ pub mod Going
 pub mod Starting
 pub mod Steps
 pub mod Giving
+pub mod Counted
 pub mod Good
 pub mod Unhurt

@@ -9,7 +9,7 @@ use Rattle.std.proofs.lemmas.Bool.Decides.{nat_tests}
 use Rattle.byteorder.specs.Endian.{little_number}
 use Rattle.st_base.specs.Records.{InRange}
 use Rattle.st_base.specs.Damages.{DamageView, damage_view}
-use Rattle.st_block.specs.BlockText.{IsBlockSize, IsShort}
+use Rattle.st_block.specs.BlockText.{IsBlockSize, IsShort, HasBytes}
 use Rattle.st_block.specs.Checks.{is_block_size, nearest_length, extent_wrong, start_wrong, blocks_wrong, file_wrong, damage_at}
 use Rattle.st_block.specs.ScanView.{ScanView, IsSoundScan, start_view}
 use Rattle.st_block.specs.Scan.{HasGiven, Starts, EntersNew}
@@ -104,7 +104,7 @@ starts_well head extent none =
     same_length : (n m : ℕ) → nat_eq n m ≡ true → n ≡ m
     same_length n m e = grind (arith, nat_tests)
 
--- a scan before the first block stands for the file
+-- a scan before the first block has given no records of the file
 pub starts_stand : (bytes : List ℕ) → start_wrong (take 8 bytes) (length bytes) ≡ None → HasGiven (start_view (little_number 4 (drop 4 (take 8 bytes))) (length bytes / little_number 4 (drop 4 (take 8 bytes)))) bytes []
 unfolding file_wrong
 starts_stand bytes none =
@@ -130,6 +130,7 @@ starts_stand bytes none =
       last = refl;
       text = ap (λ (n : ℕ). take n bytes) (sym none_before);
       range = All-nil InRange;
+      of_bytes = All-nil HasBytes;
       short = All-nil (IsShort size);
       stand = tt;
       records = refl;

@@ -8,7 +8,7 @@ use Rattle.std.proofs.lemmas.List.Elements.{All-append}
 use Rattle.std.proofs.Math.Seq.{take-add}
 use Rattle.st_base.specs.Records.{Rec, InRange}
 use Rattle.st_base.specs.Damages.{DamageView}
-use Rattle.st_block.specs.BlockText.{room, used_bytes, block_text, blocks, blocks_text, BlockText, AreFilled, IsShort, HasFile}
+use Rattle.st_block.specs.BlockText.{room, used_bytes, block_text, blocks, blocks_text, BlockText, AreFilled, IsShort, HasBytes, HasFile}
 use Rattle.st_block.specs.Position.{positions_from, positions_in_blocks, positions}
 use Rattle.st_block.specs.Checks.{room_at, record_at, records_at, count_of, records_of, layout_wrong, join_wrong, block_wrong, blocks_wrong, file_wrong}
 use Rattle.st_block.specs.Layout.{SoundRecordsFit, IsWholeBlock}
@@ -18,7 +18,7 @@ use Rattle.st_block.proofs.Texts.{AreBytes}
 use Rattle.st_block.proofs.Rooms.{fills_are}
 use Rattle.st_block.proofs.Laying.{room_is, records_more}
 use Rattle.st_block.proofs.Checking.{length-records_at}
-use Rattle.st_block.proofs.Whole.{both_hold, bytes_after, whole_block, whole_stands, range_all, short_all}
+use Rattle.st_block.proofs.Whole.{both_hold, bytes_after, whole_block, whole_stands, range_all, bytes_all, short_all}
 use Rattle.st_block.proofs.Sound.{stand_first}
 use Rattle.st_block.proofs.Going.{NoRoomAfter, fills_push, last_push, text_push, places_push, flat_push, map_push, no_room, blocks_more}
 
@@ -46,6 +46,7 @@ goes_passed p bytes given on l =
       last = on.last;
       text = on.text;
       range = on.range;
+      of_bytes = on.of_bytes;
       short = on.short;
       stand = subst (SoundRecordsFit (p.left - 1)) after first.2;
       records =
@@ -116,6 +117,7 @@ goes_entered p bytes given block on none_left l same len none whole =
           ∙ (ap (λ (t : List ℕ). blocks_text p.size 0 on.read ++ t) (sym is ∙ same)
           ∙ (ap (λ (t : List ℕ). t ++ take p.size (drop (p.size * p.done) bytes)) on.text ∙ front)));
       range = subst (All InRange) (sym (flat_push on.read b)) (All-append InRange (flat_map (λ (x : List Rec). x) on.read) b on.range (range_all (count_of block) (drop 48 block) after stands));
+      of_bytes = subst (All HasBytes) (sym (flat_push on.read b)) (All-append HasBytes (flat_map (λ (x : List Rec). x) on.read) b on.of_bytes (bytes_all (count_of block) (drop 48 block) after));
       short = subst (All (IsShort p.size)) (sym (flat_push on.read b)) (All-append (IsShort p.size) (flat_map (λ (x : List Rec). x) on.read) b on.short (short_all p.size (count_of block) (drop 48 block) short_size stands));
       stand = stands;
       records = flat_push on.read b ∙ ap (λ (qs : List Rec). qs ++ b) given_all;
@@ -144,6 +146,7 @@ ends_there p bytes given on none_left all =
       block_size = on.size;
       some = flat_some p.size on.read on.fills (omega arith);
       range = on.range;
+      of_bytes = on.of_bytes;
       short = on.short;
       blocks = let e = ap (λ (bs : List (List Rec)). length bs) filled in omega arith;
     } in

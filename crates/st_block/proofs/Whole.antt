@@ -2,15 +2,15 @@
 use Rattle.std.proofs.Common.{◌≡◌, ℕ, zero, suc, ◌+◌, ◌-◌, ◌*◌, ◌^◌, ◌<◌, ◌≤◌, List, [], ◌∷◌, ◌++◌, length, take, drop, Option, None, Some, refl, sym, ap, ◌∙◌, subst, arith}
 use Rattle.std.specs.Prelude.{All}
 use Rattle.std.specs.Option.{option_or}
-use Rattle.std.proofs.lemmas.List.{drop-drop, length-drop, take_all, get_or-drop}
-use Rattle.std.proofs.lemmas.List.Elements.{All-cons, All-nil}
+use Rattle.std.proofs.lemmas.List.{drop-drop, length-drop, take_all, get_or-drop, get_or_default}
+use Rattle.std.proofs.lemmas.List.Elements.{All-cons, All-nil, All-take}
 use Rattle.std.proofs.lemmas.Bool.Decides.{nat_tests}
 use Rattle.byteorder.specs.Endian.{little_number}
 use Rattle.byteorder.specs.Numbers.{little_from-lt}
 use Rattle.st_base.specs.Records.{Rec, InRange}
 use Rattle.st_base.specs.Damages.{DamageView}
 use Rattle.st_block.specs.Fields.{Field, Zeros, Body, size_of, sizes, not_same, above, first_wrong, AreRead}
-use Rattle.st_block.specs.BlockText.{padded_len, used_bytes, distance, record_head, record_fields, records_fields, block_head, head_of_block, block_fields, block_text, IsShort}
+use Rattle.st_block.specs.BlockText.{padded_len, used_bytes, distance, record_head, record_fields, records_fields, block_head, head_of_block, block_fields, block_text, IsShort, HasBytes}
 use Rattle.st_block.specs.Checks.{captured_length, room_at, record_at, records_at, count_of, records_of, layout_wrong, join_wrong, block_wrong}
 use Rattle.st_block.specs.declared.scan.layout.Layout.{Layout}
 use Rattle.st_block.specs.Layout.{RecordsFit, SoundRecordsFit, IsLayout, IsWholeBlock}
@@ -153,6 +153,18 @@ pub range_all : (n : ℕ) (bytes : List ℕ) → AreBytes bytes → SoundRecords
 range_all zero bytes b stand = All-nil InRange
 range_all (suc n) bytes b (here, below, stand) =
     All-cons InRange (record_at bytes) (records_at n (drop (room_at bytes) bytes)) (in_range bytes b here below) (range_all n (drop (room_at bytes) bytes) (bytes_after (room_at bytes) bytes b) stand)
+
+-- a record read off bytes has a body of bytes
+bytes_in : (bytes : List ℕ) → AreBytes bytes → HasBytes (record_at bytes)
+unfolding record_at
+bytes_in bytes b =
+    let all : All (λ x. x < 256) (drop 48 bytes) = λ k d l. subst (λ x. x < 256) (get_or_default (drop 48 bytes) k 0 d l) (bytes_after 48 bytes b k) in
+    All-take (λ x. x < 256) (captured_length bytes) (drop 48 bytes) all
+
+pub bytes_all : (n : ℕ) (bytes : List ℕ) → AreBytes bytes → All HasBytes (records_at n bytes)
+bytes_all zero bytes b = All-nil HasBytes
+bytes_all (suc n) bytes b =
+    All-cons HasBytes (record_at bytes) (records_at n (drop (room_at bytes) bytes)) (bytes_in bytes b) (bytes_all n (drop (room_at bytes) bytes) (bytes_after (room_at bytes) bytes b))
 
 -- and short enough for a block
 pub short_all : (size n : ℕ) (bytes : List ℕ) → length bytes + 48 ≤ size → SoundRecordsFit n bytes → All (IsShort size) (records_at n bytes)

@@ -1,5 +1,5 @@
--- Bytes as a list of fields: their text, and the order in which a reader checks them. Numbers have
--- their lowest byte first.
+-- Bytes as a list of fields: their text, and the order in which a reader checks them. Numbers
+-- have their lowest byte first.
 use Rattle.std.specs.Prelude.{◌≡◌, ℕ, ◌+◌, List, [], ◌∷◌, ◌++◌, length, take, drop, replicate, Option, None, Some, nat_eq, nat_lt, if◌then◌else◌}
 use Rattle.std.specs.Option.{option_or}
 use Rattle.byteorder.specs.Endian.{little_bytes, little_number}
@@ -49,15 +49,18 @@ text (f ∷ fields) = text_of f ++ text fields
 abbrev pub not_zero : ℕ → List ℕ → Option DamageView
 not_zero place [] = None
 not_zero place (b ∷ bytes) =
-    if nat_eq b 0 then not_zero (place + 1) bytes else Some (record { place = place; found = b; want = 0 })
+    if nat_eq b 0 then not_zero (place + 1) bytes
+    else Some (record { place = place; found = b; want = 0 })
 
 -- the damage at this place, unless the number found is the one wanted
 abbrev pub not_same : ℕ → ℕ → ℕ → Option DamageView
-not_same place found want = if nat_eq found want then None else Some (record { place = place; found = found; want = want })
+not_same place found want =
+    if nat_eq found want then None else Some (record { place = place; found = found; want = want })
 
 -- the damage at this place, unless the number found is at most the one wanted
 abbrev pub above : ℕ → ℕ → ℕ → Option DamageView
-above place found want = if nat_lt want found then Some (record { place = place; found = found; want = want }) else None
+above place found want =
+    if nat_lt want found then Some (record { place = place; found = found; want = want }) else None
 
 -- the damage at a field, which is to be the first of these bytes, which begin at this place
 abbrev pub field_wrong : ℕ → Field → List ℕ → Option DamageView
@@ -71,7 +74,8 @@ field_wrong place (Body body) bytes = None
 abbrev pub first_wrong : ℕ → List Field → List ℕ → Option DamageView
 first_wrong place [] bytes = None
 first_wrong place (f ∷ fields) bytes =
-    option_or (field_wrong place f bytes) (first_wrong (place + size_of f) fields (drop (size_of f) bytes))
+    option_or (field_wrong place f bytes)
+    (first_wrong (place + size_of f) fields (drop (size_of f) bytes))
 
 -- a field that may be any says what these bytes begin with
 abbrev pub IsRead : Field → List ℕ → Type 0

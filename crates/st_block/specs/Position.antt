@@ -1,4 +1,4 @@
--- Where the head of each record stands in a block file.
+-- Where the head of each record lies in a block file.
 use Rattle.std.specs.Prelude.{◌≡◌, ℕ, ◌+◌, ◌*◌, List, [], ◌∷◌, ◌++◌, length, slice_index}
 use Rattle.st_base.specs.Records.{Rec}
 use Rattle.st_block.specs.BlockText.{room, used_bytes, blocks}
@@ -12,7 +12,8 @@ positions_from position (r ∷ rs) = position ∷ positions_from (position + roo
 -- the positions of the records of blocks that are numbered from this number on
 abbrev pub positions_in_blocks : ℕ → ℕ → List (List Rec) → List ℕ
 positions_in_blocks size number [] = []
-positions_in_blocks size number (b ∷ bs) = positions_from (size * number + BLOCK_HEAD) b ++ positions_in_blocks size (number + 1) bs
+positions_in_blocks size number (b ∷ bs) =
+    positions_from (size * number + BLOCK_HEAD) b ++ positions_in_blocks size (number + 1) bs
 
 -- the positions of the records of a file, in the records' order
 abbrev pub positions : ℕ → List Rec → List ℕ

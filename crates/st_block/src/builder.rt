@@ -99,11 +99,14 @@ impl BlockBuilder {
     /// Adds a record after the others, and answers the offset of its head in the block.
     pub fn add(&mut self, r: RecordRef<'_>) -> u32
         requires { self.old.used + room r ≤ self.old.size }
+        // where it is, and what the builder keeps
         ensures offset { result ≡ self.old.used }
         ensures size { self.new.size ≡ self.old.size }
         ensures used { self.new.used ≡ self.old.used + room r.entry }
         ensures count { self.new.count ≡ self.old.count + 1 }
-        ensures records { (rs : List Rec) → HoldsRecords self.old rs → HoldsRecords self.new (rs ++ r.entry ∷ []) }
+        // which records it holds
+        ensures records { (rs : List Rec) → HoldsRecords self.old rs
+            → HoldsRecords self.new (rs ++ r.entry ∷ []) }
     {
         let at = self.used;
         put_record(self.bytes.as_mut_slice(), self.count, self.last, at, &r);
@@ -123,7 +126,8 @@ impl BlockBuilder {
         requires some { 1 ≤ self.old.count }
         requires below { number < MAX_BLOCKS }
         ensures* after { sem 𝓛 (Rests the_row self.entry (λ d. KeepsRecords self.old d)) }
-        ensures text { (rs : List Rec) → HoldsRecords self.old rs → result.now ≡ block_text self.old.size number rs }
+        ensures text { (rs : List Rec) → HoldsRecords self.old rs
+            → result.now ≡ block_text self.old.size number rs }
         ensures size { length result.now ≡ self.old.size }
     {
         let head = block_head_bytes(

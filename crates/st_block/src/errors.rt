@@ -2,7 +2,7 @@ ghost use Rattle.std.specs.Prelude.{◌≡◌};
 
 use st_base::{Damage, NoMemory};
 
-/// Why a record's head can't be had.
+/// Why a record's head can't be read.
 #[derive(Clone, Copy, Debug, PartialEq, Eq)]
 pub enum HeadErr {
     /// The file failed in this call: its count of faults rose.
@@ -11,14 +11,14 @@ pub enum HeadErr {
     Damaged(Damage),
 }
 
-/// Why a record can't be had.
+/// Why a record can't be read.
 #[derive(Clone, Copy, Debug, PartialEq, Eq)]
 pub enum BlockErr {
     /// The file failed in this call: its count of faults rose.
     ReadFault,
     /// A check failed, with its place in the file.
     Damaged(Damage),
-    /// Memory was wanting.
+    /// The call ran out of memory.
     NoMemory,
 }
 

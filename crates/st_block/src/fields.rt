@@ -46,7 +46,8 @@ pub fn captured_at(bytes: &[u8]) -> u32
 
 /// The first of two damages, where there is one.
 pub fn first_of(one: Option<Damage>, other: Option<Damage>) -> Option<Damage>
-    ensures { option_map damage_view result ≡ option_or (option_map damage_view one) (option_map damage_view other) }
+    ensures { option_map damage_view result
+        ≡ option_or (option_map damage_view one) (option_map damage_view other) }
 {
     match one {
         Some(damage) => Some(damage),

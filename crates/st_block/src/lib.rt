@@ -11,14 +11,15 @@
 //! - A builder gives the block of the records that were added (`BlockBuilder::finish`), and takes
 //!   no memory once it is made.
 //! - The block's number and the record's offset in it give its position (`position_in`); positions
-//!   rise, fit 32 bits and stay where more records follow (`positions_rise`, `positions_fit`,
+//!   rise, fit 32 bits and stay if more records follow (`positions_rise`, `positions_fit`,
 //!   `positions_stay`).
 //! - A file's bytes are those of one block size and one list of records only (`one_file`).
 //! - A record comes back from its position by at most two reads, of 48 bytes and of its captured
-//!   length (`record_head_at`, `record_body_at`).
+//!   length, the body into the caller's buffer if it likes (`record_head_at`, `record_body_into`,
+//!   `record_body_at`).
 //! - A scan gives the records of a file with their positions, each of a block that was checked
-//!   whole; it reaches its end exactly where the file is the text of the records that it gave, and
-//!   else the first check of the file that fails (`Scan::next`, `file_unhurt`, `one_given`).
+//!   whole, and reads each block once; it ends if and only if the file is the text of the records
+//!   that it gave, and else names the first check that fails (`Scan::next`, `file_unhurt`).
 //! - A head that breaks the layout, or that lies with its body past the file's end, is `Damaged`,
 //!   with the place, what was found and what was wanted.
 //!
@@ -30,10 +31,9 @@
 //! # Where to read
 //!
 //! `src/format.rt` has the numbers of the layout. `specs/BlockText.antt` says what a file's bytes
-//! are, from the list of its records, and `specs/Position.antt` where each head lies;
-//! `specs/Fields.antt` says what a field is and when it is wrong, `specs/Checks.antt` in which order
-//! a file is checked. `specs/Builder.antt`, `specs/Record.antt` and `specs/Scan.antt` say what the
-//! calls of the modules `builder`, `record` and `scan` give.
+//! are, from its records, `specs/Position.antt` where each head lies, `specs/Fields.antt` and
+//! `specs/Checks.antt` what is checked in which order. `specs/Builder.antt`, `specs/Record.antt`
+//! and `specs/Scan.antt` say what the calls of the modules `builder`, `record` and `scan` give.
 #![tactic(auto)]
 
 mod builder;
@@ -50,6 +50,7 @@ mod tests;
 
 pub use builder::BlockBuilder;
 pub use errors::{BlockErr, HeadErr};
+pub use format::{BLOCK_HEAD, BLOCK_SIZES, MAX_BLOCKS, RECORD_HEAD};
 pub use laws::{
     file_length, file_unhurt, given_records, one_block, one_file, one_given, positions_fit,
     positions_rise, positions_stay, record_bytes,

@@ -242,12 +242,14 @@ pub fn record_body_at<R: Reader>(
     head: &Head,
 ) -> Result<Octets, BlockErr>
     // what comes
-    ensures gives { GivesBody (R.content file.old) (R.extent file.old) position head.now.len result }
+    ensures gives { GivesBody (R.content file.old) (R.extent file.old) position
+        head.now.len result }
     ensures whole { (r : Rec) → IsRecordAt (R.content file.old) position r
         → head.now.len ≡ length r.body → GivesBodyOf r result }
     ensures cause { HasCauseOf BlockErr.ReadFault (R.faults file.old) (R.faults file.new) result }
     // what the file was asked
-    ensures reads { CountsOn (R.reads file.old) (R.reads file.new) (body_reads head.now.len result) }
+    ensures reads { CountsOn (R.reads file.old) (R.reads file.new)
+        (body_reads head.now.len result) }
     ensures asked { CountsOn (R.asked file.old) (R.asked file.new)
         (head.now.len * body_reads head.now.len result) }
     // what stays

@@ -1,8 +1,8 @@
-ghost use Rattle.std.specs.Prelude.{◌≡◌, ◌≤◌, ◌*◌, List, ℕ, Some, Err, IfOk, IfErr, IfSome, OnErr};
-ghost use Rattle.st_base.specs.Faults.{HasCauseOf};
+ghost use Rattle.std.specs.Prelude.{◌≡◌, ◌≤◌, ◌*◌, List, ℕ, Some, IfOk, IfErr, IfSome, OnErr};
+ghost use Rattle.st_base.specs.Faults.{CountsOn, HasCauseOf};
 ghost use Rattle.st_base.specs.PlacedReads.{IsSameFile};
-ghost use Rattle.st_block.specs.ScanView.{IsNotDamage};
-ghost use Rattle.st_block.specs.Scan.{PositionedRecord, IsFile, HasGiven, GivesNext, Follows, Enters};
+ghost use Rattle.st_block.specs.ScanView.{IsNotDamage, ReadsOnce};
+ghost use Rattle.st_block.specs.Scan.{PositionedRecord, IsFile, HasGiven, GivesNext, Follows, StaysStopped, start_reads, Enters};
 
 mod block;
 mod block_fields;
@@ -13,13 +13,13 @@ mod state;
 mod tests;
 
 use crate::errors::{BlockErr, HeadErr};
-use crate::format::MIN_BLOCK;
+use crate::format::{MIN_BLOCK, START};
 use crate::scan::start::enter;
 use crate::scan::state::ScanState;
-use st_base::{Damage, Reader, Record};
+use st_base::{Reader, Record};
 use std::alloc::Global;
 
-/// What a scan has come to, in a file that reaches at least so far.
+/// How far a scan has come, in a file that is at least `end` bytes long.
 pub trait Reaching {
     ghost end: { Self → ℕ };
 }
@@ -31,10 +31,10 @@ impl Reaching for ScanState {
 /// A scan of a block file: gives its records in their order, each with its position, and finds the
 /// first check that fails.
 ///
-/// It holds the file, and one block of it at a time. A contract sees what it has come to, its
-/// `state`; of which bytes it then gave which records is said by `HasGiven` of `specs/Scan.antt`.
-/// What it has come to has a parameter's type, which is always `ScanState`: so a drop says what
-/// becomes of the file, which it could not of a struct whose own fields hold memory.
+/// It holds the file, and one block of it at a time. Contracts see how far it has come, its `state`,
+/// as a `ScanView`; which records of which bytes it has given is said by `HasGiven` of
+/// `specs/Scan.antt`. The type of the state is a parameter, which is always `ScanState`: so the
+/// drop can say that the file stays, which it can't of a struct whose own fields hold memory.
 /// Source: docs/FORMAT.md, "Block file" and "Checks".
 pub struct Scan<'a, R: Reader, C: Reaching = ScanState> {
     file: &'a mut R,
@@ -67,23 +67,31 @@ impl<'a, R: Reader> Scan<'a, R> {
     }
 
     /// Enters the file: checks its layout version, its block size and its length, by one read of
-    /// eight bytes, and stands before the first record. It takes no memory.
+    /// eight bytes, and goes to its first record. It takes no memory.
     ///
-    /// `Damaged` comes exactly where one of these checks fails, and is the first of them that does.
-    /// `ReadFault` comes only where the file's `faults` rose in this call. After either the scan is
-    /// unchanged.
+    /// `Damaged` comes if and only if one of these checks fails, and is the first of them that
+    /// does. `ReadFault` comes only if the file's `faults` rose in this call. After either the scan
+    /// is unchanged.
     pub fn enter(&mut self) -> Result<(), HeadErr>
-        // What it answers, where the file tells its bytes, and where the scan then is.
+        // what comes, where the file's bytes are known, and where the scan then is
         ensures enters { (bytes : List ℕ) → R.content self.old.file.now ≡ Some bytes
             → Enters bytes self.new.state result }
-        ensures whole { (bytes : List ℕ) (rs : List PositionedRecord) → R.content self.old.file.now ≡ Some bytes
+        ensures whole { (bytes : List ℕ) (rs : List PositionedRecord)
+            → R.content self.old.file.now ≡ Some bytes
             → IsFile bytes rs → IfErr result (λ e. e ≡ HeadErr.ReadFault) }
         ensures err { OnErr result (self.new.state ≡ self.old.state) }
-
-        // What becomes of the file.
+        // what the file was asked
+        ensures reads { CountsOn (R.reads self.old.file.now) (R.reads self.new.file.now)
+            (start_reads (R.extent self.old.file.now)) }
+        ensures asked { CountsOn (R.asked self.old.file.now) (R.asked self.new.file.now)
+            (START * start_reads (R.extent self.old.file.now)) }
+        // what becomes of the file
         ensures same_reference { self.new.file.ghost_name ≡ self.old.file.ghost_name }
-        ensures cause { HasCauseOf HeadErr.ReadFault (R.faults self.old.file.now) (R.faults self.new.file.now) result }
-        ensures same { IsSameFile (R.content self.old.file.now) (R.content self.new.file.now) (R.extent self.old.file.now) (R.extent self.new.file.now) (R.beside self.old.file.now) (R.beside self.new.file.now) }
+        ensures cause { HasCauseOf HeadErr.ReadFault
+            (R.faults self.old.file.now) (R.faults self.new.file.now) result }
+        ensures same { IsSameFile (R.content self.old.file.now) (R.content self.new.file.now)
+            (R.extent self.old.file.now) (R.extent self.new.file.now)
+            (R.beside self.old.file.now) (R.beside self.new.file.now) }
     {
         match enter(self.file) {
             Ok(state) => {
@@ -97,29 +105,36 @@ impl<'a, R: Reader> Scan<'a, R> {
     /// The next record with its position, or `None` at the file's end. A record is given only of a
     /// block that was checked whole.
     ///
-    /// The first call takes the memory of one block; each record's body is one allocation.
-    /// `None` comes exactly where the file is the text of the records given. `Damaged` comes
-    /// exactly where a check fails that is the first of the file to fail; every later call answers
-    /// it again, and reads nothing. `ReadFault` comes only where the file's `faults` rose in this
-    /// call, `NoMemory` where memory was wanting; after either the scan is where it was, and the
-    /// next call tries again.
+    /// The first call takes the memory of one block; each record's body is one allocation. A call
+    /// reads one block at most, and over the whole scan each block is read once, unless a read of
+    /// it fails. `None` comes if and only if the file is the text of the records given. `Damaged`
+    /// comes if and only if a check of the file fails, and is the first that does; every later call
+    /// answers it again, and reads nothing. `ReadFault` comes only if the file's `faults` rose in
+    /// this call, `NoMemory` may come if the scan runs out of memory; after either the scan is
+    /// where it was, and the next call tries again.
     pub fn next(&mut self, alloc: Global) -> Result<Option<(u32, Record)>, BlockErr>
-        // What it answers, where the file tells its bytes, and what the scan has come to then.
-        ensures gives { (bytes : List ℕ) (given : List PositionedRecord) → R.content self.old.file.now ≡ Some bytes
+        // what comes, where the file's bytes are known, and how far the scan has come then
+        ensures gives { (bytes : List ℕ) (given : List PositionedRecord)
+            → R.content self.old.file.now ≡ Some bytes
             → HasGiven self.old.state bytes given → GivesNext bytes given self.new.state result }
-        ensures whole { (bytes : List ℕ) (given rs : List PositionedRecord) → R.content self.old.file.now ≡ Some bytes
-            → IsFile bytes rs → HasGiven self.old.state bytes given → IfErr result IsNotDamage }
-        ensures stops { (d : Damage) → result ≡ Err (BlockErr.Damaged d) → self.new.state.stopped ≡ Some d }
-        ensures again { (d : Damage) → self.old.state.stopped ≡ Some d
-            → (result ≡ Err (BlockErr.Damaged d)) × (self.new.state ≡ self.old.state) × (self.new.file.now ≡ self.old.file.now) }
-
-        // How far it goes, by which a caller's loop ends.
+        ensures whole { (bytes : List ℕ) (given rs : List PositionedRecord)
+            → R.content self.old.file.now ≡ Some bytes → IsFile bytes rs
+            → HasGiven self.old.state bytes given → IfErr result IsNotDamage }
+        ensures stopped { StaysStopped self.old.state self.new.state
+            self.old.file.now self.new.file.now result }
+        // how far it goes, by which a caller's loop ends
         ensures follows { IfOk result (λ o. IfSome o (Follows self.old.state self.new.state)) }
-
-        // What becomes of the file.
+        // what the file was asked
+        ensures reads { ReadsOnce self.old.state self.new.state result
+            (R.reads self.old.file.now) (R.reads self.new.file.now)
+            (R.asked self.old.file.now) (R.asked self.new.file.now) }
+        // what becomes of the file
         ensures same_reference { self.new.file.ghost_name ≡ self.old.file.ghost_name }
-        ensures cause { HasCauseOf BlockErr.ReadFault (R.faults self.old.file.now) (R.faults self.new.file.now) result }
-        ensures same { IsSameFile (R.content self.old.file.now) (R.content self.new.file.now) (R.extent self.old.file.now) (R.extent self.new.file.now) (R.beside self.old.file.now) (R.beside self.new.file.now) }
+        ensures cause { HasCauseOf BlockErr.ReadFault
+            (R.faults self.old.file.now) (R.faults self.new.file.now) result }
+        ensures same { IsSameFile (R.content self.old.file.now) (R.content self.new.file.now)
+            (R.extent self.old.file.now) (R.extent self.new.file.now)
+            (R.beside self.old.file.now) (R.beside self.new.file.now) }
     {
         self.state.next_in(alloc, self.file)
     }

@@ -3,7 +3,7 @@
 ghost use Rattle.std.specs.Prelude.{◌≤◌, OnOk};
 
 use super::*;
-use st_base::{MemReader, RecordRef};
+use st_base::{MemReader, RecordRef, SliceReader};
 use std::alloc::Global;
 use std::test::Fail;
 
@@ -161,6 +161,13 @@ fn records_come_back_from_their_positions(rt: HostRuntime) -> Result<(), Fail> {
         record_head_at(&mut file, OFFSETS[0]),
         Err(HeadErr::ReadFault)
     );
+    // One buffer takes all bodies, longer ones after shorter ones too.
+    let mut file = SliceReader::over(bytes.as_slice());
+    let mut body = Vec::new(alloc);
+    'again: for i in [1, 3, 0, 2] {
+        assert!(rt; record_body_into(&mut file, OFFSETS[i], &heads[i], &mut body).is_ok());
+        assert_eq!(rt; body.as_slice(), PACKETS[i].3);
+    }
     Ok(())
 }
 

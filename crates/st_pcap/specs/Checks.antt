@@ -11,7 +11,7 @@ use Rattle.st_pcap.specs.Heads.{IsFileHead, IsRecordHead, refusal_of_file, refus
 use Rattle.st_pcap.specs.Input.{Whole, Refused, end_at}
 use Rattle.st_pcap.specs.Reading.{IsOutside}
 
--- these fields stand in the 16 bytes, and are in range
+-- the 16 bytes have these fields, and they are in range
 pub record HasFields (form : Form) (head : List ℕ) (e : HeadFields) : Type 0 where
   pub sec : number_at form.order SEC_AT head ≡ e.sec
   pub fraction : number_at form.order FRACTION_AT head < fractions form.unit
@@ -21,7 +21,7 @@ pub record HasFields (form : Form) (head : List ℕ) (e : HeadFields) : Type 0 w
   pub short : e.captured ≤ MAX_BODY
   pub orig : number_at form.order ORIG_AT head ≡ e.orig
 
--- the bytes begin with a file head of the form, and what stands behind it is to come; or they
+-- the bytes begin with a file head of the form, and what follows it is to come; or they
 -- begin with none
 abbrev pub GivesForm : List ℕ → Option (List ℕ) → Result Form PcapErr → Type 0
 GivesForm bytes left (Ok form) =
@@ -46,7 +46,7 @@ GivesRecord form before number rest left (Ok (Some r)) =
 GivesRecord form before number rest left (Err e) =
     IsOutside e ⊎ (end_at form.order form.unit before number rest ≡ Some (Refused e))
 
--- the cause isn't that too much stands before the record
+-- the cause isn't that too much comes before the record
 abbrev pub IsNoLimit : PcapErr → Type 0
 IsNoLimit e = (n : ℕ) → e ≡ TooMuch n → ⊥
 

@@ -35,7 +35,7 @@ abbrev pub nanoseconds : unit.Unit → ℕ → ℕ
 nanoseconds Micro fraction = fraction * NANOS_IN_MICRO
 nanoseconds Nano fraction = fraction
 
--- the fraction of so many nanoseconds, cut off
+-- the fraction that this many nanoseconds are, cut off
 abbrev pub fraction_of : unit.Unit → ℕ → ℕ
 fraction_of Micro nanos = nanos / NANOS_IN_MICRO
 fraction_of Nano nanos = nanos

@@ -31,22 +31,23 @@ pub record IsRecordHead (order : Order) (u : unit.Unit) (head : List ℕ) (r : R
   pub short : length r.body ≤ MAX_BODY
   pub orig : number_at order ORIG_AT head ≡ r.orig
 
--- the low 16 bits of the link type are to be 1, Ethernet
+-- the link type is refused unless it is Ethernet
 abbrev pub refusal_of_link : ℕ → Option PcapErr
 refusal_of_link link = if link == ETHERNET then None else Some (LinkType link)
 
--- the version is to be 2.4; only then the link type is looked at
+-- the version is refused unless it is 2.4; only then the link type is looked at
 abbrev pub refusal_of_version : Order → List ℕ → Option PcapErr
 refusal_of_version order head =
     if (short_at order MAJOR_AT head == MAJOR) && (short_at order MINOR_AT head == MINOR) then refusal_of_link (number_at order LINK_AT head % LINK_LIMIT)
     else Some (Version (short_at order MAJOR_AT head) (short_at order MINOR_AT head))
 
--- 24 bytes are to stand there; only then the version is looked at
+-- a head of fewer than 24 bytes is refused; only then the version is looked at
 abbrev pub refusal_of_rest : Order → List ℕ → Option PcapErr
 refusal_of_rest order head =
     if nat_lt (length head) FILE_HEAD_SIZE then Some (Truncated 0 (length head) FILE_HEAD_SIZE) else refusal_of_version order head
 
--- the first four bytes are to be the magic of a form; only then the rest is looked at, in its order
+-- the first four bytes are refused unless they are the magic of a form; only then the rest is
+-- looked at, in its order
 abbrev pub refusal_of_magic : ℕ → List ℕ → Option PcapErr
 refusal_of_magic found head =
     if found == magic Little Micro then refusal_of_rest Little head
@@ -56,26 +57,26 @@ refusal_of_magic found head =
     else Some (NotPcap found)
 
 -- Why the first 24 bytes of an input, or as many as it has, are no file head; None where they are
--- one. Four bytes are to stand there; only then the magic is looked at.
+-- one. Fewer than four bytes are refused; only then the magic is looked at.
 abbrev pub refusal_of_file : List ℕ → Option PcapErr
 refusal_of_file head =
     if nat_lt (length head) NUMBER_SIZE then Some (Truncated 0 (length head) FILE_HEAD_SIZE) else refusal_of_magic (little_number NUMBER_SIZE head) head
 
--- the captured length is to be no longer than a body may be
+-- the captured length is refused if it is above the longest body
 abbrev pub refusal_of_captured : ℕ → ℕ → Option PcapErr
 refusal_of_captured number captured = if nat_lt MAX_BODY captured then Some (TooLong number captured) else None
 
--- the fraction is to be less than a second; only then the captured length is looked at
+-- the fraction is refused if it is a second or more; only then the captured length is looked at
 abbrev pub refusal_of_fields : Order → unit.Unit → ℕ → List ℕ → Option PcapErr
 refusal_of_fields order u number head =
     if nat_le (fractions u) (number_at order FRACTION_AT head) then Some (BadFraction number (number_at order FRACTION_AT head))
     else refusal_of_captured number (number_at order CAPTURED_AT head)
 
--- so many bytes of the record are to stand there
+-- a record of `want` bytes is cut where only `have` are there
 abbrev pub refusal_of_size : ℕ → ℕ → ℕ → Option PcapErr
 refusal_of_size number have want = if nat_lt have want then Some (Truncated number have want) else None
 
--- Why the bytes that stand where record `number` would begin are no record; None where they begin
+-- Why the bytes where record `number` would begin are no record; None where they begin
 -- with one. First a head that is cut is refused, then what its fields say, then a body that is cut.
 abbrev pub refusal_of_record : Order → unit.Unit → ℕ → List ℕ → Option PcapErr
 refusal_of_record order u number rest =

@@ -25,7 +25,7 @@ pub record IsPcap (bytes : List ℕ) (rs : List Rec) (rest : List ℕ) : Type 0 
   pub starts : IsFileHead order unit head
   pub records : Records order unit text rs rest
 
--- behind so many bytes each record begins below the most that is read of an input
+-- after `before` bytes each record begins below the most that is read of an input
 abbrev pub AllBegin : ℕ → List Rec → Type 0
 AllBegin before [] = Unit {0}
 AllBegin before (r ∷ rs) = (before < MAX_INPUT) × AllBegin (before + (RECORD_HEAD_SIZE + length r.body)) rs
@@ -35,7 +35,7 @@ pub data End : Type 0 where
   Whole : End
   Refused : PcapErr → End
 
--- the end that stands where record `number` would begin, behind so many bytes; None is a record
+-- the end where record `number` would begin, after `before` bytes; None is a record
 abbrev pub end_at : Order → unit.Unit → ℕ → ℕ → List ℕ → Option End
 end_at order u before number rest =
     if nat_le MAX_INPUT before then Some (Refused (TooMuch before))
@@ -43,8 +43,8 @@ end_at order u before number rest =
     else option_map Refused (refusal_of_record order u number rest)
 
 -- The bytes are an input of these records with this end. Where the file head is refused there is
--- no record. Else the records stand one behind the other, and the end is what the checks find
--- behind the last of them, the numbers of records counted from 1.
+-- no record. Else the records follow one another, and the end is what the checks find after the
+-- last of them, the numbers of records counted from 1.
 abbrev pub Input : List ℕ → List Rec → End → Type 0
 Input bytes rs end =
     ((e : PcapErr) × (refusal_of_file (take FILE_HEAD_SIZE bytes) ≡ Some e) × (rs ≡ []) × (end ≡ Refused e))

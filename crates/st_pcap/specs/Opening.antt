@@ -10,7 +10,7 @@ use Rattle.st_pcap.specs.Input.{Input, Refused}
 use Rattle.st_pcap.specs.Reading.{PcapReaderView, IsOutside, HasRead}
 use Rattle.st_pcap.specs.Taking.{Took, TakesHead}
 
--- the reader stands where it stood, behind the file head; or the bytes are refused
+-- the reader has read what it had read, and the file head; or the bytes are refused
 abbrev pub Opens : List ℕ → List Rec → PcapReaderView → Option (List ℕ) → Result Form PcapErr → Type 0
 Opens bytes rs new left (Ok form) = (rest : List ℕ) × (left ≡ Some rest) × HasRead new bytes rs rest
 Opens bytes rs new left (Err e) = IsOutside e ⊎ Input bytes rs (Refused e)

@@ -12,7 +12,7 @@ pub fn one_reading()
     ensures { OneReading }
 {}
 
-/// An input is refused for a cause of the file head exactly where its file head is refused.
+/// An input is refused for a cause of the file head if and only if its file head is refused.
 pub fn heads_apart()
     ensures { HeadsApart }
 {}
@@ -23,7 +23,8 @@ pub fn reads_back()
     ensures { ReadsBack }
 {}
 
-/// It is a whole input of them, where it has fewer than 2^40 bytes.
+/// The text of records in range, with bodies of at most 262,144 bytes, is a whole input of them,
+/// their times cut to the unit, if it has fewer than 2^40 bytes.
 pub fn is_whole_input()
     ensures { IsWholeInput }
 {}

@@ -9,16 +9,18 @@
 //! # What it promises
 //!
 //! - `PcapReader::next` gives the records of the input in their order, None exactly at its whole
-//!   end, and else the cause that the order of checks finds, where the source tells its bytes,
-//!   however it cuts them; only want of memory may come instead. Over any source, a read fault
-//!   comes only where the source's count of faults rose, or where the reader had stopped at one;
-//!   behind 2^40 bytes nothing is read; a reader that has stopped answers its cause again and
-//!   reads nothing. `next_into` is the same over memory that the caller gives.
+//!   end, and else the cause that the order of checks finds, if the source's bytes are known,
+//!   however it cuts them; only out of memory may come instead. Over any source, each call takes as
+//!   many bytes as its result says, a read fault comes only if the source's count of faults rose,
+//!   or if the reader had stopped at one, and no other result changes the count; after 2^40 bytes
+//!   nothing is read; a reader that has stopped answers its cause again and reads nothing.
+//!   `next_into` does the same over memory that the caller gives, and is out of memory only if
+//!   that has less room than the longest body.
 //! - All bytes are an input of exactly one list of records and one end (`laws::some_reading`,
 //!   `laws::one_reading`).
-//! - `file_head` and `record_head` are the heads of a pcap text; `append_record` appends a record to
-//!   bytes in memory, or leaves them as they were; `put_header` and `put_record`
-//!   append its parts, or leave a front of them where the sink's count of faults rose.
+//! - `file_head` and `record_head` are the heads of a pcap text; `append_record` appends a record
+//!   to bytes in memory, or leaves them as they were; `put_header` and `put_record` append its
+//!   parts, or a prefix of them where they fail, which is only if the sink's count of faults rose.
 //! - The text of records reads back as the same records, their times cut to the unit
 //!   (`laws::reads_back`, `laws::is_whole_input`); the pieces joined are the text
 //!   (`laws::pieces_join`).
@@ -31,8 +33,9 @@
 //! # Where to read
 //!
 //! `specs/Input.antt` says which records and which end an input has, over `Forms` and `Heads`;
-//! `specs/Text.antt` what is written; `specs/Reading.antt` what a reader stands for. Then
-//! `reader`, `records`, `checks`, `writer`.
+//! `specs/Text.antt` what is written; `specs/Reading.antt` what a reader has read and what its
+//! calls ensure, `specs/Taking.antt` how many bytes they take. The numbers of the format are in
+//! `numbers`. Then `reader`, `records`, `checks`, `writer`.
 #![tactic(auto)]
 
 mod checks;
@@ -50,5 +53,6 @@ mod writer;
 
 pub use errors::PcapErr;
 pub use forms::Unit;
+pub use numbers::{FILE_HEAD_SIZE, RECORD_HEAD_SIZE};
 pub use reader::PcapReader;
 pub use writer::{append_record, file_head, put_header, put_record, record_head};

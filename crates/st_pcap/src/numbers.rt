@@ -14,7 +14,7 @@ pub const LITTLE_NANO: u32 = 0xa1b2_3c4d;
 /// The first four bytes of a big-endian file in nanoseconds, read as a little-endian number.
 pub const BIG_NANO: u32 = 0x4d3c_b2a1;
 
-/// The size of a number of a file but its version.
+/// The size of each number of a file but the two of its version.
 pub const NUMBER_SIZE: usize = 4;
 
 /// The size of each number of the version.

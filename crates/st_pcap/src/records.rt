@@ -1,4 +1,4 @@
-ghost use Rattle.std.specs.Prelude.{◌≡◌, ◌+◌, ◌<◌, ◌≤◌, List, ℕ, Some, Err, IfOk, IfErr, MatchResult, length, vec_len};
+ghost use Rattle.std.specs.Prelude.{◌≡◌, ◌+◌, ◌<◌, ◌≤◌, List, ℕ, Some, Err, IfOk, IfErr, MatchResult, length, vec_len, vec_capacity};
 ghost use Rattle.st_pcap.specs.Reading.{Counts, HasFaultCause};
 ghost use Rattle.st_pcap.specs.Taking.{Took, TakesHead, TakesRecord, RefusesRecord};
 ghost use Rattle.st_pcap.specs.declared.reader.Phase.TheVariants.{Fresh};
@@ -48,6 +48,7 @@ pub fn read_record<S: Source>(
     ensures cause { HasFaultCause (S.faults source.old) (S.faults source.new) result }
     ensures count { Counts (S.left source.old) (S.left source.new) taken.old taken.new result }
     ensures takes { TakesRecord taken.old taken.new result }
+    ensures memory { result ≡ Err PcapErr.NoMemory → vec_capacity body < MAX_BODY }
     ensures limit { EndsAtLimit source.old source.new taken.old taken.new result }
     ensures rest { S.beside source.new ≡ S.beside source.old }
 {
@@ -91,10 +92,12 @@ fn read_body<S: Source>(
     ensures gives { (rest : List ℕ) → S.left source.old ≡ Some rest
         → GivesBody fields.now number rest (S.left source.new) result }
     ensures below { IfErr result IsNoLimit }
+    ensures memory { result ≡ Err PcapErr.NoMemory → vec_capacity body < fields.now.captured }
     ensures cause { HasFaultCause (S.faults source.old) (S.faults source.new) result }
     ensures taken { Took (S.left source.old) (S.left source.new) taken.old taken.new }
     ensures takes { (begin : ℕ) → taken.old ≡ begin + RECORD_HEAD_SIZE
-        → MatchResult result (λ r. taken.new ≡ taken.old + length r.body) (RefusesRecord begin taken.new) }
+        → MatchResult result (λ r. taken.new ≡ taken.old + length r.body)
+        (RefusesRecord begin taken.new) }
     ensures bound { taken.new ≤ MAX_INPUT + RECORD_HEAD_SIZE + MAX_BODY }
     ensures grows { taken.old ≤ taken.new }
     ensures rest { S.beside source.new ≡ S.beside source.old }
@@ -122,7 +125,7 @@ fn read_body<S: Source>(
 /// `body` with this length in bytes, whatever bytes it has.
 fn sized(mut body: Vec<u8>, len: usize) -> Result<Vec<u8>, PcapErr>
     ensures len { IfOk result (λ v. vec_len v ≡ len) }
-    ensures memory { IfErr result (λ e. e ≡ PcapErr.NoMemory) }
+    ensures memory { IfErr result (λ e. (e ≡ PcapErr.NoMemory) × (vec_capacity body < len)) }
 {
     match body.resize(len, 0) {
         Ok(()) => Ok(body),

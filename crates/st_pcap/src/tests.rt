@@ -1,5 +1,7 @@
-use crate::{PcapErr, PcapReader, Unit, file_head, put_header, put_record, record_head};
-use st_base::{MemSink, MemSource, RecordRef};
+use crate::{
+    PcapErr, PcapReader, Unit, append_record, file_head, put_header, put_record, record_head,
+};
+use st_base::{MemSink, MemSource, RecordRef, Source};
 use std::alloc::Global;
 use std::test::Fail;
 
@@ -89,7 +91,7 @@ fn heads_are_written_as_by_tcpdump(rt: HostRuntime) -> Result<(), Fail> {
     Ok(())
 }
 
-// Two records of 19 bytes behind a head of 24. The place of the cut tells by hand how many records
+// Two records of 19 bytes after a head of 24. The place of the cut tells by hand how many records
 // stand before it and how many bytes of the next one.
 #[test]
 fn a_file_that_is_cut_ends_at_the_cut(rt: HostRuntime) -> Result<(), Fail> {
@@ -226,5 +228,61 @@ fn a_read_fault_is_answered_again(rt: HostRuntime) -> Result<(), Fail> {
         assert_eq!(rt; answer, Some(PcapErr::ReadFault));
         assert_eq!(rt; reader.taken(), 24);
     }
+    Ok(())
+}
+
+// What a reader took when it refused this input, and the byte of its source that comes next.
+fn taken_at_refusal(alloc: Global, parts: &[&str]) -> Result<(u64, u8), Fail> {
+    let input = bytes_of(alloc, parts)?;
+    let mut source = MemSource::over(alloc, &input, 100, &[])?;
+    let mut reader = PcapReader::new();
+    for _ in 0..2 {
+        if reader.next(alloc, &mut source).is_err() {
+            let mut next = [0; 1];
+            source.read(&mut next)?;
+            return Ok((reader.taken(), next[0]));
+        }
+    }
+    Err(Fail::from("no refusal"))
+}
+
+#[test]
+fn a_refusal_takes_no_more_than_it_looked_at(rt: HostRuntime) -> Result<(), Fail> {
+    let alloc = rt.alloc();
+    let fraction = "00000000 40420f00 03000000 03000000 070809";
+    let long = "00000000 00000000 01000400 01000400 070809";
+    assert_eq!(rt; taken_at_refusal(alloc, &[MICRO, fraction])?, (40, 7));
+    assert_eq!(rt; taken_at_refusal(alloc, &[MICRO, RECORD, long])?, (59, 7));
+    let version = "d4c3b2a1 02000500 00000000 00000000 00000400 01000000 070809";
+    assert_eq!(rt; taken_at_refusal(alloc, &[version])?, (24, 7));
+    Ok(())
+}
+
+// A record with the longest body that is read: 262,144 bytes after 16.
+fn longest(alloc: Global) -> Result<Vec<u8>, Fail> {
+    let mut text = bytes_of(alloc, &["00ca9a3b 15cd5b07 00000400 00000400 0102"])?;
+    text.resize(262_159, 3)?;
+    text.push(4)?;
+    Ok(text)
+}
+
+// Memory is ample, so no call may say that it is out.
+#[test]
+fn the_longest_body_is_read_and_written(rt: HostRuntime) -> Result<(), Fail> {
+    let alloc = rt.alloc();
+    let text = longest(alloc)?;
+    let mut input = bytes_of(alloc, &[NANO])?;
+    input.extend_from_slice(&text)?;
+    let mut source = MemSource::over(alloc, &input, 65_536, &[])?;
+    let mut reader = PcapReader::new();
+    let packet = reader.next(alloc, &mut source)?.ok_or("no record")?;
+    assert_eq!(rt; packet.body.bytes().len(), 262_144);
+    assert!(rt; reader.next(alloc, &mut source)?.is_none());
+    let mut written = Vec::new(alloc);
+    append_record(&mut written, Unit::Nano, &packet.lend())?;
+    assert!(rt; written.as_slice() == text.as_slice());
+    let mut sink = MemSink::new(alloc, &[])?;
+    put_record(&mut sink, Unit::Nano, packet.lend())?;
+    assert!(rt; sink.bytes() == text.as_slice());
     Ok(())
 }

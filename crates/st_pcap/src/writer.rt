@@ -11,7 +11,7 @@ use crate::numbers::{
 use byteorder::{ByteOrder, LittleEndian};
 use st_base::{Failed, NoMemory, RecordRef, Sink, put};
 
-/// The 24 bytes of the file head that stands before records in this unit. It takes no memory.
+/// The 24 bytes of the file head before records in this unit. It takes no memory.
 ///
 /// Source: docs/FORMAT.md, "pcap", written files.
 #[tactic(auto, unfolding(crate::specs::Text::file_head))]
@@ -41,7 +41,7 @@ pub fn record_head(unit: Unit, r: RecordRef<'_>) -> [u8; RECORD_HEAD_SIZE]
     head_of(unit, &r)
 }
 
-/// The same of a record that is used again.
+/// The 16 bytes before the body of a record that is used again.
 #[tactic(auto, unfolding(crate::specs::Text::record_head))]
 fn head_of(unit: Unit, r: &RecordRef<'_>) -> [u8; RECORD_HEAD_SIZE]
     ensures { result ≡ record_head unit r.now }
@@ -56,8 +56,8 @@ fn head_of(unit: Unit, r: &RecordRef<'_>) -> [u8; RECORD_HEAD_SIZE]
 
 /// Writes the 24 bytes of the file head, by one `put`. It takes no memory.
 ///
-/// `Failed` comes only where the sink's `faults` rose in this call; a front of the head then stands
-/// behind what the sink had.
+/// `Failed` comes only if the sink's `faults` rose in this call; the sink then has a prefix of the
+/// head after what it had. A call that succeeds leaves `faults` as it was.
 pub fn put_header<S: Sink>(sink: &mut S, unit: Unit) -> Result<(), Failed>
     ensures bytes { Puts (S.written sink.old) (S.written sink.new) (file_head unit) result }
     ensures cause { HasCause (S.faults sink.old) (S.faults sink.new) result }
@@ -69,10 +69,11 @@ pub fn put_header<S: Sink>(sink: &mut S, unit: Unit) -> Result<(), Failed>
 /// Writes a record: 16 bytes by one `put`, and then its body, if it isn't empty, by another. It
 /// takes no memory.
 ///
-/// `Failed` comes only where the sink's `faults` rose in this call; a front of the record then
-/// stands behind what the sink had.
+/// `Failed` comes only if the sink's `faults` rose in this call; the sink then has a prefix of the
+/// record after what it had. A call that succeeds leaves `faults` as it was.
 pub fn put_record<S: Sink>(sink: &mut S, unit: Unit, r: RecordRef<'_>) -> Result<(), Failed>
-    ensures bytes { Puts (S.written sink.old) (S.written sink.new) (record_text unit r.entry) result }
+    ensures bytes { Puts (S.written sink.old) (S.written sink.new) (record_text unit r.entry)
+        result }
     ensures cause { HasCause (S.faults sink.old) (S.faults sink.new) result }
     ensures rest { S.beside sink.new ≡ S.beside sink.old }
 {

@@ -1,4 +1,5 @@
-//! The words after the program's name as one simple command: options in any place, and arguments.
+//! The arguments after the program's name as one simple command: options in any place, and
+//! operands.
 
 ghost use Rattle.std.specs.Prelude.{◌≡◌, ◌≢◌, IfOk, IsNone, MatchOption, map, string_bytes, true, false};
 ghost use Rattle.clap.specs.Words.{rule_of, app_of, found_of};
@@ -27,7 +28,7 @@ fn value<'a>(alloc: Global, name: &'a str) -> Arg<'a>
     Arg::new(alloc, name).long(name).action(ArgAction::Set)
 }
 
-/// The arguments, as many as there are.
+/// The operands, as many as there are.
 fn arguments<'a>(alloc: Global) -> Arg<'a>
     ensures rule { rule_of result ≡ words_rule }
     ensures here { result.global ≡ false }
@@ -56,7 +57,7 @@ fn command<'a>(alloc: Global) -> Result<Command<'a>, AllocError>
         .arg(arguments(alloc))
 }
 
-// What an error of this kind says of the words.
+// What an error of this kind says of the arguments.
 fn refused<'a>(kind: ErrorKind) -> Result<Option<ArgMatches<'a>>, NoMemory>
     ensures { IfOk result (λ found. IsNone found × (kind ≢ OutOfMemory)) }
 {
@@ -66,12 +67,14 @@ fn refused<'a>(kind: ErrorKind) -> Result<Option<ArgMatches<'a>>, NoMemory>
     }
 }
 
-/// What `clap` reads of the words; None where they are no line.
+/// What `clap` reads of the arguments; None if they are no line.
 pub fn matches_of<'a>(
     alloc: Global,
     words: &'a [String],
 ) -> Result<Option<ArgMatches<'a>>, NoMemory>
-    ensures { IfOk result (λ found. MatchOption found (IsNoLine (map string_bytes words.entry.now)) (λ m. IsTaken (map string_bytes words.entry.now) (found_of m))) }
+    ensures { IfOk result (λ found. MatchOption found
+        (IsNoLine (map string_bytes words.entry.now))
+        (λ m. IsTaken (map string_bytes words.entry.now) (found_of m))) }
 {
     let command = match command(alloc) {
         Ok(command) => command,

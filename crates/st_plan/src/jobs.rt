@@ -7,11 +7,11 @@ use std::marker::Model;
 /// A query over one input, with the form of its answer.
 #[derive(Drop)]
 pub struct Once<'a> {
-    /// The text of the query, as it stands in the arguments. It may be empty.
+    /// The text of the query, as it stands among the operands. It may be empty.
     pub query: &'a str,
     /// The unit of the answer's times.
     pub unit: Unit,
-    /// How much of the answer is wanted; 2^64 - 1 where an option sets no limit.
+    /// How much of the answer is wanted; a limit that no option sets is 2^64 - 1.
     pub limits: Limits,
 }
 

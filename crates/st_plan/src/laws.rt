@@ -5,7 +5,7 @@ ghost use Rattle.clap.specs.Words.{Text};
 ghost use Rattle.st_plan.specs.declared.jobs.Plan.{Plan};
 ghost use Rattle.st_plan.specs.Plans.{IsPlan};
 
-/// Words have one plan at most.
+/// Arguments have one plan at most.
 pub fn one_plan()
     ensures { (words : List Text) (p q : Plan) → IsPlan words p → IsPlan words q → p ≡ q }
 {}

@@ -3,7 +3,7 @@
 ghost use Rattle.std.specs.Prelude.{◌≡◌, ℕ, MatchOption, option_map};
 ghost use Rattle.st_plan.specs.Plans.{IsNumber, IsLimit};
 
-// The number below 2^32 that one to ten decimal digits write. Leading zeros are digits as others.
+// The number below 2^32 that one to ten decimal digits write, leading zeros among them.
 fn number(word: &str) -> Option<u64>
     ensures { MatchOption result ((n : ℕ) → IsNumber word.now n → ⊥) (λ n. IsNumber word.now n) }
 {
@@ -18,7 +18,9 @@ fn number(word: &str) -> Option<u64>
 
 /// The limit that the value of an option sets.
 pub fn limit(value: Option<&str>) -> Option<u64>
-    ensures { MatchOption result ((n : ℕ) → IsLimit (option_map (λ s. s.now) value.entry) n → ⊥) (λ n. IsLimit (option_map (λ s. s.now) value.entry) n) }
+    ensures { MatchOption result
+        ((n : ℕ) → IsLimit (option_map (λ s. s.now) value.entry) n → ⊥)
+        (λ n. IsLimit (option_map (λ s. s.now) value.entry) n) }
 {
     match value {
         None => Some(u64::MAX),

@@ -15,7 +15,7 @@ use st_base::{Limits, NoMemory};
 use st_pcap::Unit;
 use std::alloc::Global;
 
-// The query of the arguments `once QUERY`.
+// The query of the operands `once QUERY`.
 fn query_of<'a>(arguments: &[&'a str]) -> Option<&'a str>
     ensures { MatchOption result
         ((q : Text) → map (λ v. v.now) arguments.entry.now ≡ codes "once" ∷ (q ∷ []) → ⊥)
@@ -47,7 +47,9 @@ fn unit_of(flag: Option<&str>) -> Unit
 
 // What the matches ask for.
 fn asked<'a>(matches: &ArgMatches<'a>) -> Option<Once<'a>>
-    ensures { MatchOption result ((job : Job) → IsJobOf (found_of matches.now) job → ⊥) (λ job. IsJobOf (found_of matches.now) job) }
+    ensures { MatchOption result
+        ((job : Job) → IsJobOf (found_of matches.now) job → ⊥)
+        (λ job. IsJobOf (found_of matches.now) job) }
 {
     let Some(arguments) = matches.get_raw("words") else {
         return None;
@@ -70,13 +72,15 @@ fn asked<'a>(matches: &ArgMatches<'a>) -> Option<Once<'a>>
     })
 }
 
-/// The plan of the words after the program's name; None where they have none.
+/// The plan of the arguments after the program's name; None if they have none.
 ///
-/// Options stand anywhere, as `--x value` or `--x=value`, each at most once; behind the word `--`
-/// each word is an argument. A number is 1 to 10 decimal digits, below 2^32. `NoMemory` may come
-/// at any words. Source: docs/FORMAT.md, "Words".
+/// Options stand anywhere, as `--x value` or `--x=value`, each at most once; after the argument
+/// `--` each is an operand. A number is 1 to 10 decimal digits, below 2^32. `NoMemory` may come for
+/// any arguments. Source: docs/FORMAT.md, "Command line".
 pub fn plan_of<'a>(alloc: Global, words: &'a [String]) -> Result<Option<Plan<'a>>, NoMemory>
-    ensures { IfOk result (λ found. MatchOption found ((p : Planned) → IsPlan (map string_bytes words.entry.now) p → ⊥) (λ p. IsPlan (map string_bytes words.entry.now) p)) }
+    ensures { IfOk result (λ found. MatchOption found
+        ((p : Planned) → IsPlan (map string_bytes words.entry.now) p → ⊥)
+        (λ p. IsPlan (map string_bytes words.entry.now) p)) }
 {
     match matches_of(alloc, words) {
         Ok(Some(matches)) => match asked(&matches) {
@@ -102,7 +106,7 @@ mod tests {
         Ok(words)
     }
 
-    // The options stand before, between and behind the arguments, in both spellings.
+    // The options stand before, between and after the operands, in both spellings.
     #[test]
     fn once_is_read_with_its_options(rt: HostRuntime) -> Result<(), Fail> {
         let alloc = rt.alloc();

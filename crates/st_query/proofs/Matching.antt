@@ -46,17 +46,17 @@ in_net_walked a n p body r same e =
     (λ h. (in_net a n p).0 (f.0 h), λ h. f.1 ((in_net a n p).1 h))
 
 -- what a search through all keys of the frame says
-pub found_by : (frame : List ℕ) (net : Addr) (n : ℕ) (r : Bool) (ks : List Key) → KeysAre frame ks → MatchBool r ((i : ℕ) × (i < length ks) × HoldsAt (λ k. KeyIsIn net n k) ks i) (AllWithin (λ k. KeyIsIn net n k → ⊥) ks 0 (length ks)) → IsTrue r ↔ FrameIsIn frame net n
-found_by frame net n true ks are (i, inside, h) =
+pub found_by : (frame : List ℕ) (P : Key → Type 0) (r : Bool) (ks : List Key) → KeysAre frame ks → MatchBool r ((i : ℕ) × (i < length ks) × HoldsAt P ks i) (AllWithin (λ k. P k → ⊥) ks 0 (length ks)) → IsTrue r ↔ ((k : Key) × P k × FrameHas frame k)
+found_by frame P true ks are (i, inside, h) =
     let k = get_or ks i (key.Proto 0) in
     let there : Contains ks k = (i, inside, get_or_default ks i k (key.Proto 0) inside) in
     (λ e. (k, h (key.Proto 0), (are k).0 there), λ f. refl)
-found_by frame net n false ks are h = (
+found_by frame P false ks are h = (
   λ e. let never : false ≡ true = e in cc,
-  λ (k, i, f). let (j, inside, e) = (are k).1 f in absurd (h j k (omega arith) inside (subst (λ (x : Key). KeyIsIn net n x) (sym e) i)),
+  λ (k, i, f). let (j, inside, e) = (are k).1 f in absurd (h j k (omega arith) inside (subst P (sym e) i)),
 )
 
 -- what was gathered are the frame's keys
-pub told_by : (o : Option ℕ) (frame body : List ℕ) (room : List Key) (n : ℕ) (whole : Bool) → MatchOption o ⊤ (λ m. (m ≤ length room) × KeysAre frame (take m room)) → n ≡ unwrap_or o 0 → whole ≡ is_some o → frame ≡ body → IsTrue whole → KeysAre body (take n room)
-told_by None frame body room n whole h e some same t = let never : false ≡ true = sym some ∙ t in cc
-told_by (Some m) frame body room n whole h e some same t = rw (e, ← same) h.1
+pub keys_by : (o : Option ℕ) (frame body : List ℕ) (room : List Key) (n : ℕ) (whole : Bool) → MatchOption o ⊤ (λ m. (m ≤ length room) × KeysAre frame (take m room)) → n ≡ unwrap_or o 0 → whole ≡ is_some o → frame ≡ body → IsTrue whole → KeysAre body (take n room)
+keys_by None frame body room n whole h e some same t = let never : false ≡ true = sym some ∙ t in cc
+keys_by (Some m) frame body room n whole h e some same t = rw (e, ← same) h.1

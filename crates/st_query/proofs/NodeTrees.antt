@@ -18,6 +18,15 @@ back (one (prim.Mpls n)) = node.roll-Node (Node-F.Mpls n)
 back (one (prim.Before w)) = node.roll-Node (Node-F.Before w)
 back (one (prim.After w)) = node.roll-Node (Node-F.After w)
 
+-- the tree of a node whose parts are joined
+pub and_tree : (l r : Node) → tree (node.And l r) ≡ both (tree l) (tree r)
+unfolding node.roll-Node denote.Hole.Carrier.roll
+and_tree l r = node.fold-roll-Node Tree tree_step (Node-F.And l r)
+
+pub or_tree : (l r : Node) → tree (node.Or l r) ≡ either (tree l) (tree r)
+unfolding node.roll-Node denote.Hole.Carrier.roll
+or_tree l r = node.fold-roll-Node Tree tree_step (Node-F.Or l r)
+
 pair : (a b c d : Node) (f : Node → Node → Node) → c ≡ a → d ≡ b → f c d ≡ f a b
 pair a b c d f e g = rw (e, g) refl
 

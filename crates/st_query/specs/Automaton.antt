@@ -20,7 +20,7 @@ use Rattle.st_query.specs.declared.automaton.Half.{Half}
 use Rattle.st_query.specs.declared.automaton.Phase.{Phase}
 use Rattle.st_query.specs.declared.automaton.Phase.TheVariants as phase
 use Rattle.st_query.specs.Words.{network}
-use Rattle.st_query.specs.Trees.{Tree, both, either, one, tree}
+use Rattle.st_query.specs.Trees.{Tree, joined_by, one, tree}
 
 -- the primitive if its number is at most this, else a refusal
 abbrev pub at_most : ℕ → ℕ → Primitive → Effect
@@ -82,10 +82,14 @@ pub data PhaseView : Type 0 where
   Reading : Want → Option HalfView → PhaseView
   Joined : Tree → PhaseView
 
+-- the phase after a query and a joiner: `and`, or else `or`
+abbrev pub after_joiner : Tree → Bool → PhaseView
+after_joiner q and = Reading want.Item (Some (record { left = q; and = and }))
+
 -- the query joined to the half that precedes it, or alone
 abbrev pub join : Option HalfView → Tree → Tree
 join None q = q
-join (Some half) q = if half.and then both half.left q else either half.left q
+join (Some half) q = joined_by half.and half.left q
 
 -- a phase, and for each open parenthesis the half that precedes it, the innermost first
 abbrev pub ParserState : Type 0
@@ -105,8 +109,8 @@ after hs half effect.Refused = None
 -- the state after one more token, or none if it is refused
 abbrev pub step : List (Option HalfView) → PhaseView → Token → Option ParserState
 step hs (Reading w half) t = after hs half (read w t)
-step hs (Joined q) token.And = Some (Reading want.Item (Some (record { left = q; and = true })), hs)
-step hs (Joined q) token.Or = Some (Reading want.Item (Some (record { left = q; and = false })), hs)
+step hs (Joined q) token.And = Some (after_joiner q true, hs)
+step hs (Joined q) token.Or = Some (after_joiner q false, hs)
 step (half ∷ hs) (Joined q) token.Close = Some (Joined (join half q), hs)
 step hs (Joined q) _ = None
 
@@ -136,11 +140,14 @@ abbrev pub open_halves : List (Option Half) → List (Option HalfView)
 open_halves stack = reverse (map (option_map half_view) stack)
 
 -- the phase and the stack after a token are those of the step, or the step refuses it
-abbrev pub Steps : List (Option HalfView) → PhaseView → Token → Option PhaseView → List (Option HalfView) → Type 0
-Steps hs s t None new = step hs s t ≡ None
-Steps hs s t (Some r) new = step hs s t ≡ Some (r, new)
+abbrev pub Steps : List (Option Half) → Phase → Token → Option Phase → List (Option Half) → Type 0
+Steps old p t None new = step (open_halves old) (phase_view p) t ≡ None
+Steps old p t (Some q) new =
+    step (open_halves old) (phase_view p) t ≡ Some (phase_view q, open_halves new)
 
 -- a parenthesis was opened, or as many were open as may be
-abbrev pub Opens : List (Option HalfView) → Option HalfView → Option PhaseView → List (Option HalfView) → Type 0
-Opens hs half None new = IsTrue (nat_le MAX_OPEN (length hs))
-Opens hs half (Some r) new = IsTrue (nat_lt (length hs) MAX_OPEN) × (r ≡ start) × (new ≡ half ∷ hs)
+abbrev pub Opens : List (Option Half) → Option Half → Option Phase → List (Option Half) → Type 0
+Opens old half None new = IsTrue (nat_le MAX_OPEN (length (open_halves old)))
+Opens old half (Some q) new =
+    IsTrue (nat_lt (length (open_halves old)) MAX_OPEN) × (phase_view q ≡ start)
+    × (open_halves new ≡ option_map half_view half ∷ open_halves old)

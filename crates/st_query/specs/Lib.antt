@@ -1,4 +1,5 @@
 pub mod Words
+pub mod WordReader
 pub mod Times
 pub mod TimeReader
 pub mod PrintedWords
@@ -12,5 +13,6 @@ pub mod Spelling
 pub mod Parser
 pub mod Meaning
 pub mod Matcher
+pub mod Alternatives
 pub mod Answer
 pub mod Laws

@@ -1,5 +1,5 @@
 -- What the calls of the module `meaning` ensure.
-use Rattle.std.specs.Prelude.{◌≡◌, ℕ, ◌↔◌, List, Contains, IsTrue}
+use Rattle.std.specs.Prelude.{◌≡◌, ℕ, ◌≤◌, ◌↔◌, ⊤, List, length, take, Contains, IsTrue, Option, MatchOption}
 use Rattle.st_walk.specs.Walk.{FrameHas}
 use Rattle.st_walk.specs.declared.text.Key.{Key}
 use Rattle.st_walk.specs.declared.text.Key.TheVariants as key
@@ -22,6 +22,14 @@ KeyIsIn net n _ = ⊥
 abbrev pub FrameIsIn : List ℕ → Addr → ℕ → Type 0
 FrameIsIn frame net n = (k : Key) × KeyIsIn net n k × FrameHas frame k
 
--- where the packet's keys are whole they are those of its frame
-abbrev pub IsTold : Packet → Type 0
-IsTold p = IsTrue p.whole → KeysAre p.record.now.body p.keys.now
+-- some of these keys are of addresses whose first n bits are this net
+abbrev pub AnyIsIn : Addr → ℕ → List Key → Type 0
+AnyIsIn net n ks = (k : Key) × KeyIsIn net n k × Contains ks k
+
+-- the keys of the frame are the first ones in the room, this many, or none are known
+abbrev pub Gathers : List ℕ → List Key → Option ℕ → Type 0
+Gathers frame room r = MatchOption r ⊤ (λ n. (n ≤ length room) × KeysAre frame (take n room))
+
+-- if the packet's keys are whole, they are those of its frame
+abbrev pub HasItsKeys : Packet → Type 0
+HasItsKeys p = IsTrue p.whole → KeysAre p.record.now.body p.keys.now

@@ -1,5 +1,5 @@
 -- The printed form of one word.
-use Rattle.std.specs.Prelude.{ℕ, false, ◌+◌, ◌-◌, ◌/◌, ◌%◌, List, [], ◌∷◌, ◌++◌, codes, flat_map, ℤ, pos, ◌+ℤ◌, unsigned_abs, nat_le, if◌then◌else◌, zero, suc}
+use Rattle.std.specs.Prelude.{ℕ, false, ◌+◌, ◌-◌, ◌/◌, ◌%◌, List, [], ◌∷◌, ◌++◌, codes, decimal, flat_map, ℤ, pos, ◌+ℤ◌, unsigned_abs, nat_le, if◌then◌else◌, zero, suc}
 use Rattle.std.specs.Fmt.{digits}
 use Rattle.std.specs.Int.{w32, w128, to_be_bytes}
 use Rattle.std.specs.Net.Addr.{segments_of}
@@ -28,6 +28,10 @@ abbrev pub address_text : Addr → List ℕ
 address_text (V4 bits) = ipv4_text (to_be_bytes w32 bits)
 address_text (V6 bits) = groups_text (segments_of (to_be_bytes w128 bits))
 
+-- a net as one word
+abbrev pub net_text : Addr → ℕ → List ℕ
+net_text a n = address_text a ++ codes "/" ++ decimal n
+
 -- the last year up to that one that begins by the day
 unfoldable pub year_by : ℕ → ℕ → ℕ
 year_by zero day = 0
@@ -54,9 +58,15 @@ day_of_month day = day - day_count (pos (year_of day)) (month_of day) 1 + 1
 abbrev pub calendar_second : ℤ → ℕ
 calendar_second t = unsigned_abs (t +ℤ pos 377_736_739_200)
 
+-- a date and a second of that day
+abbrev pub date_time_text : ℕ → ℕ → ℕ → ℕ → List ℕ
+date_time_text year month day second =
+    date_text year month day ++ codes "T"
+    ++ clock_text (second / HOUR) (second / MINUTE % 60) (second % MINUTE)
+
 -- a day and a second of that day
 abbrev pub stamp_text : ℕ → ℕ → List ℕ
-stamp_text day second = date_text (year_of day) (month_of day) (day_of_month day) ++ codes "T" ++ clock_text (second / HOUR) (second / MINUTE % 60) (second % MINUTE)
+stamp_text day second = date_time_text (year_of day) (month_of day) (day_of_month day) second
 
 -- `YYYY-MM-DDThh:mm:ssZ`, in UTC
 abbrev pub instant_text : ℤ → List ℕ

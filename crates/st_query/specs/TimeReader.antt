@@ -1,8 +1,9 @@
 -- What the calls of the module `time_reader` ensure: how an instant is read, by its shape and by
 -- numbers at offsets of the word.
-use Rattle.std.specs.Prelude.{◌≡◌, ℕ, ◌+◌, ◌-◌, ◌*◌, ◌<◌, ◌≤◌, Bool, true, false, ◌&&◌, ◌==◌, if◌then◌else◌, List, [], ◌∷◌, length, take, slice_index, codes, ℤ, pos, neg_ℤ, ◌+ℤ◌}
+use Rattle.std.specs.Prelude.{◌≡◌, ℕ, ◌+◌, ◌-◌, ◌*◌, ◌<◌, ◌≤◌, Bool, true, false, ◌&&◌, ◌==◌, if◌then◌else◌, List, [], ◌∷◌, length, take, slice_index, codes, Option, MatchOption, ℤ, pos, neg_ℤ, ◌+ℤ◌}
 use Rattle.std.specs.Char.{is_ascii_digit}
 use Rattle.jiff_core.specs.Calendar.{IsCivilDate, days_from_civil}
+use Rattle.st_query.specs.Times.{IsOffset, IsSpan}
 use Rattle.st_query.specs.declared.units.TheConstants.{MINUTE, HOUR, DAY}
 use Rattle.st_query.specs.declared.time_reader.Zone.{Zone}
 use Rattle.st_query.specs.declared.time_reader.Zone.TheVariants.{East, West}
@@ -56,3 +57,13 @@ ahead (West seconds) = neg_ℤ (pos seconds)
 abbrev pub IsWithinDay : Zone → Type 0
 IsWithinDay (East seconds) = seconds < DAY
 IsWithinDay (West seconds) = seconds < DAY
+
+-- the offset that the text spells, or none if it spells none
+abbrev pub ReadsOffset : List ℕ → Option Zone → Type 0
+ReadsOffset text r =
+    MatchOption r ((n : ℤ) → IsOffset text n → ⊥) (λ z. IsOffset text (ahead z) × IsWithinDay z)
+
+-- the count and the unit of the span that the word spells, or none if it spells none
+abbrev pub ReadsSpan : List ℕ → Option (ℕ × Bool) → Type 0
+ReadsSpan word r =
+    MatchOption r ((n : ℕ) (h : Bool) → IsSpan word n h → ⊥) (λ (x : ℕ × Bool). IsSpan word x.0 x.1)

@@ -16,6 +16,10 @@ pub data Tree : Type 0 where
   either : Tree → Tree → Tree
   one : Primitive → Tree
 
+-- two trees joined by `and`, or else by `or`
+abbrev pub joined_by : Bool → Tree → Tree → Tree
+joined_by and a b = if and then both a b else either a b
+
 -- a node's tree, from its parts' trees
 abbrev pub tree_step : Node-F Tree → Tree
 tree_step (Node-F.And left right) = both left right

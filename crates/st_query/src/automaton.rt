@@ -4,7 +4,7 @@
 //! most `MAX_OPEN` elements.
 ghost use Rattle.std.specs.Prelude.{◌≡◌, ◌≢◌, IfOk};
 ghost use Rattle.std.specs.Option.{option_map};
-ghost use Rattle.st_query.specs.Automaton.{read, kind_of, refusal, at_most, phase_view, open_halves, join, half_view, Steps, Opens, Reading};
+ghost use Rattle.st_query.specs.Automaton.{read, kind_of, refusal, at_most, phase_view, join, half_view, after_joiner, Steps, Opens};
 ghost use Rattle.st_query.specs.Trees.{tree};
 ghost use Rattle.st_query.specs.Words.{network};
 
@@ -62,7 +62,8 @@ pub struct Half {
     pub and: bool,
 }
 
-/// What the tokens so far have come to: something is wanted, after a half or alone; or a query ends.
+/// What the tokens so far have come to: something is wanted, after a half or alone; or a query
+/// ends.
 #[derive(Drop)]
 pub enum Phase {
     Reading { want: Want, half: Option<Half> },
@@ -271,7 +272,7 @@ pub fn step(
     phase: Phase,
     token: Token,
 ) -> Result<Option<Phase>, AllocError>
-    ensures { IfOk result (λ o. Steps (open_halves stack.old) (phase_view phase) token (option_map phase_view o) (open_halves stack.new)) }
+    ensures { IfOk result (λ o. Steps stack.old phase token o stack.new) }
 {
     match phase {
         Phase::Reading { want, half } => match read(want, token) {
@@ -298,7 +299,7 @@ pub fn step(
 
 /// The phase after a joiner.
 fn after_joiner(left: Node, and: bool) -> Phase
-    ensures { phase_view result ≡ Reading Want.Item (Some (record { left = tree left; and = and })) }
+    ensures { phase_view result ≡ after_joiner (tree left) and }
 {
     Phase::Reading {
         want: Want::Item,
@@ -308,7 +309,7 @@ fn after_joiner(left: Node, and: bool) -> Phase
 
 /// Opens a parenthesis, or answers None if that would be one too many.
 fn deeper(stack: &mut Items<Option<Half>>, half: Option<Half>) -> Result<Option<Phase>, AllocError>
-    ensures { IfOk result (λ o. Opens (open_halves stack.old) (option_map half_view half) (option_map phase_view o) (open_halves stack.new)) }
+    ensures { IfOk result (λ o. Opens stack.old half o stack.new) }
 {
     if stack.len() >= MAX_OPEN {
         return Ok(None);

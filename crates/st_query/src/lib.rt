@@ -17,8 +17,8 @@
 //! - A query's numbers are in their ranges, its nets have no host bits, and its printed form opens
 //!   at most 64 parentheses at once (`Query::node`).
 //! - A list of records has one answer to a query at most (`one_answer`).
-//! - The second of a moment, the net of an address and the key of an address are exact (`second_of`,
-//!   `network`, `addr_key`), for whoever looks a query up in an index.
+//! - The second of a moment, the net of an address and the key of an address are exact
+//!   (`second_of`, `network`, `addr_key`), for whoever looks a query up in an index.
 //!
 //! # What it leaves to others
 //!
@@ -27,14 +27,15 @@
 //! # Where to read
 //!
 //! `specs/Words.antt` and `specs/Times.antt` say what one word means, `specs/Tokens.antt` what a
-//! text's tokens are, and `specs/Grammar.antt` which tokens make a query. `specs/Spelling.antt` joins
-//! them: what a text spells and how one is refused. `specs/Meaning.antt` says what a query matches,
-//! `specs/PrintedForm.antt` its printed form, and `specs/Answer.antt` what the answer over a list of
-//! records is. A file of `specs/` with a module's name says what that module's calls ensure. Then
-//! `parser`, `automaton`, `lexer`, `matcher`.
+//! text's tokens are, and `specs/Grammar.antt` which tokens make a query. `specs/Spelling.antt`
+//! joins them: what a text spells and how one is refused. `specs/Meaning.antt` says what a query
+//! matches, `specs/PrintedForm.antt` its printed form, and `specs/Answer.antt` what the answer over
+//! a list of records is. A file of `specs/` with a module's name says what that module's calls
+//! ensure. Then `parser`, `automaton`, `lexer`, `matcher`.
 #![tactic(auto)]
 
 mod addrs;
+mod alternatives;
 mod automaton;
 mod errors;
 mod laws;
@@ -43,6 +44,7 @@ mod limits;
 mod matcher;
 mod nodes;
 mod parser;
+mod patterns;
 mod printer;
 #[cfg(test)]
 mod tests;

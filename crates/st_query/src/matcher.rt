@@ -3,18 +3,22 @@ ghost use Rattle.std.specs.Prelude.{◌≡◌, ℕ, ◌≤◌, ◌↔◌, ⊤, �
 ghost use Rattle.st_walk.specs.Walk.{FrameHas, HasKey};
 ghost use Rattle.st_walk.specs.declared.text.Key.{Key};
 ghost use Rattle.st_query.specs.Meaning.{Matches, MatchesTree, MatchesPrimitive, IsInNet, addr_key, second_of, span_of};
-ghost use Rattle.st_query.specs.Matcher.{KeysAre, KeyIsIn, FrameIsIn, IsTold};
+ghost use Rattle.st_query.specs.Matcher.{KeyIsIn, FrameIsIn, AnyIsIn, Gathers, HasItsKeys};
 ghost use Rattle.st_query.specs.Words.{network};
 ghost use Rattle.st_query.specs.Trees.{tree, is_joined};
+ghost use Rattle.st_query.specs.Alternatives.{IsChainOf};
 
 use crate::addrs::Addr;
+use crate::alternatives::includes_any;
 use crate::nodes::{Node, Query, When};
+use crate::patterns::Chain;
 use crate::units::{HOUR, MINUTE, SECOND};
 use crate::word_reader::network;
 use st_base::RecordRef;
 use st_walk::{Key, has_key, keys};
 
-/// How many keys of a frame are kept: more than a frame of IPv4 under two tags has.
+/// A frame's keys are gathered if they are at most this many. A frame of IPv4 under two tags has
+/// seven.
 const MOST_KEYS: usize = 12;
 
 /// The key of an address.
@@ -27,8 +31,8 @@ pub fn addr_key(addr: Addr) -> Key
     }
 }
 
-/// The second of a moment, in seconds since 1970, where the clock stands at `now` microseconds since
-/// 1970: a relative one counts back from the clock's whole second, and may lie before 1970.
+/// The second of a moment, in seconds since 1970, where the clock stands at `now` microseconds
+/// since 1970: a relative one counts back from the clock's whole second, and may lie before 1970.
 pub fn second_of(when: When, now: u64) -> i64
     ensures { result ≡ second_of when now }
 {
@@ -55,15 +59,16 @@ fn seconds_before(second: u64, span: u64) -> i64
     second as i64 - span as i64
 }
 
+/// Whether the second lies before the moment's second.
 fn is_before(second: u32, moment: i64) -> bool
     ensures { IsTrue result ↔ (pos second <ℤ moment) }
 {
     i64::from(second) < moment
 }
 
-/// The keys of a frame in the front of `room`, where there is room for them.
+/// The keys of a frame, as the first ones in `room`, or None if there is too little room.
 fn gather(frame: &[u8], room: &mut [Key]) -> Option<usize>
-    ensures { MatchOption result ⊤ (λ n. (n ≤ length room.new) × KeysAre frame.now (take n room.new)) }
+    ensures { Gathers frame.now room.new result }
 {
     let mut len = 0;
     for key in keys(frame) {
@@ -76,7 +81,7 @@ fn gather(frame: &[u8], room: &mut [Key]) -> Option<usize>
     Some(len)
 }
 
-/// The query has three primitives or more, so that it pays to gather a frame's keys for it.
+/// Whether the query's left part is joined too, so that it pays to gather a frame's keys for it.
 fn is_long(node: &Node) -> bool {
     let (Node::And { left, .. } | Node::Or { left, .. }) = node else {
         return false;
@@ -84,9 +89,10 @@ fn is_long(node: &Node) -> bool {
     matches!(left.get(), Node::And { .. } | Node::Or { .. })
 }
 
-/// The keys of a frame for this query, where there is room for them and it pays.
+/// The keys of a frame, as the first ones in `room`, or None if there is too little room or it does
+/// not pay to gather them for this query.
 fn gather_for(node: &Node, frame: &[u8], room: &mut [Key]) -> Option<usize>
-    ensures { MatchOption result ⊤ (λ n. (n ≤ length room.new) × KeysAre frame.now (take n room.new)) }
+    ensures { Gathers frame.now room.new result }
 {
     if is_long(node) {
         return gather(frame, room);
@@ -94,7 +100,7 @@ fn gather_for(node: &Node, frame: &[u8], room: &mut [Key]) -> Option<usize>
     None
 }
 
-/// A key is of an address in this net.
+/// Whether the key is of an address in this net.
 fn is_in(key: Key, net: Addr, bits: u8) -> bool
     ensures { IsTrue result ↔ KeyIsIn (network net bits) bits key }
 {
@@ -105,7 +111,7 @@ fn is_in(key: Key, net: Addr, bits: u8) -> bool
     }
 }
 
-/// What is known of a packet: its record, and its frame's keys where they are whole.
+/// A packet's record, and its frame's keys if they are `whole`.
 #[derive(Clone, Copy)]
 struct Packet<'a> {
     record: &'a RecordRef<'a>,
@@ -113,9 +119,9 @@ struct Packet<'a> {
     whole: bool,
 }
 
-/// The packet has this key, which is no second.
+/// Whether the packet has this key, which is no second.
 fn has(packet: &Packet<'_>, key: Key) -> bool
-    requires told { IsTold packet.now }
+    requires keys { HasItsKeys packet.now }
     requires lasting { (s : ℕ) → key ≡ Key.Second s → ⊥ }
     ensures { IsTrue result ↔ HasKey packet.now.record.now.body packet.now.record.now.sec key }
 {
@@ -127,15 +133,16 @@ fn has(packet: &Packet<'_>, key: Key) -> bool
     }
 }
 
+/// Whether the key is one of these.
 fn contains(keys: &[Key], key: Key) -> bool
     ensures { IsTrue result ↔ Contains keys.now key }
 {
     keys.iter().any(|own| *own == key)
 }
 
-/// The packet has an address in this net.
+/// Whether the packet has an address in this net.
 fn is_in_net(packet: &Packet<'_>, net: Addr, bits: u8) -> bool
-    requires { IsTold packet.now }
+    requires { HasItsKeys packet.now }
     ensures { IsTrue result ↔ IsInNet net bits packet.now.record.now }
 {
     let record = packet.record;
@@ -146,21 +153,23 @@ fn is_in_net(packet: &Packet<'_>, net: Addr, bits: u8) -> bool
     }
 }
 
+/// Whether one of the keys is of an address in this net.
 fn any_in(keys: &[Key], net: Addr, bits: u8) -> bool
-    ensures { IsTrue result ↔ ((k : Key) × KeyIsIn (network net bits) bits k × Contains keys.now k) }
+    ensures { IsTrue result ↔ AnyIsIn (network net bits) bits keys.now }
 {
     keys.iter().any(|key| is_in(*key, net, bits))
 }
 
+/// Whether the frame has an address in this net.
 fn walks_into(frame: &[u8], net: Addr, bits: u8) -> bool
     ensures { IsTrue result ↔ FrameIsIn frame.now (network net bits) bits }
 {
     keys(frame).any(|key| is_in(key, net, bits))
 }
 
-/// The packet matches a primitive, where the clock stands at `now` microseconds.
+/// Whether the packet matches a primitive, where the clock stands at `now` microseconds since 1970.
 fn matches_primitive(node: &Node, now: u64, packet: &Packet<'_>) -> bool
-    requires told { IsTold packet.now }
+    requires keys { HasItsKeys packet.now }
     requires alone { IsFalse (is_joined (tree node.now)) }
     ensures { IsTrue result ↔ MatchesTree (tree node.now) now packet.now.record.now }
 {
@@ -178,12 +187,13 @@ fn matches_primitive(node: &Node, now: u64, packet: &Packet<'_>) -> bool
     }
 }
 
-/// The packet matches the part of a query, where the clock stands at `now` microseconds.
+/// Whether the packet matches the part of a query, where the clock stands at `now` microseconds
+/// since 1970.
 ///
-/// A chain of joined parts is a loop from its last part on, so that no call goes deeper than the
-/// parentheses.
+/// A chain of joined parts is matched by a loop from its last part on, so that no call goes deeper
+/// than the parentheses.
 fn matches_part(node: &Node, now: u64, packet: &Packet<'_>) -> bool
-    requires { IsTold packet.now }
+    requires { HasItsKeys packet.now }
     ensures { IsTrue result ↔ MatchesTree (tree node.now) now packet.now.record.now }
 {
     let mut rest = node;
@@ -206,13 +216,63 @@ fn matches_part(node: &Node, now: u64, packet: &Packet<'_>) -> bool
     }
 }
 
-/// The packet matches the query, where the clock stands at `now` microseconds since 1970. It takes
-/// no memory.
+/// Whether the packet matches a query that begins with these alternatives, where the clock stands
+/// at `now` microseconds since 1970.
+///
+/// What follows the alternatives is asked first, from the last part on, since it may decide without
+/// them.
+fn matches_chain(node: &Node, chain: &Chain, now: u64, packet: &Packet<'_>) -> bool
+    requires keys { HasItsKeys packet.now }
+    requires chain { IsChainOf (tree node.now) chain.now }
+    ensures { IsTrue result ↔ MatchesTree (tree node.now) now packet.now.record.now }
+{
+    let record = packet.record;
+    let mut rest = node;
+    for step in 0..chain.following {
+        match rest {
+            Node::Or { left, right } => {
+                if matches_part(right.get(), now, packet) {
+                    return true;
+                }
+                rest = left.get();
+            }
+            Node::And { left, right } => {
+                if !matches_part(right.get(), now, packet) {
+                    return false;
+                }
+                rest = left.get();
+            }
+            primitive => return matches_primitive(primitive, now, packet),
+        }
+    }
+    includes_any(&chain.groups, record.body)
+}
+
+/// Whether the packet matches the query, where the clock stands at `now` microseconds since 1970. It
+/// takes no memory.
 pub fn matches(query: &Query, now: u64, r: RecordRef<'_>) -> bool
     ensures { IsTrue result ↔ Matches query.now now r.entry }
 {
-    let mut room = [Key::Proto(0); MOST_KEYS];
     let node = query.node();
+    match query.chain() {
+        Some(chain) => {
+            let packet = Packet {
+                record: &r,
+                keys: &[],
+                whole: false,
+            };
+            matches_chain(node, chain, now, &packet)
+        }
+        None => matches_plain(node, now, r),
+    }
+}
+
+/// Whether the packet matches the query of this node, where the clock stands at `now` microseconds
+/// since 1970.
+fn matches_plain(node: &Node, now: u64, r: RecordRef<'_>) -> bool
+    ensures { IsTrue result ↔ MatchesTree (tree node.now) now r.entry }
+{
+    let mut room = [Key::Proto(0); MOST_KEYS];
     let len = gather_for(node, r.body, &mut room);
     let packet = Packet {
         record: &r,

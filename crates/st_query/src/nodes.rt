@@ -1,8 +1,10 @@
 //! A query as its tree.
-ghost use Rattle.std.specs.Prelude.{◌≡◌, IfOk, if◌then◌else◌};
-ghost use Rattle.st_query.specs.Trees.{tree, both, either, one};
+ghost use Rattle.std.specs.Prelude.{◌≡◌, IfOk};
+ghost use Rattle.st_query.specs.Trees.{tree, joined_by, one};
 
 use crate::addrs::Addr;
+use crate::alternatives::chain_of;
+use crate::patterns::Chain;
 use sqlite_items::Boxed;
 use std::alloc::{AllocError, Global};
 use std::marker::Model;
@@ -29,7 +31,7 @@ pub enum Primitive {
 
 /// A query, or a part of one.
 ///
-/// `Net` has its first `bits` bits in `addr`, and zeros after them. A `vlan` is below 2^12, an `mpls`
+/// `Net` has its first `bits` bits in `addr`, and zeros after them. A VLAN number is below 2^12, a
 /// label below 2^20.
 #[derive(Drop)]
 pub enum Node {
@@ -72,7 +74,7 @@ pub fn node_of(primitive: Primitive) -> Node
 
 /// Two queries, joined by `and` or by `or`.
 pub fn joined(alloc: Global, left: Node, and: bool, right: Node) -> Result<Node, AllocError>
-    ensures { IfOk result (λ q. tree q ≡ (if and then both (tree left) (tree right) else either (tree left) (tree right))) }
+    ensures { IfOk result (λ q. tree q ≡ joined_by and (tree left) (tree right)) }
 {
     let left = Boxed::new(alloc, left)?;
     let right = Boxed::new(alloc, right)?;
@@ -83,10 +85,12 @@ pub fn joined(alloc: Global, left: Node, and: bool, right: Node) -> Result<Node,
     }
 }
 
-/// A query that can be asked. Contracts see it as its node.
+/// A query that can be asked. Contracts see it as its node. For `matches` alone, the alternatives
+/// that it begins with are kept a second time, sorted.
 #[derive(Drop)]
 pub struct Query {
     node: Node,
+    chain: Option<Chain>,
 }
 
 impl Model for Query {
@@ -94,6 +98,7 @@ impl Model for Query {
     ghost use Rattle.st_query.specs.contracts.nodes.Node as e;
     ghost use Rattle.st_query.specs.declared.nodes.Node.{Node};
     ghost use Rattle.st_query.specs.Trees.{IsSound, tree};
+    ghost use Rattle.st_query.specs.Alternatives.{HasChain};
 
     ghost Value = { Node };
 
@@ -101,17 +106,27 @@ impl Model for Query {
 
     ghost view = { λ a. a.node };
 
-    ghost invariant = { λ a. IsSound (tree a.node) };
+    ghost invariant = { λ a. IsSound (tree a.node) × HasChain (tree a.node) a.chain };
 }
 
 impl Query {
     ghost use Rattle.st_query.specs.Trees.{IsSound, tree};
+    ghost use Rattle.st_query.specs.Alternatives.{HasChain};
 
-    pub(crate) fn of(node: Node) -> Query
+    /// The query of this node.
+    pub(crate) fn new(alloc: Global, node: Node) -> Result<Query, AllocError>
         requires { IsSound (tree node) }
-        ensures { result ≡ node }
+        ensures { IfOk result (λ q. q ≡ node) }
     {
-        Query { node }
+        let chain = chain_of(alloc, &node)?;
+        Ok(Query { node, chain })
+    }
+
+    /// The alternatives that the query begins with, if they are sorted.
+    pub(crate) fn chain(&self) -> &Option<Chain>
+        ensures { HasChain (tree self.now) result.now }
+    {
+        &self.chain
     }
 
     /// The query's outermost node.

@@ -3,8 +3,8 @@ ghost use Rattle.std.specs.Prelude.{◌≡◌, ◌≢◌, IfOk, IfErr};
 ghost use Rattle.st_query.specs.Spelling.{Spells, Refuses};
 ghost use Rattle.st_query.specs.Parser.{error_at};
 
-use crate::errors::QueryErr;
 use crate::automaton::{Kind, Phase, Want, refusal, step};
+use crate::errors::QueryErr;
 use crate::lexer::next_token;
 use crate::limits::MAX_TEXT;
 use crate::nodes::Query;
@@ -55,7 +55,10 @@ pub fn parse(alloc: Global, text: &[u8]) -> Result<Query, QueryErr>
     match phase {
         Phase::Joined(node) => {
             if stack.is_empty() {
-                return Ok(Query::of(node));
+                let Ok(query) = Query::new(alloc, node) else {
+                    return Err(QueryErr::NoMemory);
+                };
+                return Ok(query);
             }
             Err(error_at(kind, text.len()))
         }

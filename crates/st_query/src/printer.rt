@@ -1,7 +1,7 @@
 //! A query as text.
-ghost use Rattle.std.specs.Prelude.{◌≡◌, ℕ, ◌++◌, ◌≤◌, IsFalse, OnOk, IfOk, List, length, codes, decimal};
-ghost use Rattle.st_query.specs.PrintedWords.{address_text};
-ghost use Rattle.st_query.specs.PrintedForm.{printed, wrapped, when_text};
+ghost use Rattle.std.specs.Prelude.{◌≡◌, ℕ, ◌++◌, ◌≤◌, IsFalse, OnOk, IfOk, List, length};
+ghost use Rattle.st_query.specs.PrintedWords.{net_text};
+ghost use Rattle.st_query.specs.PrintedForm.{printed, side_text, when_text};
 ghost use Rattle.st_query.specs.Spelling.{Spells};
 ghost use Rattle.st_query.specs.Trees.{tree, is_joined, InRange, FitsWhen};
 
@@ -44,7 +44,7 @@ fn put_time(alloc: Global, word: &[u8], when: When, out: &mut Vec<u8>) -> Result
 
 /// Appends a net as one word.
 fn put_net(alloc: Global, addr: Addr, bits: u8, out: &mut Vec<u8>) -> Result<(), AllocError>
-    ensures { OnOk result (out.new.items ≡ out.old.items ++ (address_text addr ++ codes "/" ++ decimal bits)) }
+    ensures { OnOk result (out.new.items ≡ out.old.items ++ net_text addr bits) }
 {
     put_address(alloc, addr, out)?;
     let text = format!(in alloc; "/{bits}")?;
@@ -120,7 +120,7 @@ fn put_primitive(alloc: Global, node: &Node, out: &mut Vec<u8>) -> Result<(), Al
 #[cycle(print)]
 fn put_side(alloc: Global, node: &Node, out: &mut Vec<u8>) -> Result<(), AllocError>
     requires { InRange (tree node.now) }
-    ensures { OnOk result (out.new.items ≡ out.old.items ++ wrapped (is_joined (tree node.now)) (printed (tree node.now))) }
+    ensures { OnOk result (out.new.items ≡ out.old.items ++ side_text (tree node.now)) }
 {
     if let Node::And {
         left: _left,

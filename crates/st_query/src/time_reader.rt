@@ -1,8 +1,8 @@
 //! What one word of a query says of time: an instant after RFC 3339, 5.6, or a span.
 
 ghost use Rattle.std.specs.Prelude.{◌≡◌, ℕ, ℤ, ◌+◌, ◌-◌, ◌*◌, ◌/◌, ◌^◌, ◌≤◌, ◌<◌, Bool, MatchOption, IfSome, IsTrue, ◌↔◌, length, take, drop, pos, neg_ℤ, ◌+ℤ◌, ◌-ℤ◌};
-ghost use Rattle.st_query.specs.Times.{IsInstant, IsSpan, IsOffset, IsInYears};
-ghost use Rattle.st_query.specs.TimeReader.{fits_byte, fits, two_at, HasShape, HasDate, IsDayOf, HasClock, IsClockOf, ahead, IsWithinDay};
+ghost use Rattle.st_query.specs.Times.{IsInstant, IsInYears};
+ghost use Rattle.st_query.specs.TimeReader.{fits_byte, fits, two_at, HasShape, HasDate, IsDayOf, HasClock, IsClockOf, ahead, IsWithinDay, ReadsOffset, ReadsSpan};
 
 use crate::limits::NUMBER_DIGITS;
 use crate::units::{DAY, HOUR, MINUTE};
@@ -97,7 +97,7 @@ fn clock(word: &[u8]) -> Option<u64>
 
 /// The offset that the text spells.
 fn offset(text: &[u8]) -> Option<Zone>
-    ensures { MatchOption result ((n : ℤ) → IsOffset text.now n → ⊥) (λ z. IsOffset text.now (ahead z) × IsWithinDay z) }
+    ensures { ReadsOffset text.now result }
 {
     if text == b"Z".as_slice() {
         return Some(Zone::East(0));
@@ -172,7 +172,7 @@ pub fn instant(word: &[u8]) -> Option<i64>
 
 /// The count and the unit of a span: `h` for hours (`true`), `m` for minutes.
 pub fn span(word: &[u8]) -> Option<(u32, bool)>
-    ensures { MatchOption result ((n : ℕ) (h : Bool) → IsSpan word.now n h → ⊥) (λ x. IsSpan word.now x.0 x.1) }
+    ensures { ReadsSpan word.now result }
 {
     let (unit, digits) = word.split_last()?;
     let hours = match *unit {

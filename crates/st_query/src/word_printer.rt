@@ -1,11 +1,8 @@
 //! The printed form of one word: an address, an instant.
 
 ghost use Rattle.std.specs.Prelude.{◌≡◌, ℕ, ℤ, ◌+◌, ◌-◌, ◌*◌, ◌/◌, ◌%◌, ◌^◌, ◌≤◌, ◌<◌, ◌++◌, ◌+ℤ◌, pos, OnOk, length, codes};
-ghost use Rattle.std.specs.Int.{w32, w128, to_be_bytes};
-ghost use Rattle.std.specs.Net.Addr.{segments_of};
-ghost use Rattle.std.specs.Net.Text.{ipv4_text};
-ghost use Rattle.st_query.specs.PrintedWords.{group_text, colon_groups, groups_text, address_text, year_of, month_of, day_of_month, calendar_second, instant_text};
-ghost use Rattle.st_query.specs.Times.{date_text, clock_text, IsInYears};
+ghost use Rattle.st_query.specs.PrintedWords.{group_text, colon_groups, groups_text, address_text, year_of, month_of, day_of_month, calendar_second, date_time_text, instant_text};
+ghost use Rattle.st_query.specs.Times.{IsInYears};
 
 use crate::addrs::Addr;
 use crate::units::{DAY, HOUR, MINUTE};
@@ -47,7 +44,7 @@ fn put_groups(alloc: Global, groups: &[u16], out: &mut Vec<u8>) -> Result<(), Al
 
 /// Appends an IPv4 address as four decimal numbers.
 fn put_v4(alloc: Global, bits: u32, out: &mut Vec<u8>) -> Result<(), AllocError>
-    ensures { OnOk result (out.new.items ≡ out.old.items ++ ipv4_text (to_be_bytes w32 bits)) }
+    ensures { OnOk result (out.new.items ≡ out.old.items ++ address_text (Addr.V4 bits)) }
 {
     let [a, b, c, d] = bits.to_be_bytes();
     let text = format!(in alloc; "{a}.{b}.{c}.{d}")?;
@@ -56,7 +53,7 @@ fn put_v4(alloc: Global, bits: u32, out: &mut Vec<u8>) -> Result<(), AllocError>
 
 /// Appends an IPv6 address as eight groups.
 fn put_v6(alloc: Global, bits: u128, out: &mut Vec<u8>) -> Result<(), AllocError>
-    ensures { OnOk result (out.new.items ≡ out.old.items ++ groups_text (segments_of (to_be_bytes w128 bits))) }
+    ensures { OnOk result (out.new.items ≡ out.old.items ++ address_text (Addr.V6 bits)) }
 {
     let groups = Ipv6Addr::from_bits(bits).segments();
     put_groups(alloc, &groups, out)
@@ -78,7 +75,7 @@ fn stamp(year: u64, month: u64, day: u64, second: u64) -> [u8; 20]
     requires month { month < 100 }
     requires day { day < 100 }
     requires second { second < DAY }
-    ensures { result ≡ date_text year month day ++ codes "T" ++ clock_text (second / HOUR) (second / MINUTE % 60) (second % MINUTE) ++ codes "Z" }
+    ensures { result ≡ date_time_text year month day second ++ codes "Z" }
 {
     let (hour, minute, second) = (second / HOUR, second / MINUTE % 60, second % MINUTE);
     [

@@ -1,7 +1,8 @@
 //! What one word of a query means: a number, an address, a net, a mask.
 
 ghost use Rattle.std.specs.Prelude.{◌≡◌, ℕ, ◌+◌, ◌-◌, ◌*◌, ◌/◌, ◌^◌, ◌≤◌, ◌<◌, ◌≢◌, All, Contains, MatchOption, length, drop, slice_index};
-ghost use Rattle.st_query.specs.Words.{IsNumber, IsAddress, IsNet, EndsAtSlash, IsMask, IsOnes, network, width};
+ghost use Rattle.st_query.specs.Words.{EndsAtSlash, IsMask, IsOnes, network, width};
+ghost use Rattle.st_query.specs.WordReader.{ReadsNumber, ReadsAddress, ReadsNet};
 
 use crate::addrs::Addr;
 use crate::limits::{BITS_DIGITS, NUMBER_DIGITS, V4_BITS, V6_BITS};
@@ -10,7 +11,7 @@ use std::net::{Ipv4Addr, Ipv6Addr};
 /// The number that one to `most` decimal digits write. Leading zeros are allowed.
 pub fn number(most: usize, word: &[u8]) -> Option<u64>
     requires { most ≤ NUMBER_DIGITS }
-    ensures { MatchOption result ((n : ℕ) → IsNumber most word.now n → ⊥) (λ n. IsNumber most word.now n) }
+    ensures { ReadsNumber most word.now result }
 {
     if word.is_empty() || word.len() > most {
         return None;
@@ -25,10 +26,10 @@ pub fn number(most: usize, word: &[u8]) -> Option<u64>
     Some(value)
 }
 
-/// The address that the word spells: IPv4 as four decimal numbers without leading zeros, IPv6 in the
-/// first two forms of RFC 4291, 2.2, so that none of its parts is written as decimal numbers.
+/// The address that the word spells: IPv4 as four decimal numbers without leading zeros, IPv6 in
+/// the first two forms of RFC 4291, 2.2, so that none of its parts is written as decimal numbers.
 pub fn address(word: &[u8]) -> Option<Addr>
-    ensures { MatchOption result ((a : Addr) → IsAddress word.now a → ⊥) (λ a. IsAddress word.now a) }
+    ensures { ReadsAddress word.now result }
 {
     if let Ok(ip) = Ipv4Addr::parse_ascii(word) {
         return Some(Addr::V4(ip.to_bits()));
@@ -66,7 +67,7 @@ fn last_slash(word: &[u8]) -> Option<usize>
 
 /// The address and the number of bits of a word `ADDR/BITS`, with the address as it is spelled.
 pub fn net(word: &[u8]) -> Option<(Addr, u8)>
-    ensures { MatchOption result ((a : Addr) (n : ℕ) → IsNet word.now a n → ⊥) (λ x. IsNet word.now x.0 x.1) }
+    ensures { ReadsNet word.now result }
 {
     let Some(slash) = last_slash(word) else {
         return None;
@@ -94,8 +95,8 @@ fn cleared(value: u128, host: u32) -> u128
     (value >> host) << host
 }
 
-/// The net that an address lies in: the address with all but its first `bits` bits cleared, as it is
-/// if it has no more bits than that.
+/// The net that an address lies in: the address with all but its first `bits` bits cleared, or as it
+/// is if it has no more bits than that.
 pub fn network(address: Addr, bits: u8) -> Addr
     ensures { result ≡ network address bits }
 {

@@ -6,7 +6,7 @@ use Rattle.std.proofs.lemmas.List.Elements.{All-weaker, All-head, All-tail, All-
 use Rattle.std.proofs.Math.Seq.{take-add}
 use Rattle.st_tblock.specs.Block.{RowView, key_or_empty, is_above, is_before}
 use Rattle.st_tblock.specs.declared.handle.Handle.{Handle}
-use Rattle.st_table.specs.TableFile.{Stored, Between, Blocks, IsTable, is_at_most}
+use Rattle.st_table.specs.TableFile.{Stored, Between, Blocks, IsTable, is_at_most, footer_at}
 use Rattle.st_table.specs.RowOrder.{in_range, KeysRiseAbove, last_key}
 use Rattle.st_table.specs.Errors.{NoCheckFailed}
 use Rattle.st_table.specs.Rows.{BoundsView, lies_in}
@@ -64,7 +64,7 @@ coming_on limit bytes index more given old new c g =
     }
 
 -- the keys that are left of an index rise
-rises_rest : (low : Option (List ℕ)) (index : List RowView) (n : ℕ) → KeysRiseAbove low index → KeysRiseAbove (last_key low (take n index)) (drop n index)
+pub rises_rest : (low : Option (List ℕ)) (index : List RowView) (n : ℕ) → KeysRiseAbove low index → KeysRiseAbove (last_key low (take n index)) (drop n index)
 rises_rest low index zero h = h
 rises_rest low [] (suc n) h = h
 rises_rest low (r ∷ index) (suc n) h = rises_rest (Some r.0) index n h.1
@@ -90,16 +90,17 @@ next_stands limit bytes index rows n e b (inr (a, h, i, refuses)) =
     let base = last_key None (take n index) in
     let cut = first_is base i.low (drop n index) i.entry i.here in
     let blocks = subst (λ (xs : List RowView). Blocks limit bytes base xs rows) cut.1.1 b in
-    let same = handle_once i.entry.1 blocks.0 h blocks.3 i.named in
-    let stored = subst (λ (x : Handle). Stored limit bytes x blocks.1) same blocks.4 in
-    let between = subst (λ (k : Option (List ℕ)). Between k i.entry.0 blocks.1) cut.0 blocks.5 in
-    let pass = subst (λ (x : BoundsView). All (λ r. IsTrue (lies_in x r)) blocks.1) (sym i.keys) (is_between i.low i.entry.0 blocks.1 between) in
-    stored_stands (lies_in a) limit bytes h blocks.1 e stored pass refuses
+    let names = blocks.2 in
+    let same = handle_once i.entry.1 names.handle h names.named i.named in
+    let stored = subst (λ (x : Handle). Stored limit bytes x blocks.0) same names.stored in
+    let between = subst (λ (k : Option (List ℕ)). Between k i.entry.0 blocks.0) cut.0 names.between in
+    let pass = subst (λ (x : BoundsView). All (λ r. IsTrue (lies_in x r)) blocks.0) (sym i.keys) (is_between i.low i.entry.0 blocks.0 between) in
+    stored_stands (lies_in a) limit bytes h blocks.0 e stored pass refuses
 
 -- so each step gives the next of the rows to come
 pub steps_row : (limit : ℕ) (bytes : List ℕ) (index more : List RowView) (old new : CursorView) (r : Result (Option RowView) TableErr) → KeysRiseAbove None index → Coming limit bytes index old more → Steps limit bytes index old new r → StepsRow limit bytes index more new r
 steps_row limit bytes index more old new (Ok (Some q)) u c s =
-    let l = coming_on limit bytes index more (q ∷ []) old new c s in
+    let l = coming_on limit bytes index more (q ∷ []) old new c s.0 in
     (l.later, l.split, l.coming)
 steps_row limit bytes index more old new (Ok None) u c (g, e, d) =
     let l = coming_on limit bytes index more [] old new c g in
@@ -112,16 +113,16 @@ steps_row limit bytes index more old new (Err e) u c (g, f) =
 -- rows of blocks whose index keys are before a key
 blocks_below : (limit : ℕ) (bytes key : List ℕ) (low : Option (List ℕ)) (index rows : List RowView) → Blocks limit bytes low index rows → All (λ e. is_before e.0 key ≡ true) index → All (λ r. is_before r.0 key ≡ true) rows
 blocks_below limit bytes key low [] rows b a = All-same (λ r. is_before r.0 key ≡ true) rows [] b (All-nil (λ r. is_before r.0 key ≡ true))
-blocks_below limit bytes key low (e ∷ index) rows (h, here, more, one, s, between, split, rest) a =
+blocks_below limit bytes key low (e ∷ index) rows (here, more, n, split, rest) a =
     let first = All-head (λ r. is_before r.0 key ≡ true) e index a in
-    let front = All-weaker (λ r. IsTrue (is_above low r.0) × IsTrue (is_at_most e.0 r.0)) (λ r. is_before r.0 key ≡ true) (λ r p. at_most_before r.0 e.0 key (not_true (is_before e.0 r.0) p.1) first) here between in
+    let front = All-weaker (λ r. IsTrue (is_above low r.0) × IsTrue (is_at_most e.0 r.0)) (λ r. is_before r.0 key ≡ true) (λ r p. at_most_before r.0 e.0 key (not_true (is_before e.0 r.0) p.1) first) here n.between in
     let back = blocks_below limit bytes key (Some e.0) index more rest (All-tail (λ r. is_before r.0 key ≡ true) e index a) in
     All-same (λ r. is_before r.0 key ≡ true) rows (here ++ more) split (All-append (λ r. is_before r.0 key ≡ true) here more front back)
 
 -- before the first step the rows in the range are to come
-pub coming_first : (bytes low high : List ℕ) (rows : List RowView) (entries : List IndexEntry) (n : ℕ) → (t : IsTable bytes rows) → (e : Entered bytes entries) → All (λ r. is_before r.0 low ≡ true) (take n e.index) → Coming (length bytes - 48) bytes e.index (unread low high n) (in_range low high rows)
+pub coming_first : (bytes low high : List ℕ) (rows : List RowView) (entries : List IndexEntry) (n : ℕ) → (t : IsTable bytes rows) → (e : Entered bytes entries) → All (λ r. is_before r.0 low ≡ true) (take n e.index) → Coming (footer_at bytes) bytes e.index (unread low high n) (in_range low high rows)
 coming_first bytes low high rows entries n t e a =
-    let limit = length bytes - 48 in
+    let limit = footer_at bytes in
     let blocks = subst (λ (i : List RowView). Blocks limit bytes None i rows) (index_once bytes rows entries t e) t.blocks in
     let all = subst (λ (i : List RowView). Blocks limit bytes None i rows) (sym (take-append-drop n e.index)) blocks in
     let p = blocks-split limit bytes None (take n e.index) (drop n e.index) rows all in
@@ -129,7 +130,7 @@ coming_first bytes low high rows entries n t e a =
     record { read = p.back; blocks = p.second; rows = ap (in_range low high) p.split ∙ in_range-before low high p.front p.back below }
 
 -- keys that rise end at or behind the key that they rise from
-last_behind : (k : List ℕ) (index : List RowView) → KeysRiseAbove (Some k) index → is_before (key_or_empty (last_key (Some k) index)) k ≡ false
+pub last_behind : (k : List ℕ) (index : List RowView) → KeysRiseAbove (Some k) index → is_before (key_or_empty (last_key (Some k) index)) k ≡ false
 last_behind k [] h = not_itself k
 last_behind k (r ∷ index) h =
     let last = key_or_empty (last_key (Some r.0) index) in
@@ -138,15 +139,15 @@ last_behind k (r ∷ index) h =
 -- so every row is at or before the last index key
 pub blocks_last : (limit : ℕ) (bytes : List ℕ) (low : Option (List ℕ)) (index rows : List RowView) → Blocks limit bytes low index rows → KeysRiseAbove low index → All (λ r. IsTrue (is_at_most (key_or_empty (last_key low index)) r.0)) rows
 blocks_last limit bytes low [] rows b h = All-same (λ r. IsTrue (is_at_most (key_or_empty low) r.0)) rows [] b (All-nil (λ r. IsTrue (is_at_most (key_or_empty low) r.0)))
-blocks_last limit bytes low (e ∷ index) rows (hd, here, more, one, s, between, split, rest) h =
+blocks_last limit bytes low (e ∷ index) rows (here, more, n, split, rest) h =
     let last = key_or_empty (last_key (Some e.0) index) in
     let P = λ (r : RowView). IsTrue (is_at_most last r.0) in
-    let front = All-weaker (λ r. IsTrue (is_above low r.0) × IsTrue (is_at_most e.0 r.0)) P (λ r p. let q = at_most_trans r.0 e.0 last (not_true (is_before e.0 r.0) p.1) (last_behind e.0 index h.1) in ap not q) here between in
+    let front = All-weaker (λ r. IsTrue (is_above low r.0) × IsTrue (is_at_most e.0 r.0)) P (λ r p. let q = at_most_trans r.0 e.0 last (not_true (is_before e.0 r.0) p.1) (last_behind e.0 index h.1) in ap not q) here n.between in
     let back = blocks_last limit bytes (Some e.0) index more rest h.1 in
     All-same P rows (here ++ more) split (All-append P here more front back)
 
 pub table_last : (bytes : List ℕ) (rows : List RowView) (entries : List IndexEntry) (last : List ℕ) → (t : IsTable bytes rows) → (e : Entered bytes entries) → last ≡ key_or_empty (last_key None e.index) → All (λ r. IsTrue (is_at_most last r.0)) rows
 table_last bytes rows entries last t e l =
-    let limit = length bytes - 48 in
+    let limit = footer_at bytes in
     let blocks = subst (λ (i : List RowView). Blocks limit bytes None i rows) (index_once bytes rows entries t e) t.blocks in
     subst (λ (k : List ℕ). All (λ r. IsTrue (is_at_most k r.0)) rows) (sym l) (blocks_last limit bytes None e.index rows blocks (entered_rises bytes entries e))

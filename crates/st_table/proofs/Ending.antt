@@ -7,8 +7,8 @@ use Rattle.st_tblock.specs.Builder.{EntryBlockView, HasRows, block_size, block_t
 use Rattle.st_tblock.specs.Handles.{footer_text, footer_in, InRange}
 use Rattle.st_tblock.proofs.Finishing.{block_text_size}
 use Rattle.st_table.specs.TableFile.{IsTable, Stored}
-use Rattle.st_table.specs.TableBuilderView.{TableBuilderView, stored_text, metaindex, next_handle, ending_at, ending, closed, closing, finishing}
-use Rattle.st_table.specs.Builder.{Builds, Indexes, view_of}
+use Rattle.st_table.specs.TableBuilderView.{TableBuilderView, builder_view, stored_text, metaindex, next_handle, ending_at, ending, closed, closing, finishing}
+use Rattle.st_table.specs.Builder.{Builds, Indexes}
 use Rattle.st_table.proofs.StoredBlocks.{stored_size, stored_behind, blocks_longer}
 use Rattle.st_table.proofs.RowKeys.{held_none}
 use Rattle.st_table.proofs.Built.{Takes, index_row, closed_builds}
@@ -68,15 +68,18 @@ indexed_table at size index bytes rows e foot read good l x =
     let before : length ((bytes ++ sm) ++ si) ≡ length all - 48 = omega arith in
     let flat : all ≡ (bytes ++ sm) ++ (si ++ ft) = sym (append_assoc bytes sm (si ++ ft)) in
     let flatter : all ≡ ((bytes ++ sm) ++ si) ++ ft = flat ∙ sym (append_assoc (bytes ++ sm) si ft) in
-    let behind : drop (length all - 48) all ≡ ft = ap (drop (length all - 48)) flatter ∙ drop_at ((bytes ++ sm) ++ si) ft (length all - 48) before in
+    let after : drop (length all - 48) all ≡ ft = ap (drop (length all - 48)) flatter ∙ drop_at ((bytes ++ sm) ++ si) ft (length all - 48) before in
     let stored : Stored (length all - 48) ((bytes ++ sm) ++ (si ++ ft)) named x.entries = stored_behind (bytes ++ sm) text ft (length all - 48) (at + 13) size x.entries (good x.entries x.held) (sym body) same (omega arith) in
     record {
-      footer = omega arith;
-      meta = meta;
-      named = named;
-      handles = ap footer_in behind ∙ read;
       index = x.entries;
-      stored = subst (λ (xs : List ℕ). Stored (length all - 48) xs named x.entries) (sym flat) stored;
+      has =
+          record {
+            footer = omega arith;
+            meta = meta;
+            named = named;
+            handles = ap footer_in after ∙ read;
+            stored = subst (λ (xs : List ℕ). Stored (length all - 48) xs named x.entries) (sym flat) stored;
+          };
       blocks = blocks_longer (length bytes) (length all - 48) bytes (sm ++ (si ++ ft)) None x.entries rows (omega arith) (omega arith) x.blocks;
     }
 
@@ -88,7 +91,7 @@ builds_indexed k bytes rows e b =
     subst (λ (rs : List RowView). Indexes k.index bytes rs) all b.index
 
 -- what a builder stands for doesn't depend on the room that its rows took
-pub builds_at : (k : TableBuilderView) (bytes : List ℕ) (rows : List RowView) → Builds k bytes rows → Builds (view_of k.block k.index k.at) bytes rows
+pub builds_at : (k : TableBuilderView) (bytes : List ℕ) (rows : List RowView) → Builds k bytes rows → Builds (builder_view k.block k.index k.at 0) bytes rows
 builds_at k bytes rows b =
     record { done = b.done; here = b.here; split = b.split; at = b.at; index = b.index; block = b.block; above = b.above }
 

@@ -11,7 +11,8 @@ use Rattle.st_tblock.specs.Cursor.{Steps, damage_at, entry_damage}
 use Rattle.st_tblock.proofs.Following.{no_next}
 use Rattle.st_tblock.specs.declared.cursor.CursorErr.{CursorErr}
 use Rattle.st_tblock.specs.declared.cursor.CursorErr.TheVariants.{Damaged, NoMemory}
-use Rattle.st_table.specs.Errors.{Broken, err_view, NoCheckFailed, Repeats}
+use Rattle.st_table.specs.Errors.{err_view, NoCheckFailed, Repeats}
+use Rattle.st_table.specs.Errors as view
 use Rattle.st_table.specs.Rows.{StepsOn, RefusesEntry, entry_wrong, row_wrong, row_of}
 use Rattle.st_table.specs.declared.errors.TableErr.{TableErr}
 
@@ -36,7 +37,7 @@ stepped takes old new v key b s k t e =
     (x, s.1, s.2, pass, s.3)
 
 -- a step to a row that doesn't
-pub refused : (takes : RowView → Bool) (old new : EntryCursorView) (v : Bor (List ℕ)) (key : List ℕ) (b : Bool) (base : ℕ) (error : TableErr) → Steps old new (Ok (Some v)) → key ≡ key_or_empty new.reading.last → b ≡ takes (key, v.now) → b ≡ false → base ≡ old.base + old.reading.at → err_view error ≡ Broken (unmet base) → RefusesEntry takes old error
+pub refused : (takes : RowView → Bool) (old new : EntryCursorView) (v : Bor (List ℕ)) (key : List ℕ) (b : Bool) (base : ℕ) (error : TableErr) → Steps old new (Ok (Some v)) → key ≡ key_or_empty new.reading.last → b ≡ takes (key, v.now) → b ≡ false → base ≡ old.base + old.reading.at → err_view error ≡ view.Damaged (unmet base) → RefusesEntry takes old error
 refused takes old new v key b base error s k t e p r =
     let x = s.0 in
     let row : key ≡ key_of old.reading.last x.0 = k ∙ ap (λ (z : EntryCursorView). key_or_empty z.reading.last) s.3 in
@@ -44,7 +45,7 @@ refused takes old new v key b base error s k t e p r =
     let fail : takes (row_of old.reading x) ≡ false = ap takes (sym whole) ∙ sym t ∙ e in
     let wrong : entry_wrong takes old.base old.reading ≡ Some (unmet (old.base + old.reading.at)) =
     row_is_wrong takes old.base old.reading x s.1 ∙ ap (λ (c : Bool). if c then None else Some (unmet (old.base + old.reading.at))) fail in
-    inr (unmet (old.base + old.reading.at), wrong, r ∙ ap (λ (n : ℕ). Broken (unmet n)) p)
+    inr (unmet (old.base + old.reading.at), wrong, r ∙ ap (λ (n : ℕ). view.Damaged (unmet n)) p)
 
 -- a refusal of the cursor
 pub repeated : (takes : RowView → Bool) (old new : EntryCursorView) (error : CursorErr) (e : TableErr) → Steps old new (Err error) → Repeats error e → RefusesEntry takes old e

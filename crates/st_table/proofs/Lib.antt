@@ -18,6 +18,8 @@ pub mod Values
 pub mod Tables
 pub mod Marking
 pub mod Ranges
+pub mod Advancing
 pub mod Stepping
 pub mod Coming
 pub mod Naming
+pub mod Joining

@@ -87,7 +87,7 @@ pub gets_found : (limit : ℕ) (bytes key block text : List ℕ) (index : List R
 gets_found limit bytes key block text index entries marks n a h (Ok answer) f i d w m b t v o =
     let here = marked_at limit bytes None i.low index entries marks n i.entry h d i.here i.named m w in
     let good = subst (λ (xs : List ℕ). IsBlock xs here.0) (sym (t ∙ b.1)) (stored_is limit bytes h here.0 here.1).1 in
-    subst (Named limit bytes key answer) (sym (f ∙ i.here)) (h, here.0, i.named, here.1, here.2, v here.0 good)
+    subst (Named limit bytes key answer) (sym (f ∙ i.here)) (here.0, record { handle = h; named = i.named; stored = here.1; between = here.2 }, v here.0 good)
 gets_found limit bytes key block text index entries marks n a h (Err e) f i d w m b t v o =
     inl (subst NoCheckFailed (sym o) tt)
 

@@ -41,20 +41,20 @@ lookup_at low (q ∷ rows) (suc i) d h l =
 blocks_named : (limit : ℕ) (bytes : List ℕ) (index front passed rest rows : List RowView) → index ≡ front ++ (passed ++ rest) → KeysRiseAbove None index → Blocks limit bytes (last_key None front) passed rows → All (λ r. Named limit bytes r.0 (Some r.1) (entry_for r.0 None index)) rows
 blocks_named limit bytes index front [] rest rows s h b =
     All-same (λ r. Named limit bytes r.0 (Some r.1) (entry_for r.0 None index)) rows [] b (All-nil (λ r. Named limit bytes r.0 (Some r.1) (entry_for r.0 None index)))
-blocks_named limit bytes index front (e ∷ passed) rest rows s h (hd, here, more, one, stored, between, split, tail) =
+blocks_named limit bytes index front (e ∷ passed) rest rows s h (here, more, n, split, tail) =
     let P = λ (r : RowView). Named limit bytes r.0 (Some r.1) (entry_for r.0 None index) in
     let low = last_key None front in
     let rise = subst (KeysRiseAbove None) s h in
-    let good = (stored_is limit bytes hd here stored).1 in
+    let good = (stored_is limit bytes n.handle here n.stored).1 in
     let first : All P here =
     All-from_get_or P here ([], [])
     (λ i l.
     let r : RowView = get_or here i ([], []) in
-    let at = All-get_or (λ q. IsTrue (is_above low q.0) × IsTrue (is_at_most e.0 q.0)) here i ([], []) l between in
+    let at = All-get_or (λ q. IsTrue (is_above low q.0) × IsTrue (is_at_most e.0 q.0)) here i ([], []) l n.between in
     let found : entry_for r.0 None index ≡ Some (low, e) =
     ap (entry_for r.0 None) s ∙ entry_for_between r.0 None front e (passed ++ rest) rise at.0 (not_true (is_before e.0 r.0) at.1) in
     let value = lookup_at None here i ([], []) (good_rises _ here good) l in
-    subst (Named limit bytes r.0 (Some r.1)) (sym found) (hd, here, one, stored, between, sym value)) in
+    subst (Named limit bytes r.0 (Some r.1)) (sym found) (here, n, sym value)) in
     let next : index ≡ (front ++ e ∷ []) ++ (passed ++ rest) = s ∙ sym (append_assoc front (e ∷ []) (passed ++ rest)) in
     let key : last_key None (front ++ e ∷ []) ≡ Some e.0 = last_key-append None front (e ∷ []) in
     let later = blocks_named limit bytes index (front ++ e ∷ []) passed rest more next h (subst (λ (k : Option (List ℕ)). Blocks limit bytes k passed more) (sym key) tail) in
@@ -89,7 +89,7 @@ goes_named limit bytes index old new given h s g =
 pub steps_named : (limit : ℕ) (bytes : List ℕ) (index : List RowView) (old new : CursorView) (r : Result (Option RowView) TableErr) → KeysRiseAbove None index → HoldsNamed limit bytes index old → Steps limit bytes index old new r → HoldsNamed limit bytes index new × GivesNamed limit bytes index r
 steps_named limit bytes index old new (Ok (Some q)) h s g =
     let P = λ (r : RowView). Named limit bytes r.0 (Some r.1) (entry_for r.0 None index) in
-    let all = goes_named limit bytes index old new (q ∷ []) h s g in
+    let all = goes_named limit bytes index old new (q ∷ []) h s g.0 in
     (All-tail P q new.rows all, All-head P q new.rows all)
 steps_named limit bytes index old new (Ok None) h s (g, e, d) = (goes_named limit bytes index old new [] h s g, tt)
 steps_named limit bytes index old new (Err e) h s (g, f) = (goes_named limit bytes index old new [] h s g, tt)

@@ -6,7 +6,7 @@ use Rattle.st_base.specs.Damages.{DamageView}
 use Rattle.st_tblock.specs.Handles.{IsHandle, footer_in}
 use Rattle.st_tblock.specs.declared.handle.Handle.{Handle}
 use Rattle.st_tblock.proofs.Following.{one_reading}
-use Rattle.st_table.specs.TableFile.{IsTable, Stored, Blocks}
+use Rattle.st_table.specs.TableFile.{IsTable, Stored, Blocks, footer_at}
 
 -- a value is one handle
 one_handle : (value : List ℕ) (h g : Handle) → IsHandle value h → IsHandle value g → h ≡ g
@@ -26,11 +26,13 @@ one_block limit bytes h g rows others e s o =
 one_list : (limit : ℕ) (bytes : List ℕ) (low : Option (List ℕ)) (index rows others : List RowView) → Blocks limit bytes low index rows → Blocks limit bytes low index others → rows ≡ others
 one_list limit bytes low [] rows others b o = b ∙ sym o
 one_list limit bytes low (e ∷ index) rows others b o =
-    let handle = one_handle e.1 b.0 o.0 b.3 o.3 in
-    let here = one_block limit bytes b.0 o.0 b.1 o.1 handle b.4 o.4 in
-    let more = one_list limit bytes (Some e.0) index b.2 o.2 b.7 o.7 in
-    let same : b.1 ++ b.2 ≡ o.1 ++ o.2 = λ i. here i ++ more i in
-    b.6 ∙ same ∙ sym o.6
+    let n = b.2 in
+    let m = o.2 in
+    let handle = one_handle e.1 n.handle m.handle n.named m.named in
+    let here = one_block limit bytes n.handle m.handle b.0 o.0 handle n.stored m.stored in
+    let more = one_list limit bytes (Some e.0) index b.1 o.1 b.4 o.4 in
+    let same : b.0 ++ b.1 ≡ o.0 ++ o.1 = λ i. here i ++ more i in
+    b.3 ∙ same ∙ sym o.3
 
 -- a footer names one index
 one_footer : (bytes : List ℕ) (meta named m n : Handle) → footer_in bytes ≡ Ok (meta, named) → footer_in bytes ≡ Ok (m, n) → named ≡ n
@@ -41,7 +43,7 @@ one_footer bytes meta named m n p q =
 
 pub one_table : (bytes : List ℕ) (rows others : List RowView) → IsTable bytes rows → IsTable bytes others → others ≡ rows
 one_table bytes rows others t o =
-    let named = one_footer (drop (length bytes - 48) bytes) o.meta o.named t.meta t.named o.handles t.handles in
-    let index = one_block (length bytes - 48) bytes o.named t.named o.index t.index named o.stored t.stored in
-    let blocks : Blocks (length bytes - 48) bytes None t.index others = subst (λ (es : List RowView). Blocks (length bytes - 48) bytes None es others) index o.blocks in
-    one_list (length bytes - 48) bytes None t.index others rows blocks t.blocks
+    let named = one_footer (drop (footer_at bytes) bytes) o.has.meta o.has.named t.has.meta t.has.named o.has.handles t.has.handles in
+    let index = one_block (footer_at bytes) bytes o.has.named t.has.named o.index t.index named o.has.stored t.has.stored in
+    let blocks : Blocks (footer_at bytes) bytes None t.index others = subst (λ (es : List RowView). Blocks (footer_at bytes) bytes None es others) index o.blocks in
+    one_list (footer_at bytes) bytes None t.index others rows blocks t.blocks

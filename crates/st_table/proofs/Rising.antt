@@ -4,7 +4,7 @@ use Rattle.std.specs.Prelude.{IsTrue}
 use Rattle.std.proofs.lemmas.List.Elements.{All-nil, All-cons, All-head, All-tail, All-append, All-weaker, All-same}
 use Rattle.std.proofs.lemmas.List.Kept.{AllPairs-cons}
 use Rattle.st_tblock.specs.Block.{RowView, BlockReading, Rows, start, is_before, is_above, past}
-use Rattle.st_table.specs.TableFile.{IsTable, Blocks, is_at_most}
+use Rattle.st_table.specs.TableFile.{IsTable, Blocks, is_at_most, footer_at}
 use Rattle.st_table.specs.RowOrder.{KeysRise}
 use Rattle.st_table.proofs.KeyOrder.{before_trans, at_most_before}
 use Rattle.st_table.proofs.RowKeys.{next_above}
@@ -59,18 +59,19 @@ blocks_rise : (limit : ℕ) (bytes : List ℕ) (index rows : List RowView) (w v 
 blocks_rise limit bytes [] rows w v h b =
     (All-same (λ (r : RowView). IsTrue (is_above w.last r.0)) rows [] b (All-nil (λ (r : RowView). IsTrue (is_above w.last r.0))), subst RiseByCases (sym b) tt)
 blocks_rise limit bytes (e ∷ index) rows w v h b =
-    let here = b.1 in
-    let more = b.2 in
+    let here = b.0 in
+    let more = b.1 in
+    let names = b.2 in
     let low = next_above w v e index h in
-    let good = b.4.plain.good in
+    let good = names.stored.plain.good in
     let inner = rows_rise here (start good.text good.restarts) good.end good.entries in
-    let from = All-weaker (λ (r : RowView). IsTrue (is_above w.last r.0) × IsTrue (is_at_most e.0 r.0)) (λ (r : RowView). IsTrue (is_above w.last r.0)) (λ r p. p.0) here b.5 in
-    let most = All-weaker (λ (r : RowView). IsTrue (is_above w.last r.0) × IsTrue (is_at_most e.0 r.0)) (λ (r : RowView). IsTrue (is_at_most e.0 r.0)) (λ r p. p.1) here b.5 in
-    let behind : Blocks limit bytes (past w h.0).last index more = subst (λ (k : List ℕ). Blocks limit bytes (Some k) index more) (sym h.2) b.7 in
+    let from = All-weaker (λ (r : RowView). IsTrue (is_above w.last r.0) × IsTrue (is_at_most e.0 r.0)) (λ (r : RowView). IsTrue (is_above w.last r.0)) (λ r p. p.0) here names.between in
+    let most = All-weaker (λ (r : RowView). IsTrue (is_above w.last r.0) × IsTrue (is_at_most e.0 r.0)) (λ (r : RowView). IsTrue (is_at_most e.0 r.0)) (λ r p. p.1) here names.between in
+    let behind : Blocks limit bytes (past w h.0).last index more = subst (λ (k : List ℕ). Blocks limit bytes (Some k) index more) (sym h.2) b.4 in
     let tail = blocks_rise limit bytes index more (past w h.0) v h.4 behind in
     let above : Above (Some e.0) more = subst (λ (k : List ℕ). Above (Some k) more) h.2 tail.0 in
     let all : Above w.last (here ++ more) = All-append (λ (r : RowView). IsTrue (is_above w.last r.0)) here more from (above_lower w.last e.0 more low above) in
-    (subst (Above w.last) (sym b.6) all, subst RiseByCases (sym b.6) (rise_append e.0 here more inner most tail.1 above))
+    (subst (Above w.last) (sym b.3) all, subst RiseByCases (sym b.3) (rise_append e.0 here more inner most tail.1 above))
 
 -- rising, by place
 rise_pairs : (rows : List RowView) → RiseByCases rows → KeysRise rows
@@ -80,5 +81,5 @@ rise_pairs (r ∷ rows) h = AllPairs-cons Before r rows h.0 (rise_pairs rows h.1
 -- the keys of a table rise
 pub table_rises : (bytes : List ℕ) (rows : List RowView) → IsTable bytes rows → KeysRise rows
 table_rises bytes rows t =
-    let good = t.stored.plain.good in
-    rise_pairs rows (blocks_rise (length bytes - 48) bytes t.index rows (start good.text good.restarts) good.end good.entries t.blocks).1
+    let good = t.has.stored.plain.good in
+    rise_pairs rows (blocks_rise (footer_at bytes) bytes t.index rows (start good.text good.restarts) good.end good.entries t.blocks).1

@@ -5,10 +5,10 @@ use Rattle.std.proofs.lemmas.List.{drop-drop, drop_at, take_at}
 use Rattle.std.proofs.Math.Seq.{take-add}
 use Rattle.st_tblock.specs.Block.{RowView, is_before}
 use Rattle.st_tblock.specs.declared.handle.Handle.{Handle}
-use Rattle.st_table.specs.TableFile.{Between, Blocks}
+use Rattle.st_table.specs.TableFile.{Between, NamesBlock, Blocks}
 use Rattle.st_table.specs.RowOrder.{in_range, last_key}
 use Rattle.st_table.specs.IndexLookup.{first_after, found_at}
-use Rattle.st_table.specs.Cursor.{CursorView, Goes, IsDone, Fills, ReadsNext}
+use Rattle.st_table.specs.Cursor.{CursorView, Goes, Skips, IsDone, Fills, ReadsNext}
 use Rattle.st_tblock.specs.Block.{IsBlock}
 use Rattle.st_table.specs.Stored.{ReadsBlock}
 use Rattle.st_table.specs.Rows.{BoundsView, lies_in, RefusesBlock, KeepsRange}
@@ -28,12 +28,12 @@ last_key-append low [] ys = refl
 last_key-append low (x ∷ xs) ys = last_key-append (Some x.0) xs ys
 
 -- blocks of two parts of an index
-blocks-append : (limit : ℕ) (bytes : List ℕ) (low : Option (List ℕ)) (xs ys rows more : List RowView) → Blocks limit bytes low xs rows → Blocks limit bytes (last_key low xs) ys more → Blocks limit bytes low (xs ++ ys) (rows ++ more)
+pub blocks-append : (limit : ℕ) (bytes : List ℕ) (low : Option (List ℕ)) (xs ys rows more : List RowView) → Blocks limit bytes low xs rows → Blocks limit bytes (last_key low xs) ys more → Blocks limit bytes low (xs ++ ys) (rows ++ more)
 blocks-append limit bytes low [] ys rows more b c =
     subst (λ (r : List RowView). Blocks limit bytes low ys (r ++ more)) (sym b) c
-blocks-append limit bytes low (e ∷ xs) ys rows more (h, here, rest, one, s, between, split, tail) c =
+blocks-append limit bytes low (e ∷ xs) ys rows more (here, rest, n, split, tail) c =
     let both : rows ++ more ≡ here ++ (rest ++ more) = ap (λ (r : List RowView). r ++ more) split ∙ append_assoc here rest more in
-    (h, here, rest ++ more, one, s, between, both, blocks-append limit bytes (Some e.0) xs ys rest more tail c)
+    (here, rest ++ more, n, both, blocks-append limit bytes (Some e.0) xs ys rest more tail c)
 
 -- and taken apart
 pub record Parts (limit : ℕ) (bytes : List ℕ) (low : Option (List ℕ)) (xs ys rows : List RowView) : Type 0 where
@@ -45,17 +45,17 @@ pub record Parts (limit : ℕ) (bytes : List ℕ) (low : Option (List ℕ)) (xs 
 
 pub blocks-split : (limit : ℕ) (bytes : List ℕ) (low : Option (List ℕ)) (xs ys rows : List RowView) → Blocks limit bytes low (xs ++ ys) rows → Parts limit bytes low xs ys rows
 blocks-split limit bytes low [] ys rows b = record { front = []; back = rows; split = refl; first = refl; second = b }
-blocks-split limit bytes low (e ∷ xs) ys rows (h, here, rest, one, s, between, split, tail) =
+blocks-split limit bytes low (e ∷ xs) ys rows (here, rest, n, split, tail) =
     let p = blocks-split limit bytes (Some e.0) xs ys rest tail in
     let both : rows ≡ (here ++ p.front) ++ p.back =
     split ∙ ap (λ (r : List RowView). here ++ r) p.split ∙ sym (append_assoc here p.front p.back) in
-    record { front = here ++ p.front; back = p.back; split = both; first = (h, here, p.front, one, s, between, refl, p.first); second = p.second }
+    record { front = here ++ p.front; back = p.back; split = both; first = (here, p.front, n, refl, p.first); second = p.second }
 
 -- an index names one list of rows
 pub blocks_once : (limit : ℕ) (bytes : List ℕ) (low : Option (List ℕ)) (index rows others : List RowView) → Blocks limit bytes low index rows → Blocks limit bytes low index others → rows ≡ others
 blocks_once limit bytes low [] rows others b c = b ∙ sym c
-blocks_once limit bytes low (e ∷ index) rows others (h, here, rest, one, s, between, split, tail) (k, there, more, two, t, among, cut, end) =
-    let same = stored_once limit bytes h k here there (handle_once e.1 h k one two) s t in
+blocks_once limit bytes low (e ∷ index) rows others (here, rest, n, split, tail) (there, more, m, cut, end) =
+    let same = stored_once limit bytes n.handle m.handle here there (handle_once e.1 n.handle m.handle n.named m.named) n.stored m.stored in
     let tails = blocks_once limit bytes (Some e.0) index rest more tail end in
     split ∙ ap (λ (r : List RowView). r ++ rest) same ∙ ap (λ (r : List RowView). there ++ r) tails ∙ sym cut
 
@@ -110,20 +110,21 @@ first_is low low' (r ∷ rest) e h =
     (ap (λ (x : Option (List ℕ) × RowView). x.0) inner, (rest, ap (λ (x : Option (List ℕ) × RowView). x.1 ∷ rest) inner))
 
 pub goes_on : (limit : ℕ) (bytes : List ℕ) (index : List RowView) (first old new : CursorView) → Goes limit bytes index first old [] → old.rows ≡ [] → Fills {T = Unit {0}} limit bytes index old new (Ok (tt {0})) → Goes limit bytes index first new []
-goes_on limit bytes index first old new g n ((low, e, h, rows, at, one, s, between, kept), low_is, high_is, next_is) =
+goes_on limit bytes index first old new g n ((low, e, rows, at, block, kept), low_is, high_is, next_is) =
     let base = last_key None (take first.next index) in
     let here : first_after (last_key base g.passed) g.rest ≡ Some (low, e) =
     sym (rest_at index g.passed g.rest first.next g.split) ∙ ap (found_at index) (sym g.next) ∙ at in
     let cut = first_is (last_key base g.passed) low g.rest e here in
-    let block : Blocks limit bytes (last_key base g.passed) (e ∷ []) rows =
-    (h, rows, [], one, s, subst (λ (k : Option (List ℕ)). Between k e.0 rows) (sym cut.0) between, sym (append-nil rows), refl) in
+    let names = subst (λ (k : Option (List ℕ)). NamesBlock limit bytes k e rows) (sym cut.0) block in
+    let last : Blocks limit bytes (last_key base g.passed) (e ∷ []) rows =
+    (rows, [], names, sym (append-nil rows), refl) in
     record {
       passed = g.passed ++ e ∷ [];
       rest = cut.1.0;
       read = g.read ++ rows;
       split = g.split ∙ ap (λ (xs : List RowView). g.passed ++ xs) cut.1.1 ∙ sym (append_assoc g.passed (e ∷ []) cut.1.0);
       next = next_is ∙ simp length-append (let m = g.next in omega arith);
-      blocks = blocks-append limit bytes base g.passed (e ∷ []) g.read rows g.blocks block;
+      blocks = blocks-append limit bytes base g.passed (e ∷ []) g.read rows g.blocks last;
       low = low_is ∙ g.low;
       high = high_is ∙ g.high;
       rows =
@@ -138,13 +139,18 @@ goes_on limit bytes index first old new g n ((low, e, h, rows, at, one, s, betwe
 pub goes_still : (limit : ℕ) (bytes : List ℕ) (index : List RowView) (first old new : CursorView) → Goes limit bytes index first old [] → new ≡ old → Goes limit bytes index first new []
 goes_still limit bytes index first old new g e = subst (λ (c : CursorView). Goes limit bytes index first c []) (sym e) g
 
+-- a row at hand passes no block
+pub skips_same : (limit : ℕ) (bytes : List ℕ) (index : List RowView) (first old new : CursorView) → new.next ≡ old.next → Skips limit bytes index first old → Skips limit bytes index first new
+skips_same limit bytes index first old new n (inl e) = inl (n ∙ e)
+skips_same limit bytes index first old new n (inr (last, g, none, e)) = inr (last, g, none, n ∙ e)
+
 -- what is read of a block, or why it is refused
 pub next_read : {V : Type 0} (items : V → List RowView) (r : Result V TableErr) (limit : ℕ) (bytes block text : List ℕ) (index : List RowView) (next : ℕ) (a : BoundsView) (h : Handle) (low high : List ℕ) → limit ≤ length bytes → IsBlockAt index next a h → ReadsBlock {T = Unit {0}} limit bytes h block (Ok (tt {0})) → text ≡ block → MatchResult r (λ v. KeepsRange (lies_in a) text low high (items v)) (λ e. RefusesBlock (lies_in a) h.offset text e) → MatchResult r (λ v. ReadsNext limit bytes index next low high (items v)) (λ e. RefusesNext limit bytes index next e)
 next_read items (Ok v) limit bytes block text index next a h low high l i b t k =
     let good = subst (λ (xs : List ℕ). IsBlock xs k.0) (t ∙ b.1) k.1 in
     let stored = is_stored limit bytes h k.0 l b.0 good in
     let between = subst (λ (x : BoundsView). Between x.low x.high k.0) i.keys (between_is a k.0 k.2) in
-    (i.low, i.entry, h, k.0, i.here, i.named, stored, between, k.3)
+    (i.low, i.entry, k.0, i.here, record { handle = h; named = i.named; stored = stored; between = between }, k.3)
 next_read items (Err e) limit bytes block text index next a h low high l i b t r =
     let refuses = subst (λ (xs : List ℕ). RefusesBlock (lies_in a) h.offset xs e) (t ∙ b.1) r in
     inr (a, h, i, inr (inr (b.0, refuses)))
@@ -159,8 +165,8 @@ done_behind index next k high b e t n = inr (k, sym e, sym t ∙ not_true b n)
 
 -- the same of equal numbers and keys
 pub next_same : (limit : ℕ) (bytes : List ℕ) (index : List RowView) (next next' : ℕ) (low low' high high' : List ℕ) (kept : List RowView) → next ≡ next' → low ≡ low' → high ≡ high' → ReadsNext limit bytes index next low high kept → ReadsNext limit bytes index next' low' high' kept
-next_same limit bytes index next next' low low' high high' kept n l h (k, e, hd, rows, at, one, s, between, is) =
-    (k, e, hd, rows, ap (found_at index) (sym n) ∙ at, one, s, between, is ∙ (λ i. in_range (l i) (h i) rows))
+next_same limit bytes index next next' low low' high high' kept n l h (k, e, rows, at, block, is) =
+    (k, e, rows, ap (found_at index) (sym n) ∙ at, block, is ∙ (λ i. in_range (l i) (h i) rows))
 
 pub refuses_same : (limit : ℕ) (bytes : List ℕ) (index : List RowView) (next next' : ℕ) (e : TableErr) → next ≡ next' → RefusesNext limit bytes index next e → RefusesNext limit bytes index next' e
 refuses_same limit bytes index next next' e n r = subst (λ (k : ℕ). RefusesNext limit bytes index k e) n r

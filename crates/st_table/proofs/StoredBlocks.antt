@@ -8,7 +8,7 @@ use Rattle.st_tblock.specs.Block.{RowView, IsBlock}
 use Rattle.st_tblock.specs.Handles.{IsHandle}
 use Rattle.st_tblock.specs.declared.handle.Handle.{Handle}
 use Rattle.st_tblock.proofs.Following.{last_of}
-use Rattle.st_table.specs.TableFile.{sum_of, IsStoredBlock, Stored, Between, Blocks}
+use Rattle.st_table.specs.TableFile.{sum_of, IsStoredBlock, Stored, Between, NamesBlock, Blocks}
 use Rattle.st_table.specs.TableBuilderView.{stored_text, next_handle}
 
 -- a sum fits four bytes
@@ -66,11 +66,13 @@ stored_longer limit more bytes ys h rows l m s =
 pub blocks_longer : (limit more : ℕ) (bytes ys : List ℕ) (low : Option (List ℕ)) (index rows : List RowView) → limit ≤ length bytes → limit ≤ more → Blocks limit bytes low index rows → Blocks more (bytes ++ ys) low index rows
 blocks_longer limit more bytes ys low [] rows l m b = b
 blocks_longer limit more bytes ys low (e ∷ index) rows l m b =
-    (b.0, b.1, b.2, b.3, stored_longer limit more bytes ys b.0 b.1 l m b.4, b.5, b.6, blocks_longer limit more bytes ys (Some e.0) index b.2 l m b.7)
+    let n = b.2 in
+    let names : NamesBlock more (bytes ++ ys) low e b.0 = record { handle = n.handle; named = n.named; stored = stored_longer limit more bytes ys n.handle b.0 l m n.stored; between = n.between } in
+    (b.0, b.1, names, b.3, blocks_longer limit more bytes ys (Some e.0) index b.1 l m b.4)
 
 -- one block more
 pub blocks_push : (limit : ℕ) (bytes : List ℕ) (low : Option (List ℕ)) (index rows : List RowView) (e : RowView) (h : Handle) (here : List RowView) → Blocks limit bytes low index rows → IsHandle e.1 h → Stored limit bytes h here → Between (last_of low index) e.0 here → Blocks limit bytes low (index ++ e ∷ []) (rows ++ here)
 blocks_push limit bytes low [] rows e h here b named s k =
-    (h, here, [], named, s, k, ap (λ (rs : List RowView). rs ++ here) b ∙ sym (append-nil here), refl)
+    (here, [], record { handle = h; named = named; stored = s; between = k }, ap (λ (rs : List RowView). rs ++ here) b ∙ sym (append-nil here), refl)
 blocks_push limit bytes low (x ∷ index) rows e h here b named s k =
-    (b.0, b.1, b.2 ++ here, b.3, b.4, b.5, ap (λ (rs : List RowView). rs ++ here) b.6 ∙ append_assoc b.1 b.2 here, blocks_push limit bytes (Some x.0) index b.2 e h here b.7 named s k)
+    (b.0, b.1 ++ here, b.2, ap (λ (rs : List RowView). rs ++ here) b.3 ∙ append_assoc b.0 b.1 here, blocks_push limit bytes (Some x.0) index b.1 e h here b.4 named s k)

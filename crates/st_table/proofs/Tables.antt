@@ -9,7 +9,7 @@ use Rattle.st_tblock.specs.Cursor.{damage_at}
 use Rattle.st_tblock.specs.Handles.{IsHandle}
 use Rattle.st_tblock.specs.declared.handle.Handle.{Handle}
 use Rattle.st_tblock.proofs.Following.{no_next, prefix_of_block, one_reading}
-use Rattle.st_table.specs.TableFile.{Stored, Blocks, IsTable, is_at_most}
+use Rattle.st_table.specs.TableFile.{Stored, Blocks, IsTable, is_at_most, footer_at}
 use Rattle.st_tblock.specs.Lookup.{lookup}
 use Rattle.st_table.specs.IndexLookup.{entry_for}
 use Rattle.st_table.specs.Errors.{TableErrView, err_view, NoCheckFailed}
@@ -110,75 +110,75 @@ stop_behind key (r ∷ here) more a =
 -- the rows of blocks lie above the key that their index rises from
 pub blocks_above : (limit : ℕ) (bytes k : List ℕ) (index rows : List RowView) → Blocks limit bytes (Some k) index rows → KeysRiseAbove (Some k) index → All (λ r. is_before k r.0 ≡ true) rows
 blocks_above limit bytes k [] rows b h = All-same (λ r. is_before k r.0 ≡ true) rows [] b (All-nil (λ r. is_before k r.0 ≡ true))
-blocks_above limit bytes k (e ∷ index) rows (hd, here, more, n, s, between, split, rest) h =
-    let front = All-weaker (λ r. IsTrue (is_before k r.0) × IsTrue (is_at_most e.0 r.0)) (λ r. is_before k r.0 ≡ true) (λ r p. p.0) here between in
+blocks_above limit bytes k (e ∷ index) rows (here, more, n, split, rest) h =
+    let front = All-weaker (λ r. IsTrue (is_before k r.0) × IsTrue (is_at_most e.0 r.0)) (λ r. is_before k r.0 ≡ true) (λ r p. p.0) here n.between in
     let tail = All-weaker (λ r. is_before e.0 r.0 ≡ true) (λ r. is_before k r.0 ≡ true) (λ r p. before_trans k e.0 r.0 h.0 p) more (blocks_above limit bytes e.0 index more rest h.1) in
     All-same (λ r. is_before k r.0 ≡ true) rows (here ++ more) split (All-append (λ r. is_before k r.0 ≡ true) here more front tail)
 
 -- a key's value stands in the block that the index names for it, or nowhere
 pub value_is : (limit : ℕ) (bytes key : List ℕ) (low : Option (List ℕ)) (index rows : List RowView) (answer : Option (List ℕ)) → Blocks limit bytes low index rows → KeysRiseAbove low index → Named limit bytes key answer (entry_for key low index) → answer ≡ lookup key rows
 value_is limit bytes key low [] rows answer b h n = n ∙ ap (lookup key) (sym b)
-value_is limit bytes key low (e ∷ index) rows answer (hd, here, more, one, s, between, split, rest) h n =
+value_is limit bytes key low (e ∷ index) rows answer (here, more, names, split, rest) h n =
     either (is_before e.0 key) refl n (value_is limit bytes key (Some e.0) index more answer rest h.1) ∙ ap (lookup key) (sym split)
   where
     either : (b : Bool) → is_before e.0 key ≡ b → Named limit bytes key answer (if b then entry_for key (Some e.0) index else Some (low, e)) → (Named limit bytes key answer (entry_for key (Some e.0) index) → answer ≡ lookup key more) → answer ≡ lookup key (here ++ more)
     either true t m next =
-        let below = All-weaker (λ r. IsTrue (is_above low r.0) × IsTrue (is_at_most e.0 r.0)) (λ r. is_before r.0 key ≡ true) (λ r p. at_most_before r.0 e.0 key (not_true (is_before e.0 r.0) p.1) t) here between in
+        let below = All-weaker (λ r. IsTrue (is_above low r.0) × IsTrue (is_at_most e.0 r.0)) (λ r. is_before r.0 key ≡ true) (λ r p. at_most_before r.0 e.0 key (not_true (is_before e.0 r.0) p.1) t) here names.between in
         next m ∙ sym (skip_before key here more below)
-    either false t (k, there, two, u, between', a) next =
-        let same = stored_once limit bytes hd k here there (handle_once e.1 hd k one two) s u in
+    either false t (there, m, a) next =
+        let same = stored_once limit bytes names.handle m.handle here there (handle_once e.1 names.handle m.handle names.named m.named) names.stored m.stored in
         let above = All-weaker (λ r. is_before e.0 r.0 ≡ true) (λ r. is_before key r.0 ≡ true) (λ r p. at_most_before key e.0 r.0 t p) more (blocks_above limit bytes e.0 index more rest h.1) in
         a ∙ ap (lookup key) (sym same) ∙ sym (stop_behind key here more above)
 
 -- and that block is refused only by the outside
 pub named_stands : (limit : ℕ) (bytes key : List ℕ) (low : Option (List ℕ)) (index rows : List RowView) (e : TableErr) → Blocks limit bytes low index rows → RefusesNamed limit bytes (entry_for key low index) e → NoCheckFailed e
 named_stands limit bytes key low [] rows e b n = absurd n
-named_stands limit bytes key low (r ∷ index) rows e (hd, here, more, one, s, between, split, rest) n =
+named_stands limit bytes key low (r ∷ index) rows e (here, more, names, split, rest) n =
     either (is_before r.0 key) n (named_stands limit bytes key (Some r.0) index more e rest)
   where
     either : (b : Bool) → RefusesNamed limit bytes (if b then entry_for key (Some r.0) index else Some (low, r)) e → (RefusesNamed limit bytes (entry_for key (Some r.0) index) e → NoCheckFailed e) → NoCheckFailed e
     either true m next = next m
     either false (k, two, refuses) next =
-        let same = handle_once r.1 hd k one two in
-        let there = subst (λ (x : Handle). Stored limit bytes x here) same s in
-        stored_stands (lies_in (around (low, r))) limit bytes k here e there (is_between low r.0 here between) refuses
+        let same = handle_once r.1 names.handle k names.named two in
+        let there = subst (λ (x : Handle). Stored limit bytes x here) same names.stored in
+        stored_stands (lies_in (around (low, r))) limit bytes k here e there (is_between low r.0 here names.between) refuses
 
 -- a table has one index
 pub index_once : (bytes : List ℕ) (rows : List RowView) (entries : List IndexEntry) → (t : IsTable bytes rows) → (n : Entered bytes entries) → t.index ≡ n.index
 index_once bytes rows entries t n =
-    let both : ◌≡◌ {A = Result (Handle × Handle) DamageView} (Ok (t.meta, t.named)) (Ok (n.meta, n.named)) = sym t.handles ∙ n.handles in
-    let inner : ◌≡◌ {A = Handle × Handle} (t.meta, t.named) (n.meta, n.named) = cc in
-    stored_once (length bytes - 48) bytes t.named n.named t.index n.index (ap (λ (x : Handle × Handle). x.1) inner) t.stored n.stored
+    let both : ◌≡◌ {A = Result (Handle × Handle) DamageView} (Ok (t.has.meta, t.has.named)) (Ok (n.has.meta, n.has.named)) = sym t.has.handles ∙ n.has.handles in
+    let inner : ◌≡◌ {A = Handle × Handle} (t.has.meta, t.has.named) (n.has.meta, n.has.named) = cc in
+    stored_once (footer_at bytes) bytes t.has.named n.has.named t.index n.index (ap (λ (x : Handle × Handle). x.1) inner) t.has.stored n.has.stored
 
 -- the keys of an index rise
 pub entered_rises : (bytes : List ℕ) (entries : List IndexEntry) → (n : Entered bytes entries) → KeysRiseAbove None n.index
-entered_rises bytes entries n = good_rises _ n.index (stored_is (length bytes - 48) bytes n.named n.index n.stored).1
+entered_rises bytes entries n = good_rises _ n.index (stored_is (footer_at bytes) bytes n.has.named n.index n.has.stored).1
 
 -- so what the index says of a key over a table is the row's value
-pub gets_row : (bytes key : List ℕ) (rows : List RowView) (entries : List IndexEntry) (r : Result (Option (List ℕ)) TableErr) → (t : IsTable bytes rows) → (n : Entered bytes entries) → Gets (length bytes - 48) bytes key n.index r → GetsRow key rows r
+pub gets_row : (bytes key : List ℕ) (rows : List RowView) (entries : List IndexEntry) (r : Result (Option (List ℕ)) TableErr) → (t : IsTable bytes rows) → (n : Entered bytes entries) → Gets (footer_at bytes) bytes key n.index r → GetsRow key rows r
 gets_row bytes key rows entries (Ok answer) t n g =
-    let blocks = subst (λ (i : List RowView). Blocks (length bytes - 48) bytes None i rows) (index_once bytes rows entries t n) t.blocks in
-    value_is (length bytes - 48) bytes key None n.index rows answer blocks (entered_rises bytes entries n) g
+    let blocks = subst (λ (i : List RowView). Blocks (footer_at bytes) bytes None i rows) (index_once bytes rows entries t n) t.blocks in
+    value_is (footer_at bytes) bytes key None n.index rows answer blocks (entered_rises bytes entries n) g
 gets_row bytes key rows entries (Err e) t n (inl o) = o
 gets_row bytes key rows entries (Err e) t n (inr g) =
-    let blocks = subst (λ (i : List RowView). Blocks (length bytes - 48) bytes None i rows) (index_once bytes rows entries t n) t.blocks in
-    named_stands (length bytes - 48) bytes key None n.index rows e blocks g
+    let blocks = subst (λ (i : List RowView). Blocks (footer_at bytes) bytes None i rows) (index_once bytes rows entries t n) t.blocks in
+    named_stands (footer_at bytes) bytes key None n.index rows e blocks g
 
 -- each entry of an index that names blocks is one handle
 blocks_handles : (limit : ℕ) (bytes : List ℕ) (low : Option (List ℕ)) (index rows : List RowView) → Blocks limit bytes low index rows → All (λ r. IsTrue (holds_handle r)) index
 blocks_handles limit bytes low [] rows b = All-nil (λ r. IsTrue (holds_handle r))
-blocks_handles limit bytes low (e ∷ index) rows (h, here, more, one, s, between, split, rest) =
-    All-cons (λ r. IsTrue (holds_handle r)) e index (handle_passes e.1 h one) (blocks_handles limit bytes (Some e.0) index more rest)
+blocks_handles limit bytes low (e ∷ index) rows (here, more, n, split, rest) =
+    All-cons (λ r. IsTrue (holds_handle r)) e index (handle_passes e.1 n.handle n.named) (blocks_handles limit bytes (Some e.0) index more rest)
 
 -- over a table nothing but the outside is in the way of entering it
 pub table_entered : (bytes : List ℕ) (rows : List RowView) (e : TableErr) → IsTable bytes rows → RefusesTable bytes e → NoCheckFailed e
 table_entered bytes rows e t (inl o) = o
 table_entered bytes rows e t (inr (inl w)) =
-    let some : nat_lt (length bytes) 48 ≡ false = let l = t.footer in grind (arith, nat_tests) in
-    let none : footer_wrong bytes ≡ None = rw some (ap (moved (length bytes - 48)) t.handles) in
+    let some : nat_lt (length bytes) 48 ≡ false = let l = t.has.footer in grind (arith, nat_tests) in
+    let none : footer_wrong bytes ≡ None = rw some (ap (moved (footer_at bytes)) t.has.handles) in
     absurd (let both : ◌≡◌ {A = Option TableErrView} None (Some (err_view e)) = sym none ∙ w in cc)
 table_entered bytes rows e t (inr (inr (named, f, refuses))) =
-    let both : ◌≡◌ {A = Result (Handle × Handle) DamageView} (Ok (t.meta, t.named)) (Ok (f.1.0, named)) = sym t.handles ∙ f.1.1 in
-    let inner : ◌≡◌ {A = Handle × Handle} (t.meta, t.named) (f.1.0, named) = cc in
-    let stored = subst (λ (h : Handle). Stored (length bytes - 48) bytes h t.index) (ap (λ (x : Handle × Handle). x.1) inner) t.stored in
-    stored_stands holds_handle (length bytes - 48) bytes named t.index e stored (blocks_handles (length bytes - 48) bytes None t.index rows t.blocks) refuses
+    let both : ◌≡◌ {A = Result (Handle × Handle) DamageView} (Ok (t.has.meta, t.has.named)) (Ok (f.1.0, named)) = sym t.has.handles ∙ f.1.1 in
+    let inner : ◌≡◌ {A = Handle × Handle} (t.has.meta, t.has.named) (f.1.0, named) = cc in
+    let stored = subst (λ (h : Handle). Stored (footer_at bytes) bytes h t.index) (ap (λ (x : Handle × Handle). x.1) inner) t.has.stored in
+    stored_stands holds_handle (footer_at bytes) bytes named t.index e stored (blocks_handles (footer_at bytes) bytes None t.index rows t.blocks) refuses

@@ -61,7 +61,7 @@ gets_value limit bytes key block text index n a h (Ok answer) l f i b t v =
     let good = subst (λ (xs : List ℕ). IsBlock xs v.0) (t ∙ b.1) v.1 in
     let stored = is_stored limit bytes h v.0 l b.0 good in
     let between = subst (λ (k : BoundsView). Between k.low k.high v.0) i.keys (between_is a v.0 v.2) in
-    subst (Named limit bytes key answer) (sym (f ∙ i.here)) (h, v.0, i.named, stored, between, v.3)
+    subst (Named limit bytes key answer) (sym (f ∙ i.here)) (v.0, record { handle = h; named = i.named; stored = stored; between = between }, v.3)
 gets_value limit bytes key block text index n a h (Err e) l f i b t v =
     let refuses = subst (λ (xs : List ℕ). RefusesBlock (lies_in a) h.offset xs e) (t ∙ b.1) v in
     let here = subst (λ (k : BoundsView). RefusesBlock (lies_in k) h.offset (take h.size (drop h.offset bytes)) e) i.keys refuses in

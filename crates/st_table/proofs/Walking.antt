@@ -9,7 +9,8 @@ use Rattle.st_tblock.specs.Cursor.{Begins}
 use Rattle.st_tblock.proofs.Adding.{rows_push}
 use Rattle.st_tblock.proofs.Longer.{rising_some}
 use Rattle.st_base.specs.declared.damages.Damage.{Damage}
-use Rattle.st_table.specs.Errors.{Broken, err_view}
+use Rattle.st_table.specs.Errors.{err_view}
+use Rattle.st_table.specs.Errors as view
 use Rattle.st_table.specs.Rows.{HasRead, RefusesBlock, RefusesEntry, entry_wrong, row_of}
 use Rattle.st_table.specs.declared.errors.TableErr.{TableErr}
 use Rattle.st_tblock.proofs.Order.{before_trans}
@@ -21,8 +22,8 @@ begun takes block base s h =
     (record { text = h.0.0; restarts = h.0.1; split = h.1; entries = sym reading; pass = search rules }, ap (λ (t : EntryCursorView). t.base) h.2)
 
 -- or the restarts are wrong
-pub not_begun : (takes : RowView → Bool) (block : List ℕ) (base : ℕ) (d : Damage) (e : TableErr) → Begins block base (Err d) → err_view e ≡ Broken (damage_view d) → RefusesBlock takes base block e
-not_begun takes block base d e h r = inr (unmet base, inl (h.0, refl), r ∙ ap Broken h.1)
+pub not_begun : (takes : RowView → Bool) (block : List ℕ) (base : ℕ) (d : Damage) (e : TableErr) → Begins block base (Err d) → err_view e ≡ view.Damaged (damage_view d) → RefusesBlock takes base block e
+not_begun takes block base d e h r = inr (unmet base, inl (h.0, refl), r ∙ ap view.Damaged h.1)
 
 -- a step goes behind one more row
 pub has_read_on : (takes : RowView → Bool) (block : List ℕ) (w v : BlockReading) (rows : List RowView) (x : Entry × List ℕ) → HasRead takes block w rows → next_in w ≡ Some x → IsTrue (takes (row_of w x)) → v ≡ past w x → HasRead takes block v (rows ++ row_of w x ∷ [])

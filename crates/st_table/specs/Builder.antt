@@ -18,10 +18,6 @@ later_key low (Some key) = Some key
 abbrev pub last_added : TableBuilderView → Option (List ℕ)
 last_added k = later_key k.index.last k.block.last
 
--- a builder of these parts, whatever room its rows took
-abbrev pub view_of : EntryBlockView → EntryBlockView → ℕ → TableBuilderView
-view_of block index at = record { block = block; index = index; at = at; spent = 0 }
-
 -- the row may be added: its key is above the last one and not too long, its value's length fits 32
 -- bits, and there is room
 pub record MayAdd (k : TableBuilderView) (r : RowView) : Type 0 where

@@ -5,12 +5,13 @@ use Rattle.st_tblock.specs.Block.{RowView, Entry, IsBlock, next_in, key_of, past
 use Rattle.st_tblock.specs.EntryCursorView.{EntryCursorView, past_entry}
 use Rattle.st_tblock.specs.Handles.{handle_in, IsHandle, footer_in}
 use Rattle.st_tblock.specs.Parsing.{Read}
+use Rattle.st_tblock.specs.declared.format.TheConstants.{FOOTER_SIZE}
 use Rattle.st_tblock.specs.declared.handle.Handle.{Handle}
-use Rattle.st_table.specs.Errors.{TableErrView, Broken, err_view, NoCheckFailed}
+use Rattle.st_table.specs.Errors.{TableErrView, Damaged, err_view, NoCheckFailed}
 use Rattle.st_table.specs.IndexLookup.{found_at}
 use Rattle.st_table.specs.Rows.{RefusesBlock, RefusesEntry, BoundsView}
 use Rattle.st_table.specs.Stored.{stored_wrong}
-use Rattle.st_table.specs.TableFile.{Stored}
+use Rattle.st_table.specs.TableFile.{HasIndex, footer_at}
 use Rattle.st_table.specs.declared.errors.TableErr.{TableErr}
 use Rattle.st_table.specs.declared.index.IndexEntry.{IndexEntry}
 
@@ -50,27 +51,24 @@ RefusesStored takes limit bytes h e =
 -- the first check of a footer that fails, with its place in the file
 abbrev pub moved : ℕ → Result (Handle × Handle) DamageView → Option TableErrView
 moved at (Ok x) = None
-moved at (Err f) = Some (Broken (record { place = at + f.place; found = f.found; want = f.want }))
+moved at (Err f) = Some (Damaged (record { place = at + f.place; found = f.found; want = f.want }))
 
 -- what is wrong with where a table's footer stands, or with its bytes
 abbrev pub footer_wrong : List ℕ → Option TableErrView
 footer_wrong bytes =
-    if nat_lt (length bytes) 48 then Some (Broken (record { place = 0; found = length bytes; want = 48 }))
-    else moved (length bytes - 48) (footer_in (drop (length bytes - 48) bytes))
+    if nat_lt (length bytes) FOOTER_SIZE then
+    Some (Damaged (record { place = 0; found = length bytes; want = FOOTER_SIZE }))
+    else moved (footer_at bytes) (footer_in (drop (footer_at bytes) bytes))
 
 -- the handle of the index block, from a table's footer
 abbrev pub ReadsFooter : List ℕ → Result Handle TableErr → Type 0
-ReadsFooter bytes (Ok h) = (48 ≤ length bytes) × ((meta : Handle) × (footer_in (drop (length bytes - 48) bytes) ≡ Ok (meta, h)))
+ReadsFooter bytes (Ok h) = (FOOTER_SIZE ≤ length bytes) × ((meta : Handle) × (footer_in (drop (footer_at bytes) bytes) ≡ Ok (meta, h)))
 ReadsFooter bytes (Err e) = NoCheckFailed e ⊎ (footer_wrong bytes ≡ Some (err_view e))
 
 -- these entries are those of the index block that the footer names, and both passed their checks
 pub record Entered (bytes : List ℕ) (entries : List IndexEntry) : Type 0 where
-  pub footer : 48 ≤ length bytes
-  pub meta : Handle
-  pub named : Handle
-  pub handles : footer_in (drop (length bytes - 48) bytes) ≡ Ok (meta, named)
   pub index : List RowView
-  pub stored : Stored (length bytes - 48) bytes named index
+  pub has : HasIndex bytes index
   pub decoded : Decodes index entries
 
 -- a refusal of a table: the outside, or the first check that fails, of its footer or then of its index block
@@ -78,7 +76,7 @@ abbrev pub RefusesTable : List ℕ → TableErr → Type 0
 RefusesTable bytes e =
     NoCheckFailed e
     ⊎ ((footer_wrong bytes ≡ Some (err_view e))
-    ⊎ ((named : Handle) × ReadsFooter bytes (Ok named) × RefusesStored holds_handle (length bytes - 48) bytes named e))
+    ⊎ ((named : Handle) × ReadsFooter bytes (Ok named) × RefusesStored holds_handle (footer_at bytes) bytes named e))
 
 -- the index keys around the block of an index entry
 abbrev pub around : (Option (List ℕ) × RowView) → BoundsView

@@ -5,9 +5,10 @@ use Rattle.st_tblock.specs.Handles.{IsHandle}
 use Rattle.st_tblock.specs.Lookup.{lookup}
 use Rattle.st_tblock.specs.declared.handle.Handle.{Handle}
 use Rattle.st_table.specs.RowOrder.{last_key}
-use Rattle.st_table.specs.TableFile.{Stored, Between}
+use Rattle.st_table.specs.TableFile.{NamesBlock}
 
--- the first index entry whose key is at or behind this one, with the index key before it: the block that may have the key
+-- the first index entry whose key is not below this one, with the index key before it: the block
+-- that may have the key
 abbrev pub entry_for : List ℕ → Option (List ℕ) → List RowView → Option (Option (List ℕ) × RowView)
 entry_for key low [] = None
 entry_for key low (e ∷ index) = if is_before e.0 key then entry_for key (Some e.0) index else Some (low, e)
@@ -21,8 +22,10 @@ first_after low (r ∷ rows) = Some (low, r)
 abbrev pub found_at : List RowView → ℕ → Option (Option (List ℕ) × RowView)
 found_at index i = first_after (last_key None (take i index)) (drop i index)
 
--- the answer for a key is its value in the block that the index names for it, which is good and lies between its index keys; where the index names none, there is no value
-abbrev pub Named : ℕ → List ℕ → List ℕ → Option (List ℕ) → Option (Option (List ℕ) × RowView) → Type 0
+-- the answer for a key is its value in the block that the index names for it; where the index names
+-- none, there is no value
+abbrev pub Named :
+    ℕ → List ℕ → List ℕ → Option (List ℕ) → Option (Option (List ℕ) × RowView) → Type 0
 Named limit bytes key answer None = answer ≡ None
 Named limit bytes key answer (Some x) =
-    (h : Handle) × (here : List RowView) × IsHandle x.1.1 h × Stored limit bytes h here × Between x.0 x.1.0 here × (answer ≡ lookup key here)
+    (here : List RowView) × NamesBlock limit bytes x.0 x.1 here × (answer ≡ lookup key here)

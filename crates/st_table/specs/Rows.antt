@@ -9,7 +9,7 @@ use Rattle.st_tblock.specs.Cursor.{damage_at}
 use Rattle.st_tblock.specs.EntryCursorView.{EntryCursorView, past_entry}
 use Rattle.st_tblock.specs.Lookup.{lookup}
 use Rattle.st_tblock.specs.Parsing.{Read}
-use Rattle.st_table.specs.Errors.{Broken, err_view, NoCheckFailed}
+use Rattle.st_table.specs.Errors.{Damaged, err_view, NoCheckFailed}
 use Rattle.st_table.specs.RowOrder.{in_range}
 use Rattle.st_table.specs.TableFile.{is_at_most}
 use Rattle.st_table.specs.declared.errors.TableErr.{TableErr}
@@ -52,11 +52,11 @@ Fails takes base block f =
 
 -- a refusal of a block that stands at this base: the outside, or the first check that fails
 abbrev pub RefusesBlock : (RowView → Bool) → ℕ → List ℕ → TableErr → Type 0
-RefusesBlock takes base block e = NoCheckFailed e ⊎ ((f : DamageView) × Fails takes base block f × (err_view e ≡ Broken f))
+RefusesBlock takes base block e = NoCheckFailed e ⊎ ((f : DamageView) × Fails takes base block f × (err_view e ≡ Damaged f))
 
 -- a refusal of the next entry: the outside, or the first check that fails there
 abbrev pub RefusesEntry : (RowView → Bool) → EntryCursorView → TableErr → Type 0
-RefusesEntry takes s e = NoCheckFailed e ⊎ ((f : DamageView) × (entry_wrong takes s.base s.reading ≡ Some f) × (err_view e ≡ Broken f))
+RefusesEntry takes s e = NoCheckFailed e ⊎ ((f : DamageView) × (entry_wrong takes s.base s.reading ≡ Some f) × (err_view e ≡ Damaged f))
 
 -- a cursor goes behind the next row, which passes the test, and gives its value; or stands at the block's end
 abbrev pub StepsOn : (RowView → Bool) → EntryCursorView → EntryCursorView → Result (Option (Bor (List ℕ))) TableErr → Type 0

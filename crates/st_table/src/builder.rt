@@ -5,19 +5,24 @@ ghost use Rattle.st_tblock.specs.Block.{RowView, IsBlock, key_or_empty, is_above
 ghost use Rattle.st_tblock.specs.Builder.{empty, block_size, block_text, HasRows};
 ghost use Rattle.st_tblock.specs.Handles.{handle_text, footer_text, footer_in};
 ghost use Rattle.st_table.specs.TableFile.{IsTable};
-ghost use Rattle.st_table.specs.TableBuilderView.{no_rows, room_of, next_handle, stored_text, after_row, written_by, ending_at, finishing};
-ghost use Rattle.st_table.specs.Builder.{Builds, Indexes, MayAdd, Follows, view_of, last_added, Names};
+ghost use Rattle.st_table.specs.TableBuilderView.{builder_view, no_rows, room_of, next_handle, stored_text, after_row, written_by, ending_at, finishing};
+ghost use Rattle.st_table.specs.Builder.{Builds, Indexes, MayAdd, Follows, last_added, Names};
 
 use crate::build_errors::BuildErr;
-use crate::limits::{BLOCK_SIZE, DATA_INTERVAL, INDEX_INTERVAL, MAX_KEY, ROOM_LIMIT, VALUE_LIMIT};
+use crate::limits::{
+    BLOCK_SIZE, DATA_INTERVAL, INDEX_INTERVAL, MAX_KEY, ROOM_LIMIT, ROW_ROOM, VALUE_LIMIT,
+};
 use crate::puts::{put_block, put_stored};
 use st_base::{Failed, NoMemory, Sink, put};
-use st_tblock::{EntryBlock, Handle, footer, put_handle};
+use st_tblock::{EntryBlock, FOOTER_SIZE, Handle, RESTART_SIZE, TRAILER_SIZE, footer, put_handle};
 use std::alloc::Global;
 use std::marker::Model;
 
+/// The size of a block without entries, in bytes: one restart and the number of restarts.
+const METAINDEX_SIZE: usize = 2 * RESTART_SIZE;
+
 /// A block without entries, as the metaindex block is.
-const METAINDEX: [u8; 8] = [0, 0, 0, 0, 1, 0, 0, 0];
+const METAINDEX: [u8; METAINDEX_SIZE] = [0, 0, 0, 0, 1, 0, 0, 0];
 
 /// Puts a data block and names it in the index under its last key. The data block stays as it was.
 fn put_named<S: Sink>(
@@ -63,7 +68,7 @@ fn close<S: Sink>(
     ensures index { Names index.old index.new (key_or_empty block.old.last) (next_handle at.old (block_size block.old)) result }
     ensures named { OnOk result ((rows : List RowView) → HasRows index.old rows → HasRows index.new (rows ++ (key_or_empty block.old.last, handle_text (next_handle at.old (block_size block.old))) ∷ [])) }
     ensures block { block.new ≡ empty block.old.interval }
-    ensures at { at.new ≡ at.old + (block_size block.old + 5) }
+    ensures at { at.new ≡ at.old + (block_size block.old + TRAILER_SIZE) }
     ensures cause { HasCauseOf BuildErr.WriteFault (S.faults sink.old) (S.faults sink.new) result }
     ensures rest { S.beside sink.new ≡ S.beside sink.old }
 {
@@ -71,11 +76,11 @@ fn close<S: Sink>(
     let size = block.size();
     let written = put_named(block, index, Handle { offset, size }, sink);
     block.clear();
-    *at = offset + size + 5;
+    *at = offset + size + TRAILER_SIZE as u64;
     written
 }
 
-/// Puts the index block, and behind it the footer.
+/// Puts the index block, and then the footer.
 fn put_index<S: Sink>(
     index: &mut EntryBlock,
     meta: Handle,
@@ -84,7 +89,7 @@ fn put_index<S: Sink>(
 ) -> Result<(), BuildErr>
     ensures bytes { Puts (S.written sink.old) (S.written sink.new) (stored_text (block_text index.old) ++ footer_text meta named) result }
     ensures good { OnOk result ((rows : List RowView) → HasRows index.old rows → IsBlock (block_text index.old) rows) }
-    ensures size { length (footer_text meta named) ≡ 48 }
+    ensures size { length (footer_text meta named) ≡ FOOTER_SIZE }
     ensures read { footer_in (footer_text meta named) ≡ Ok (meta, named) }
     ensures cause { HasCauseOf BuildErr.WriteFault (S.faults sink.old) (S.faults sink.new) result }
     ensures rest { S.beside sink.new ≡ S.beside sink.old }
@@ -99,7 +104,7 @@ fn put_index<S: Sink>(
     }
 }
 
-/// Puts what stands behind the last data block, at the offset `at`, and answers the file's length.
+/// Puts what follows the last data block, at the offset `at`, and returns the file's length.
 fn put_ending<S: Sink>(index: &mut EntryBlock, at: u64, sink: &mut S) -> Result<u64, BuildErr>
     requires at { at < 2 ^ 62 }
     requires room { block_size index.old < 2 ^ 62 }
@@ -111,23 +116,23 @@ fn put_ending<S: Sink>(index: &mut EntryBlock, at: u64, sink: &mut S) -> Result<
 {
     let meta = Handle {
         offset: at,
-        size: 8,
+        size: METAINDEX_SIZE as u64,
     };
     let named = Handle {
-        offset: at + 13,
+        offset: at + (METAINDEX_SIZE + TRAILER_SIZE) as u64,
         size: index.size(),
     };
     match put_stored(sink, &METAINDEX) {
         Ok(()) => match put_index(index, meta, named, sink) {
-            Ok(()) => Ok(named.offset + named.size + 53),
+            Ok(()) => Ok(named.offset + named.size + (TRAILER_SIZE + FOOTER_SIZE) as u64),
             Err(error) => Err(error),
         },
         Err(Failed) => Err(BuildErr::WriteFault),
     }
 }
 
-/// Puts the data block at hand, if it has rows, and what stands behind the last one, and answers
-/// the file's length. `at` is the offset of the next block in the file.
+/// Puts the data block at hand, if it has rows, and what follows the last one, and returns the
+/// file's length. `at` is the offset of the next block in the file.
 fn put_rest<S: Sink>(
     block: &mut EntryBlock,
     index: &mut EntryBlock,
@@ -138,10 +143,10 @@ fn put_rest<S: Sink>(
     requires key { length (key_or_empty block.old.last) ≤ MAX_KEY }
     requires room { block_size index.old < 2 ^ 32 }
     requires at { at + block_size block.old < 2 ^ 61 }
-    ensures bytes { Puts (S.written sink.old) (S.written sink.new) (finishing (view_of block.old index.old at)) result }
-    ensures length { IfOk result (λ n. n ≡ at + length (finishing (view_of block.old index.old at))) }
-    ensures table { OnOk result ((bytes : List ℕ) (rows : List RowView) → Builds (view_of block.old index.old at) bytes rows
-        → IsTable (bytes ++ finishing (view_of block.old index.old at)) rows) }
+    ensures bytes { Puts (S.written sink.old) (S.written sink.new) (finishing (builder_view block.old index.old at 0)) result }
+    ensures length { IfOk result (λ n. n ≡ at + length (finishing (builder_view block.old index.old at 0))) }
+    ensures table { OnOk result ((bytes : List ℕ) (rows : List RowView) → Builds (builder_view block.old index.old at 0) bytes rows
+        → IsTable (bytes ++ finishing (builder_view block.old index.old at 0)) rows) }
     ensures cause { HasCauseOf BuildErr.WriteFault (S.faults sink.old) (S.faults sink.new) result }
     ensures rest { S.beside sink.new ≡ S.beside sink.old }
 {
@@ -159,7 +164,7 @@ fn put_rest<S: Sink>(
 /// or little more.
 ///
 /// It keeps the data block at hand and the index block, and neither the rows nor the bytes that
-/// were written: `Builds` says for which of these it stands. Lengths are in bytes.
+/// were written: `Builds` says which of these it represents. Lengths are in bytes.
 #[derive(Drop)]
 pub struct TableBuilder {
     block: EntryBlock,
@@ -169,18 +174,18 @@ pub struct TableBuilder {
 }
 
 impl Model for TableBuilder {
-    ghost use Rattle.st_table.specs.TableBuilderView.{TableBuilderView};
+    ghost use Rattle.st_table.specs.TableBuilderView.{TableBuilderView, builder_view};
     ghost use Rattle.st_table.specs.Builder.{IsSteady};
 
     ghost Value = { TableBuilderView };
 
-    ghost view = { λ a. record { block = a.block; index = a.index; at = a.at; spent = a.spent } };
+    ghost view = { λ a. builder_view a.block a.index a.at a.spent };
 
-    ghost invariant = { λ a. IsSteady (record { block = a.block; index = a.index; at = a.at; spent = a.spent }) };
+    ghost invariant = { λ a. IsSteady (builder_view a.block a.index a.at a.spent) };
 }
 
 impl TableBuilder {
-    /// A builder without rows. What it puts is to stand from the file's first byte on.
+    /// A builder without rows. Its sink must be at the file's first byte.
     ///
     /// Source: LevelDB, table/table_builder.cc; docs/FORMAT.md, "Table file".
     pub fn new(alloc: Global) -> Result<TableBuilder, NoMemory>
@@ -216,14 +221,14 @@ impl TableBuilder {
     {
         key.len() <= MAX_KEY
             && (value.len() as u64) < VALUE_LIMIT
-            && self.spent + (key.len() as u64 + value.len() as u64 + 32) < ROOM_LIMIT
+            && self.spent + (key.len() as u64 + value.len() as u64 + ROW_ROOM) < ROOM_LIMIT
             && self.is_above(key)
     }
 
     /// Adds a row, and puts the data block where it is full by that: two `put`s.
     ///
-    /// `WriteFault` comes only where the sink's `faults` rose in this call. After an error a front
-    /// of what the row writes stands behind what the sink had, and the builder is only dropped.
+    /// `WriteFault` comes only if the sink's `faults` rose in this call. After an error a prefix of
+    /// what the row writes follows what the sink had, and the builder can only be dropped.
     /// Source: LevelDB, table/table_builder.cc; docs/FORMAT.md, "Table file".
     pub fn add<S: Sink>(&mut self, key: &[u8], value: &[u8], sink: &mut S) -> Result<(), BuildErr>
         requires { MayAdd self.old (key.now, value.now) }
@@ -232,7 +237,7 @@ impl TableBuilder {
         ensures kept { OnOk result (self.new ≡ after_row self.old (key.now, value.now)) }
         ensures last { OnOk result (last_added self.new ≡ Some key.now) }
         ensures spent { OnOk result (self.new.spent ≡ self.old.spent + room_of (key.now, value.now)) }
-        // The rows for which it stands.
+        // The rows that it represents.
         ensures builds { OnOk result ((bytes : List ℕ) (rows : List RowView) → Builds self.old bytes rows
             → Builds self.new (bytes ++ written_by self.old (key.now, value.now)) (rows ++ (key.now, value.now) ∷ [])) }
         // When it fails, and what stays.
@@ -243,7 +248,7 @@ impl TableBuilder {
             Ok(()) => {}
             Err(NoMemory) => return Err(BuildErr::NoMemory),
         }
-        self.spent += key.len() as u64 + value.len() as u64 + 32;
+        self.spent += key.len() as u64 + value.len() as u64 + ROW_ROOM;
         let size = self.block.size();
         if size < BLOCK_SIZE {
             return Ok(());
@@ -251,11 +256,11 @@ impl TableBuilder {
         close(&mut self.block, &mut self.index, &mut self.at, sink)
     }
 
-    /// Puts the data block at hand, if it has rows, and what stands behind the last one. The answer
-    /// is how long the file is then, in bytes.
+    /// Puts the data block at hand, if it has rows, and what follows the last one, and returns the
+    /// file's length in bytes.
     ///
-    /// Where it answers `WriteFault`, the sink's `faults` rose in this call. After an error a front
-    /// of the table's end stands behind what the sink had.
+    /// `WriteFault` comes only if the sink's `faults` rose in this call. After an error a prefix of
+    /// the table's end follows what the sink had.
     /// Source: LevelDB, table/table_builder.cc; docs/FORMAT.md, "Table file".
     pub fn finish<S: Sink>(self, sink: &mut S) -> Result<u64, BuildErr>
         ensures bytes { Puts (S.written sink.old) (S.written sink.new) (finishing self) result }

@@ -31,9 +31,9 @@ fn a_table_is_written_as_the_format_has_it(rt: HostRuntime) -> Result<(), Fail> 
 }
 
 /// Each write fails in turn: those of the data block, the metaindex block and the index block, each
-/// with the five bytes behind it, and of the footer.
+/// with its trailer, and of the footer.
 #[test]
-fn a_failing_sink_has_a_front_of_the_table(rt: HostRuntime) -> Result<(), Fail> {
+fn a_failing_sink_has_a_prefix_of_the_table(rt: HostRuntime) -> Result<(), Fail> {
     let written = [0, 96, 101, 109, 114, 132, 137];
     for call in 0..7u32 {
         let mut sink = MemSink::new(rt.alloc(), &[call])?;
@@ -60,7 +60,7 @@ fn a_table_of_a_thousand_rows_has_several_blocks(rt: HostRuntime) -> Result<(), 
     let mut sink = MemSink::new(rt.alloc(), &[])?;
     assert_eq!(rt; write_thousand(rt.alloc(), &mut sink)?, 24544);
     assert_eq!(rt; sink.bytes().len(), 24544);
-    let (front, last) = sink.bytes().split_at(24543);
-    assert_eq!(rt; crc32c(front, last[0]), 0xa3d8_c410);
+    let (most, last) = sink.bytes().split_at(24543);
+    assert_eq!(rt; crc32c(most, last[0]), 0xa3d8_c410);
     Ok(())
 }

@@ -1,11 +1,12 @@
 //! A reading of the rows of a table between two keys.
 
-ghost use Rattle.std.specs.Prelude.{◌≡◌, ◌+◌, ◌-◌, ◌<◌, List, ℕ, [], ◌∷◌, length, Some, IfOk, OnOk, OnErr, MatchOption, MatchResult, true, false};
+ghost use Rattle.std.specs.Prelude.{◌≡◌, ◌+◌, ◌-◌, ◌<◌, ◌≤◌, List, ℕ, [], ◌∷◌, length, Some, IfOk, OnOk, OnErr, MatchOption, MatchResult, true, false};
 ghost use Rattle.st_base.specs.Faults.{HasCauseOf};
 ghost use Rattle.st_base.specs.PlacedReads.{IsSameFile};
 ghost use Rattle.st_tblock.specs.Block.{RowView};
+ghost use Rattle.st_table.specs.TableFile.{footer_at};
 ghost use Rattle.st_table.specs.Index.{Decodes};
-ghost use Rattle.st_table.specs.Cursor.{unread, Fills, IsDone, ReadsNext, RefusesNext, Steps};
+ghost use Rattle.st_table.specs.Cursor.{unread, Advances, Fills, IsDone, ReadsNext, RefusesNext, Steps};
 
 use crate::errors::TableErr;
 use crate::index::{IndexEntry, block_at, key_before};
@@ -16,7 +17,7 @@ use std::alloc::Global;
 use std::collections::VecDeque;
 use std::marker::Model;
 
-/// Where a reading of the rows between two keys stands.
+/// How far the rows between two keys were read.
 ///
 /// It is seen as `CursorView`: the two keys, the rows of the block at hand that are still to come, and
 /// the number of the index entry that names the next block.
@@ -80,8 +81,11 @@ impl Cursor {
         requires { self.old.next < length entries.now }
         ensures fills { (bytes : List ℕ) (index : List RowView) → R.content file.old ≡ Some bytes
             → Decodes index entries.now
-            → Fills (length bytes - 48) bytes index self.old self.new result }
+            → Fills (footer_at bytes) bytes index self.old self.new result }
         ensures next { OnOk result (self.new.next ≡ self.old.next + 1) }
+        ensures few { OnOk result (length self.new.rows ≤ R.extent file.old) }
+        ensures err { OnErr result (self.new ≡ self.old) }
+        ensures reads { R.reads file.new ≤ R.reads file.old + 1 }
         ensures cause { HasCauseOf TableErr.ReadFault (R.faults file.old) (R.faults file.new) result }
         ensures same { IsSameFile (R.content file.old) (R.content file.new) (R.extent file.old) (R.extent file.new) (R.beside file.old) (R.beside file.new) }
     {
@@ -127,8 +131,10 @@ fn read_rows<R: Reader>(
     requires { next < length entries.now }
     ensures rows { (bytes : List ℕ) (index : List RowView) → R.content file.old ≡ Some bytes
         → Decodes index entries.now
-        → MatchResult result (λ kept. ReadsNext (length bytes - 48) bytes index next low.now high.now kept.items)
-        (λ e. RefusesNext (length bytes - 48) bytes index next e) }
+        → MatchResult result (λ kept. ReadsNext (footer_at bytes) bytes index next low.now high.now kept.items)
+        (λ e. RefusesNext (footer_at bytes) bytes index next e) }
+    ensures few { IfOk result (λ kept. length kept.items ≤ R.extent file.old) }
+    ensures reads { R.reads file.new ≤ R.reads file.old + 1 }
     ensures cause { HasCauseOf TableErr.ReadFault (R.faults file.old) (R.faults file.new) result }
     ensures same { IsSameFile (R.content file.old) (R.content file.new) (R.extent file.old) (R.extent file.new) (R.beside file.old) (R.beside file.new) }
 {
@@ -150,7 +156,9 @@ pub fn step_in<R: Reader>(
 ) -> Result<Option<Row>, TableErr>
     ensures steps { (bytes : List ℕ) (index : List RowView) → R.content file.old ≡ Some bytes
         → Decodes index entries.now
-        → Steps (length bytes - 48) bytes index cursor.old cursor.new result }
+        → Steps (footer_at bytes) bytes index cursor.old cursor.new result }
+    ensures advances { Advances (length entries.now) (R.extent file.old)
+        (R.reads file.old) (R.reads file.new) cursor.old cursor.new result }
     ensures cause { HasCauseOf TableErr.ReadFault (R.faults file.old) (R.faults file.new) result }
     ensures same { IsSameFile (R.content file.old) (R.content file.new) (R.extent file.old) (R.extent file.new) (R.beside file.old) (R.beside file.new) }
 {

@@ -15,7 +15,7 @@ pub enum TableErr {
     /// A block is compressed: its type byte, at the offset `place` of the file, is 1.
     #[error("compressed block: its type byte at {place} is 1")]
     Compressed { place: u64 },
-    /// Memory was wanting.
+    /// Out of memory.
     #[error("out of memory")]
     NoMemory,
 }

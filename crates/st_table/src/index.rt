@@ -15,10 +15,10 @@ use crate::errors::TableErr;
 use crate::rows::{Bounds, refused_by};
 use crate::stored::read_block;
 use st_base::{Damage, NoMemory, Octets, Reader, read_whole};
-use st_tblock::{EntryCursor, Handle, get_handle, read_footer};
+use st_tblock::{EntryCursor, FOOTER_SIZE, Handle, get_handle, read_footer};
 use std::alloc::Global;
 
-/// An entry of the index: a key at or above every key of its data block, and where that stands.
+/// An entry of the index: a key at or above every key of its data block, and where that block is.
 #[derive(Drop)]
 pub struct IndexEntry {
     pub key: Octets,
@@ -36,7 +36,7 @@ fn handle_of(value: &[u8]) -> Option<Handle>
     }
 }
 
-/// Goes behind the next entry of the index block, and gives it.
+/// Goes past the next entry of the index block, and gives it.
 fn next_entry(alloc: Global, cursor: &mut EntryCursor<'_>) -> Result<Option<IndexEntry>, TableErr>
     ensures steps { StepsIndex cursor.old cursor.new result }
     ensures shorter { IfOk result (λ o. OnSome o (length cursor.new.reading.rest < length cursor.old.reading.rest)) }
@@ -79,7 +79,7 @@ fn entries_in(alloc: Global, block: &[u8], base: u64) -> Result<Vec<IndexEntry>,
     }
 }
 
-/// The same check at its place in the file, where the footer stands at the offset `at`.
+/// The damage of a footer with its place in the file, where the footer is at the offset `at`.
 fn placed(damage: Damage, at: u64) -> Damage
     requires { at + damage.place < 2 ^ 64 }
     ensures place { result.place ≡ at + damage.place }
@@ -101,21 +101,22 @@ fn read_handle<R: Reader>(file: &mut R) -> Result<Handle, TableErr>
     ensures same { IsSameFile (R.content file.old) (R.content file.new) (R.extent file.old) (R.extent file.new) (R.beside file.old) (R.beside file.new) }
 {
     let size = file.size();
-    if size < 48 {
+    if size < FOOTER_SIZE as u64 {
         return Err(TableErr::Damaged(Damage {
             place: 0,
             found: size,
-            want: 48,
+            want: FOOTER_SIZE as u64,
         }));
     }
-    let mut footer = [0; 48];
-    match read_whole(file, size - 48, &mut footer) {
+    let at = size - FOOTER_SIZE as u64;
+    let mut footer = [0; FOOTER_SIZE];
+    match read_whole(file, at, &mut footer) {
         Ok(()) => {}
         Err(_) => return Err(TableErr::ReadFault),
     }
     match read_footer(&footer) {
         Ok((_, index)) => Ok(index),
-        Err(damage) => Err(TableErr::Damaged(placed(damage, size - 48))),
+        Err(damage) => Err(TableErr::Damaged(placed(damage, at))),
     }
 }
 
@@ -145,8 +146,8 @@ pub fn read_index<R: Reader>(
     entries_in(alloc, block.as_slice(), handle.offset)
 }
 
-/// The number of the first entry whose key is `key` or behind it, which names the block that may
-/// have `key`; or the number of entries.
+/// The number of the first entry whose key is not below `key`, which names the block that may have
+/// `key`; or the number of entries.
 pub fn lower_bound(entries: &[IndexEntry], key: &[u8]) -> usize
     ensures within { result ≤ length entries.now }
     ensures found { (index : List RowView) → Decodes index entries.now → KeysRiseAbove None index
@@ -179,7 +180,7 @@ pub fn key_before(entries: &[IndexEntry], i: usize) -> Option<&[u8]>
     Some(entries[i - 1].key.bytes())
 }
 
-/// The index keys around the block that the entry of this number names, and where it stands.
+/// The index keys around the block that the entry of this number names, and where the block is.
 pub fn block_at(entries: &[IndexEntry], i: usize) -> (Bounds<'_>, Handle)
     requires { i < length entries.now }
     ensures { (index : List RowView) → Decodes index entries.now → IsBlockAt index i result.0 result.1 }

@@ -75,7 +75,7 @@ fn a_damaged_block_is_refused_at_each_lookup(rt: HostRuntime) -> Result<(), Fail
     is_refused(rt.alloc(), &mut table)
 }
 
-/// Looks up the key of this number's row, of the thousand, and a key behind it.
+/// Looks up the key of this number's row, of the thousand, and a key after it.
 fn has_numbered<R: Reader>(
     alloc: Global,
     table: &mut Table<'_, R>,

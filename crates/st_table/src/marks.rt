@@ -5,7 +5,7 @@ ghost use Rattle.std.specs.Prelude.{◌≡◌, IfOk, replicate, slice_index_or, 
 use st_base::NoMemory;
 use std::alloc::Global;
 
-/// Marks for so many index entries, none of them set.
+/// Marks for this many index entries, none of them set.
 pub fn unmarked(alloc: Global, count: usize) -> Result<Vec<bool>, NoMemory>
     ensures { IfOk result (λ v. v.items ≡ replicate count false) }
 {

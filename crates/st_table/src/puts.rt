@@ -1,4 +1,4 @@
-//! Blocks as they stand in a file: with the type byte and the sum behind them.
+//! Blocks as they are written: each with its trailer after it.
 
 ghost use Rattle.std.specs.Prelude.{◌≡◌, ◌∷◌, List, OnOk};
 ghost use Rattle.byteorder.specs.Endian.{little_bytes};
@@ -12,15 +12,15 @@ ghost use Rattle.st_table.specs.TableBuilderView.{stored_text};
 use crate::build_errors::BuildErr;
 use byteorder::{ByteOrder, LittleEndian};
 use st_base::{Failed, NoMemory, Sink, put};
-use st_tblock::{EntryBlock, crc32c, mask};
+use st_tblock::{EntryBlock, PLAIN, TRAILER_SIZE, crc32c, mask};
 
-/// The five bytes behind a block: its type byte, 0, and the masked sum of both.
+/// The trailer of a block: its type byte and the masked sum of both.
 #[tactic(auto, unfolding(crate::specs::TableFile::sum_of))]
-fn trailer(block: &[u8]) -> [u8; 5]
-    ensures { result ≡ 0 ∷ little_bytes 4 (sum_of 0 block.now) }
+fn trailer(block: &[u8]) -> [u8; TRAILER_SIZE]
+    ensures { result ≡ PLAIN ∷ little_bytes 4 (sum_of PLAIN block.now) }
 {
-    let sum = mask(crc32c(block, 0));
-    let mut bytes = [0; 5];
+    let sum = mask(crc32c(block, PLAIN));
+    let mut bytes = [PLAIN; TRAILER_SIZE];
     LittleEndian::write_u32(&mut bytes[1..], sum);
     bytes
 }

@@ -31,7 +31,7 @@ impl<'a> Model for Bounds<'a> {
     ghost view = { λ a. record { low = option_map (λ k. k.now) a.low; high = a.high.now } };
 }
 
-/// The same refusal as a cursor's.
+/// What a cursor's error is as an error of a table.
 pub fn refused_by(error: CursorErr) -> TableErr
     ensures { Repeats error result }
 {
@@ -54,7 +54,7 @@ fn is_within(bounds: &Bounds<'_>, key: &[u8]) -> bool
     }
 }
 
-/// Goes behind the next row of a data block, and gives its value.
+/// Goes past the next row of a data block, and gives its value.
 fn next_row<'a>(
     alloc: Global,
     cursor: &mut EntryCursor<'a>,
@@ -169,7 +169,8 @@ fn keep(
     low: &[u8],
     high: &[u8],
 ) -> Result<(), NoMemory>
-    ensures { OnOk result (kept.new.items ≡ kept.old.items ++ in_range low.now high.now ((key.now, value.now) ∷ [])) }
+    ensures rows { OnOk result (kept.new.items ≡ kept.old.items ++ in_range low.now high.now ((key.now, value.now) ∷ [])) }
+    ensures one { OnOk result (length kept.new.items ≤ length kept.old.items + 1) }
 {
     if high.cmp(key).is_lt() || key.cmp(low).is_lt() {
         return Ok(());
@@ -183,7 +184,7 @@ fn keep(
 }
 
 /// The rows whose keys lie from `low` to `high`, both included, of the data block `block`, which
-/// stands at the offset `place` of its file and is read to its end.
+/// is at the offset `base` of its file and is read to its end.
 ///
 /// Damage is that of the first check that fails: the restarts, an entry, its key against the index
 /// keys around the block.
@@ -198,6 +199,7 @@ pub fn rows_in(
     requires { base + length block.now < 2 ^ 64 }
     ensures rows { MatchResult result (λ kept. KeepsRange (lies_in bounds.now) block.now low.now high.now kept.items)
         (λ e. RefusesBlock (lies_in bounds.now) base block.now e) }
+    ensures few { IfOk result (λ kept. length kept.items ≤ length block.now) }
     ensures error { IfErr result (λ e. e ≢ TableErr.ReadFault) }
 {
     let mut cursor = match EntryCursor::new(block, base) {

@@ -34,7 +34,7 @@ pub const TABLE: &[u8] =
 \x65\x08\x72\x12\x00\x00\x00\x00\x00\x00\x00\x00\x00\x00\x00\x00\x00\x00\x00\x00\x00\x00\x00\x00\
 \x00\x00\x00\x00\x00\x00\x00\x00\x00\x00\x00\x00\x00\x00\x00\x00\x57\xfb\x80\x8b\x24\x75\x47\xdb";
 
-/// The same rows as that writer puts them into two data blocks, with a restart every four entries
+/// Those rows as that writer puts them into two data blocks, with a restart every four entries
 /// in data blocks and every three in the index, and the index keys 05 and 08, which no row has.
 pub const SHORT: &[u8] =
     b"\x00\x01\x18\x00\x00\x00\x00\x01\x00\x00\x00\x01\x3b\x9a\xca\x00\x07\x5b\xca\x00\x3b\x9a\xca\x00\
@@ -49,9 +49,9 @@ pub const SHORT: &[u8] =
 
 /// `file` with the bytes from `at` on replaced by `part`.
 pub fn patched(alloc: Global, file: &[u8], at: usize, part: &[u8]) -> Result<Vec<u8>, AllocError> {
-    let (front, rest) = file.split_at(at.min(file.len()));
+    let (before, rest) = file.split_at(at.min(file.len()));
     let back = rest.split_at(part.len().min(rest.len())).1;
-    let mut bytes = front.to_vec(alloc)?;
+    let mut bytes = before.to_vec(alloc)?;
     bytes.extend_from_slice(part)?;
     bytes.extend_from_slice(back)?;
     Ok(bytes)
@@ -63,12 +63,12 @@ pub fn key_of(number: u32) -> [u8; 5] {
     [7, place[0], place[1], place[2], place[3]]
 }
 
-/// Forty bytes, the front of which is the value of that row.
+/// Forty bytes, of which the first ones are the value of that row.
 pub fn bytes_of(number: u32) -> [u8; 40] {
     [(number % 251) as u8; 40]
 }
 
-/// That front.
+/// These first bytes.
 pub fn value_of(bytes: &[u8; 40], number: u32) -> &[u8] {
     bytes.split_at((number % 41) as usize).0
 }

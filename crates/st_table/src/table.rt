@@ -2,10 +2,10 @@ ghost use Rattle.std.specs.Prelude.{◌≡◌, ◌≤◌, ◌+◌, ◌-◌, List
 ghost use Rattle.st_base.specs.Faults.{HasCauseOf};
 ghost use Rattle.st_base.specs.PlacedReads.{IsSameFile};
 ghost use Rattle.st_tblock.specs.Block.{RowView, key_or_empty};
-ghost use Rattle.st_table.specs.TableFile.{IsTable, is_at_most};
+ghost use Rattle.st_table.specs.TableFile.{IsTable, is_at_most, footer_at};
 ghost use Rattle.st_table.specs.IndexLookup.{entry_for, found_at};
 ghost use Rattle.st_table.specs.RowOrder.{in_range, KeysRiseAbove, last_key};
-ghost use Rattle.st_table.specs.Cursor.{unread, Steps, Coming, StepsRow, HoldsNamed, GivesNamed};
+ghost use Rattle.st_table.specs.Cursor.{unread, Advances, Steps, Coming, StepsRow, HoldsNamed, GivesNamed};
 ghost use Rattle.st_table.specs.Errors.{NoCheckFailed};
 ghost use Rattle.st_table.specs.Index.{Decodes, Entered};
 ghost use Rattle.st_table.specs.Table.{Enters, Gets, GetsRow};
@@ -64,12 +64,12 @@ fn get_in<R: Reader>(
 ) -> Result<Option<Octets>, TableErr>
     ensures gets { (bytes : List ℕ) (index : List RowView) → R.content file.old ≡ Some bytes
         → Decodes index entries.now → KeysRiseAbove None index
-        → Checked (length bytes - 48) bytes None entries.now marks.old
-        → Gets (length bytes - 48) bytes key.now index result }
+        → Checked (footer_at bytes) bytes None entries.now marks.old
+        → Gets (footer_at bytes) bytes key.now index result }
     ensures checked { (bytes : List ℕ) (index : List RowView) → R.content file.old ≡ Some bytes
         → Decodes index entries.now
-        → Checked (length bytes - 48) bytes None entries.now marks.old
-        → Checked (length bytes - 48) bytes None entries.now marks.new }
+        → Checked (footer_at bytes) bytes None entries.now marks.old
+        → Checked (footer_at bytes) bytes None entries.now marks.new }
     ensures cause { HasCauseOf TableErr.ReadFault (R.faults file.old) (R.faults file.new) result }
     ensures reads { R.reads file.new ≤ R.reads file.old + 1 }
     ensures same { IsSameFile (R.content file.old) (R.content file.new) (R.extent file.old) (R.extent file.new) (R.beside file.old) (R.beside file.new) }
@@ -118,7 +118,7 @@ impl<'a, R: Reader> Table<'a, R> {
     /// Damage is that of the first check that fails, in the order of docs/FORMAT.md, "Checks": the
     /// file holds a footer, its magic number, its handles; the index block's end, its type byte,
     /// its sum, its restarts; each entry, its key above the last one, its value one handle.
-    /// `Compressed` comes exactly where the type byte is 1. `ReadFault` comes only where the file
+    /// `Compressed` comes if and only if the type byte is 1. `ReadFault` comes only if the file
     /// failed in this call. Where it succeeds, no data block counts as checked yet. After an error
     /// the table has the entries that it had, and the same data blocks count as checked.
     pub fn enter(&mut self, alloc: Global) -> Result<(), TableErr>
@@ -127,7 +127,7 @@ impl<'a, R: Reader> Table<'a, R> {
         ensures table { (bytes : List ℕ) (rows : List RowView) → R.content self.old.file.now ≡ Some bytes
             → IsTable bytes rows → IfErr result NoCheckFailed }
         ensures checked { OnOk result ((bytes : List ℕ)
-            → Checked (length bytes - 48) bytes None self.new.kept.entries.items self.new.kept.checked.items) }
+            → Checked (footer_at bytes) bytes None self.new.kept.entries.items self.new.kept.checked.items) }
         ensures err { OnErr result ((self.new.kept.entries ≡ self.old.kept.entries) × (self.new.kept.checked ≡ self.old.kept.checked)) }
 
         // What becomes of the file.
@@ -154,7 +154,7 @@ impl<'a, R: Reader> Table<'a, R> {
     /// The data block that the index names for `key` is read whole. Damage is that of its first
     /// check that fails, in the order of docs/FORMAT.md, "Checks": its end, its type byte, its sum,
     /// its restarts; each entry, its key above the last one and between the index keys around the
-    /// block. `Compressed` comes exactly where the type byte is 1. `ReadFault` comes only where the
+    /// block. `Compressed` comes if and only if the type byte is 1. `ReadFault` comes only if the
     /// file failed in this call. The table's entries stay.
     ///
     /// Restarts and entries are checked until no check fails: from then on the block counts as
@@ -162,16 +162,16 @@ impl<'a, R: Reader> Table<'a, R> {
     pub fn get(&mut self, alloc: Global, key: &[u8]) -> Result<Option<Octets>, TableErr>
         ensures gets { (bytes : List ℕ) → R.content self.old.file.now ≡ Some bytes
             → (entered : Entered bytes self.old.kept.entries.items)
-            → Checked (length bytes - 48) bytes None self.old.kept.entries.items self.old.kept.checked.items
-            → Gets (length bytes - 48) bytes key.now entered.index result }
+            → Checked (footer_at bytes) bytes None self.old.kept.entries.items self.old.kept.checked.items
+            → Gets (footer_at bytes) bytes key.now entered.index result }
         ensures table { (bytes : List ℕ) (rows : List RowView) → R.content self.old.file.now ≡ Some bytes
             → Entered bytes self.old.kept.entries.items
-            → Checked (length bytes - 48) bytes None self.old.kept.entries.items self.old.kept.checked.items
+            → Checked (footer_at bytes) bytes None self.old.kept.entries.items self.old.kept.checked.items
             → IsTable bytes rows → GetsRow key.now rows result }
         ensures checked { (bytes : List ℕ) → R.content self.old.file.now ≡ Some bytes
             → Entered bytes self.old.kept.entries.items
-            → Checked (length bytes - 48) bytes None self.old.kept.entries.items self.old.kept.checked.items
-            → Checked (length bytes - 48) bytes None self.new.kept.entries.items self.new.kept.checked.items }
+            → Checked (footer_at bytes) bytes None self.old.kept.entries.items self.old.kept.checked.items
+            → Checked (footer_at bytes) bytes None self.new.kept.entries.items self.new.kept.checked.items }
         ensures entries { self.new.kept.entries ≡ self.old.kept.entries }
 
         // What becomes of the file.
@@ -200,34 +200,40 @@ impl<'a, R: Reader> Table<'a, R> {
             → IfOk result (λ c. entry_for low.now None entered.index ≡ found_at entered.index c.next) }
         ensures table { (bytes : List ℕ) (rows : List RowView) (entered : Entered bytes self.now.kept.entries.items)
             → IsTable bytes rows
-            → IfOk result (λ c. Coming (length bytes - 48) bytes entered.index c (in_range low.now high.now rows)) }
+            → IfOk result (λ c. Coming (footer_at bytes) bytes entered.index c (in_range low.now high.now rows)) }
     {
         let next = lower_bound(self.kept.entries.as_slice(), low);
         Cursor::begin(alloc, low, high, next)
     }
 
-    /// The next row of `cursor`, in the order of the keys, or `None` behind the last one.
+    /// The next row of `cursor`, in the order of the keys, or `None` after the last one.
     ///
-    /// Each data block is read whole, by one read at most, before its first row is given. Damage is
+    /// Each data block is read whole, by one read at most, before its first row is given, and once in
+    /// a reading. Damage is
     /// that of its first check that fails, in the order of docs/FORMAT.md, "Checks": its end, its
     /// type byte, its sum, its restarts; each entry, its key above the last one and between the
-    /// index keys around the block. `Compressed` comes exactly where the type byte is 1.
-    /// `ReadFault` comes only where the file failed in this call. After an error `cursor` stands
-    /// before that block.
+    /// index keys around the block. `Compressed` comes if and only if the type byte is 1.
+    /// `ReadFault` comes only if the file failed in this call. After an error `cursor` is before
+    /// that block.
+    ///
+    /// Over any file a reading ends: each row that is given leaves fewer to come (`most_left`). A row
+    /// at hand is given without a read; a block is passed over only where none of its rows is in
+    /// the range.
     pub fn step(&mut self, alloc: Global, cursor: &mut Cursor) -> Result<Option<Row>, TableErr>
         ensures steps { (bytes : List ℕ) → R.content self.old.file.now ≡ Some bytes
             → (entered : Entered bytes self.old.kept.entries.items)
-            → Steps (length bytes - 48) bytes entered.index cursor.old cursor.new result }
+            → Steps (footer_at bytes) bytes entered.index cursor.old cursor.new result }
         ensures table { (bytes : List ℕ) (more : List RowView) → R.content self.old.file.now ≡ Some bytes
             → (entered : Entered bytes self.old.kept.entries.items)
-            → Coming (length bytes - 48) bytes entered.index cursor.old more
-            → StepsRow (length bytes - 48) bytes entered.index more cursor.new result }
+            → Coming (footer_at bytes) bytes entered.index cursor.old more
+            → StepsRow (footer_at bytes) bytes entered.index more cursor.new result }
         ensures sound { (bytes : List ℕ) → R.content self.old.file.now ≡ Some bytes
             → (entered : Entered bytes self.old.kept.entries.items)
-            → HoldsNamed (length bytes - 48) bytes entered.index cursor.old
-            → HoldsNamed (length bytes - 48) bytes entered.index cursor.new × GivesNamed (length bytes - 48) bytes entered.index result }
-        ensures entries { self.new.kept.entries ≡ self.old.kept.entries }
-        ensures marks { self.new.kept.checked ≡ self.old.kept.checked }
+            → HoldsNamed (footer_at bytes) bytes entered.index cursor.old
+            → HoldsNamed (footer_at bytes) bytes entered.index cursor.new × GivesNamed (footer_at bytes) bytes entered.index result }
+        ensures advances { Advances (length self.old.kept.entries.items) (R.extent self.old.file.now)
+            (R.reads self.old.file.now) (R.reads self.new.file.now) cursor.old cursor.new result }
+        ensures kept { (self.new.kept.entries ≡ self.old.kept.entries) × (self.new.kept.checked ≡ self.old.kept.checked) }
 
         // What becomes of the file.
         ensures same_reference { self.new.file.ghost_name ≡ self.old.file.ghost_name }

@@ -94,7 +94,7 @@ fn is_read(alloc: Global, bytes: &[u8]) -> Result<(), Fail> {
         return Err("a row between two keys")?;
     }
     if looked_up(alloc, bytes, &[], b"\x09")?.is_some() {
-        return Err("a row behind the last key")?;
+        return Err("a row after the last key")?;
     }
     let all = rows_between(alloc, bytes, b"", None)?;
     if all.len() != 7 || !are_rows(all.as_slice(), 0) {
@@ -248,7 +248,7 @@ fn a_broken_data_block_is_damaged(rt: HostRuntime) -> Result<(), Fail> {
         (97, b"\x5b\x04\x3b\x64"),
         (37, 0, 1),
     )?;
-    // a key behind its index key
+    // a key above its index key
     breaks(
         rt.alloc(),
         TABLE,

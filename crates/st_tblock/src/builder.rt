@@ -12,7 +12,7 @@ use st_base::NoMemory;
 use std::alloc::Global;
 use std::marker::Model;
 
-/// Puts an entry behind `text`. A refusal may leave a part of it there.
+/// Puts an entry after `text`. An error may leave a part of it there.
 #[tactic(auto, unfolding(crate::specs::Builder::entry_text))]
 fn put_entry(text: &mut Vec<u8>, shared: usize, key: &[u8], value: &[u8]) -> Result<(), NoMemory>
     requires { shared ≤ length key.now }
@@ -28,7 +28,7 @@ fn put_entry(text: &mut Vec<u8>, shared: usize, key: &[u8], value: &[u8]) -> Res
     Ok(())
 }
 
-/// Puts the restarts and their number behind `text`. A refusal may leave a part of them there.
+/// Puts the restarts and their number after `text`. An error may leave a part of them there.
 fn put_restarts(text: &mut Vec<u8>, restarts: &[u32]) -> Result<(), NoMemory>
     requires { length restarts.now < 2 ^ 32 }
     ensures ok { OnOk result (text.new.items ≡ text.old.items ++ restarts_text restarts.now ++ little_bytes 4 (length restarts.now)) }
@@ -41,13 +41,13 @@ fn put_restarts(text: &mut Vec<u8>, restarts: &[u32]) -> Result<(), NoMemory>
     Ok(())
 }
 
-/// A block that is being built: entries in the order of their keys, each spelled behind the one
-/// before it.
+/// A block that is being built: entries in the order of their keys, each without the bytes that its
+/// key shares with the key before it.
 ///
 /// It is seen as its [`EntryBlockView`]: the text of its entries, the restarts and the last key; `HasRows`
 /// says which rows these spell. Lengths are in bytes.
 ///
-/// Its text has the entries first, and behind them what a refused call or the last
+/// Its text has the entries first, and after them what a call that failed or the last
 /// [`EntryBlock::finish`] left there, which the next call cuts off.
 #[derive(Drop)]
 pub struct EntryBlock {
@@ -71,7 +71,7 @@ impl Model for EntryBlock {
     ghost invariant = { λ a. (a.entries ≤ length a.text.items) × IsSound (block_view a.interval a.since (take a.entries a.text.items) a.restarts.items (option_map (λ v. v.items) a.last)) };
 }
 
-/// Puts a restart behind the others, for which room was made.
+/// Puts a restart after the others; there must be room for it.
 fn push_reserved(restarts: &mut Vec<u32>, restart: u32)
     requires { vec_len restarts.old < vec_capacity restarts.old }
     ensures { restarts.new.items ≡ restarts.old.items ++ restart ∷ [] }
@@ -148,11 +148,11 @@ impl EntryBlock {
         common(last_or_empty(&self.last), key)
     }
 
-    /// Puts an entry that shares so many bytes behind the others. Unchanged after a refusal.
+    /// Puts an entry that shares this many bytes after the others. Unchanged after an error.
     fn append(&mut self, shared: usize, key: &[u8], value: &[u8]) -> Result<(), NoMemory>
         requires shared { shared ≡ shared_of self.old key.now }
         requires fits { shared ≤ length key.now }
-        requires front { shared ≤ length (key_or_empty self.old.last) }
+        requires last { shared ≤ length (key_or_empty self.old.last) }
         requires key { length key.now < 2 ^ 32 }
         requires value { length value.now < 2 ^ 32 }
         requires room { block_size self.old < 2 ^ 32 }
@@ -174,7 +174,7 @@ impl EntryBlock {
         Ok(())
     }
 
-    /// Puts an entry behind the others. Unchanged after a refusal.
+    /// Puts an entry after the others. Unchanged after an error.
     ///
     /// Source: LevelDB, table/block_builder.cc; docs/FORMAT.md, "Table file".
     pub fn add(&mut self, key: &[u8], value: &[u8]) -> Result<(), NoMemory>

@@ -13,7 +13,7 @@ use std::marker::Model;
 pub enum CursorErr {
     /// A check of the block failed.
     Damaged(Damage),
-    /// Memory was wanting.
+    /// Out of memory.
     NoMemory,
 }
 
@@ -62,7 +62,7 @@ fn rises(last: &Option<Vec<u8>>, shared: usize, unshared: &[u8]) -> bool
     }
 }
 
-/// Copies of an entry's key behind the key `last`, and of its value.
+/// Copies of the key of an entry that follows the key `last`, and of its value.
 fn row_of(alloc: Global, last: &[u8], parts: &Parts<'_>) -> Result<(Octets, Octets), NoMemory>
     requires { parts.now.shared ≤ length last.now }
     ensures { IfOk result (λ r. (r.0 ≡ take parts.now.shared last.now ++ parts.now.unshared.now) × (r.1 ≡ parts.now.value.now)) }
@@ -78,15 +78,16 @@ impl<'a> EntryCursor<'a> {
     ghost use Rattle.st_tblock.specs.EntryCursorView.{EntryCursorView, past_entry};
     ghost use Rattle.st_tblock.specs.Cursor.{Begins, Ahead, Gives, Steps, entry_of};
 
-    /// A cursor before the first entry of the block `bytes`, which stands at the offset `place`
-    /// of its file. It takes no memory.
+    /// A cursor before the first entry of the block `bytes`, which is at the offset `place` of its
+    /// file. It takes no memory.
     ///
-    /// `Damage` comes exactly where the restarts don't fit, don't begin with 0 or don't rise, and
+    /// `Damage` comes if and only if the restarts don't fit, don't begin with 0 or don't rise, and
     /// has the block's offset.
     /// Source: LevelDB, doc/table_format.md; docs/FORMAT.md, "Table file".
     pub fn new(bytes: &'a [u8], place: u64) -> Result<EntryCursor<'a>, Damage>
         requires { place + length bytes.now < 2 ^ 64 }
-        ensures { Begins bytes.now place result }
+        ensures begins { Begins bytes.now place result }
+        ensures within { IfOk result (λ c. length c.reading.rest ≤ length bytes.now) }
     {
         match restarts_at(bytes) {
             Some((rest, left)) => Ok(EntryCursor {
@@ -114,7 +115,7 @@ impl<'a> EntryCursor<'a> {
         last_or_empty(&self.last)
     }
 
-    /// The parts of the next entry and the text behind it, or `None` at the block's end.
+    /// The parts of the next entry and the text after it, or `None` at the block's end.
     fn ahead(&self) -> Result<Option<(Parts<'a>, &'a [u8])>, Damage>
         ensures ahead { Ahead self.now result }
         ensures shared { IfOk result (λ o. IfSome o (λ x. x.0.shared ≤ length (key_or_empty self.now.reading.last))) }
@@ -137,7 +138,7 @@ impl<'a> EntryCursor<'a> {
         }
     }
 
-    /// Goes behind an entry that was read at the front. Unchanged after a refusal.
+    /// Goes past an entry that was read. Unchanged after an error.
     fn pass(&mut self, alloc: Global, parts: &Parts<'a>, rest: &'a [u8]) -> Result<(), NoMemory>
         requires shared { parts.now.shared ≤ length (key_or_empty self.old.reading.last) }
         requires shorter { length rest.now ≤ length self.old.reading.rest }
@@ -151,10 +152,10 @@ impl<'a> EntryCursor<'a> {
         Ok(())
     }
 
-    /// Goes behind the next entry and gives its value, where it lies in the block; its key is then
+    /// Goes past the next entry and gives its value, where it lies in the block; its key is then
     /// [`EntryCursor::key`]. `None` is the block's end.
     ///
-    /// `Damaged` comes exactly where a check fails at the entry, with the entry's offset in the
+    /// `Damaged` comes if and only if a check fails at the entry, with the entry's offset in the
     /// file, or at the end that of the restarts, with the block's. After it, `None` and `NoMemory`
     /// the cursor is unchanged. Source: docs/FORMAT.md, "Table file".
     pub fn step(&mut self, alloc: Global) -> Result<Option<&'a [u8]>, CursorErr>
@@ -173,7 +174,7 @@ impl<'a> EntryCursor<'a> {
 
     /// The next entry's key and value, in bytes of their own, or `None` at the block's end.
     ///
-    /// `Damaged` comes exactly where a check fails at the entry, with the entry's offset in the
+    /// `Damaged` comes if and only if a check fails at the entry, with the entry's offset in the
     /// file, or at the end that of the restarts, with the block's. After it, `None` and `NoMemory`
     /// the cursor is unchanged. Source: docs/FORMAT.md, "Table file".
     pub fn next(&mut self, alloc: Global) -> Result<Option<(Octets, Octets)>, CursorErr>

@@ -14,7 +14,7 @@ pub struct Parts<'a> {
     pub value: &'a [u8],
 }
 
-/// The varint32 at the front, and the bytes behind it.
+/// The varint32 that `bytes` begin with, and the bytes after it.
 fn length_at(bytes: &[u8]) -> Option<(u32, &[u8])>
     ensures shorter { IfSome result (λ x. length x.1.now < length bytes.now) }
     ensures value { option_map (λ x. (x.0, x.1.now)) result ≡ length_in bytes.now }
@@ -23,7 +23,7 @@ fn length_at(bytes: &[u8]) -> Option<(u32, &[u8])>
     Some((number, bytes.split_at(size).1))
 }
 
-/// The entry at the front, behind a key of `last` bytes, and the bytes behind it.
+/// The entry that `bytes` begin with, after a key of `last` bytes, and the bytes after it.
 #[tactic(auto, unfolding(crate::specs::Block::entry_in))]
 pub fn entry_at(last: usize, bytes: &[u8]) -> Option<(Parts<'_>, &[u8])>
     ensures shared { IfSome result (λ x. x.0.shared ≤ last) }

@@ -7,7 +7,7 @@ pub const RESTART_SIZE: usize = 4;
 /// table/format.h.
 pub const TRAILER_SIZE: usize = 5;
 
-/// The type byte of a block that stands as it is. Source: LevelDB, include/leveldb/options.h.
+/// The type byte of a block that isn't compressed. Source: LevelDB, include/leveldb/options.h.
 pub const PLAIN: u8 = 0;
 
 /// The type byte of a block that is compressed by Snappy. Source: LevelDB,

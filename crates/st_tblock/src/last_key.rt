@@ -6,7 +6,7 @@ ghost use Rattle.st_tblock.specs.Block.{key_or_empty};
 use st_base::NoMemory;
 use std::alloc::Global;
 
-/// The last key, or no bytes.
+/// The last key, or no bytes where there is none.
 pub fn last_or_empty(last: &Option<Vec<u8>>) -> &[u8]
     ensures { result.now ≡ key_or_empty (option_map (λ v. v.items) last.now) }
 {
@@ -16,7 +16,7 @@ pub fn last_or_empty(last: &Option<Vec<u8>>) -> &[u8]
     }
 }
 
-/// Replaces what stands behind the first `shared` bytes by `unshared`. Unchanged after a refusal.
+/// Replaces the bytes after the first `shared` ones by `unshared`. Unchanged after an error.
 fn replace_end(key: &mut Vec<u8>, shared: usize, unshared: &[u8]) -> Result<(), NoMemory>
     requires { shared ≤ length key.old.items }
     ensures ok { OnOk result (key.new.items ≡ take shared key.old.items ++ unshared.now) }
@@ -28,7 +28,7 @@ fn replace_end(key: &mut Vec<u8>, shared: usize, unshared: &[u8]) -> Result<(), 
     Ok(())
 }
 
-/// Makes the last key that of an entry. Unchanged after a refusal.
+/// Makes the last key that of an entry. Unchanged after an error.
 pub fn set_key(
     alloc: Global,
     last: &mut Option<Vec<u8>>,

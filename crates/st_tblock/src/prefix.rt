@@ -1,4 +1,4 @@
-//! What two keys have in common at their fronts, and how they stand to each other behind it.
+//! The prefix that two keys have in common, and how they compare after it.
 
 ghost use Rattle.std.specs.Prelude.{◌≡◌, ◌≤◌, length, nat_eq};
 ghost use Rattle.std.specs.List.{common_prefix_len};
@@ -6,7 +6,7 @@ ghost use Rattle.st_tblock.specs.Search.{Compares};
 
 use std::cmp::Ordering;
 
-/// How many bytes two keys have in common from their front on.
+/// How many bytes the prefix that two keys have in common has.
 #[tactic(auto, using(crate::proofs::Shared::commons))]
 pub fn common(last: &[u8], key: &[u8]) -> usize
     ensures same { result ≡ common_prefix_len nat_eq last.now key.now }
@@ -23,8 +23,8 @@ pub fn common(last: &[u8], key: &[u8]) -> usize
     shared
 }
 
-/// How the key of an entry, `unshared` behind the first `shared` bytes of the key before it, stands to
-/// `key`, and how many bytes the two have in common from their front on.
+/// How the key of an entry, `unshared` after the first `shared` bytes of the key before it, compares
+/// with `key`, and how many bytes the prefix that the two have in common has.
 ///
 /// The key before it must be before `key`, and have `matched` bytes in common with it.
 pub fn against(matched: usize, shared: usize, unshared: &[u8], key: &[u8]) -> (Ordering, usize)

@@ -1,4 +1,4 @@
-//! Looking a key up in a block that is good.
+//! Looking a key up in a block whose checks all hold.
 
 ghost use Rattle.std.specs.Prelude.{◌≡◌, ◌≤◌, List, length, option_map, IsTrue};
 ghost use Rattle.st_tblock.specs.Block.{RowView, IsBlock, numbers_in};
@@ -14,8 +14,7 @@ use std::cmp::Ordering;
 /// As many bytes as any entry may share, since its lengths are varint32.
 const ANY: usize = 0xffff_ffff;
 
-/// Whether an entry that shares nothing stands at the offset `offset`, with a key that isn't behind
-/// `key`.
+/// Whether an entry that shares nothing is at `offset`, with a key that isn't above `key`.
 fn is_reached(text: &[u8], key: &[u8], offset: usize) -> bool
     ensures { IsTrue result → IsReached text.now key.now offset }
 {
@@ -28,8 +27,8 @@ fn is_reached(text: &[u8], key: &[u8], offset: usize) -> bool
     }
 }
 
-/// The offset of a restart whose key isn't behind `key`, the last one where the restarts' keys
-/// rise, or of the text's front.
+/// The offset of a restart whose key isn't above `key`, the last one where the restarts' keys rise;
+/// or 0.
 fn restart_before(text: &[u8], restarts: &[u8], key: &[u8]) -> usize
     ensures begins { MayBegin text.now (numbers_in restarts.now) key.now result }
     ensures within { result ≤ length text.now }
@@ -78,7 +77,7 @@ fn scan<'a>(text: &'a [u8], key: &[u8]) -> Option<&'a [u8]>
 /// where there is no such row. It takes no memory.
 ///
 /// The block must have been walked to its end before: over a block that fails a check the answer
-/// says nothing. It looks behind the last restart whose key isn't behind `key`, and no further than
+/// says nothing. It looks from the last restart on whose key isn't above `key`, and no further than
 /// `key`.
 /// Source: LevelDB, table/block.cc; docs/FORMAT.md, "Table file".
 pub fn find<'a>(bytes: &'a [u8], key: &[u8]) -> Option<&'a [u8]>

@@ -84,7 +84,7 @@ fn a_key_is_found_in_a_block(rt: HostRuntime) -> Result<(), Fail> {
     for (key, value) in ROWS {
         assert_eq!(rt; find(BLOCK, key), Some(value));
     }
-    // Before the first row, between two, behind the last; fronts of keys, and keys that go on.
+    // Before the first row, between two, after the last; prefixes of keys, and keys that go on.
     let others: [&[u8]; 10] = [
         b"",
         b"\x00\x00",
@@ -104,7 +104,7 @@ fn a_key_is_found_in_a_block(rt: HostRuntime) -> Result<(), Fail> {
 }
 
 #[test]
-fn a_key_is_found_behind_any_restart(rt: HostRuntime) -> Result<(), Fail> {
+fn a_key_is_found_after_any_restart(rt: HostRuntime) -> Result<(), Fail> {
     let mut block = EntryBlock::new(rt.alloc(), 4)?;
     for number in 0..40u8 {
         let key = [number / 16, 7, number % 16 * 2];
@@ -133,7 +133,7 @@ fn a_key_is_found_where_less_is_shared_than_could_be(rt: HostRuntime) -> Result<
     Ok(())
 }
 
-/// Each block breaks one check; the place is in a file where it stands at 100.
+/// Each block breaks one check; the place is in a file where it is at 100.
 #[test]
 fn a_block_that_breaks_a_check_is_damaged(rt: HostRuntime) -> Result<(), Fail> {
     let cases: [(&[u8], u64, &str); 8] = [

@@ -4,8 +4,8 @@ ghost use Rattle.st_tblock.specs.Varint.{groups_in, varint_in, varint32_in, vari
 
 use arrayvec::ArrayVec;
 
-/// The number in the groups at the front, of which there may be `room`, and how many bytes they
-/// take.
+/// The number in the groups that `bytes` begin with, of which there may be `room`, and how many bytes
+/// they take.
 #[tactic(auto, using(crate::proofs::Groups::powers))]
 fn groups(bytes: &[u8], room: u32) -> Option<(u128, usize)>
     requires { room ≤ 10 }
@@ -26,7 +26,7 @@ fn groups(bytes: &[u8], room: u32) -> Option<(u128, usize)>
     Some((u128::from(*first - 128) + 128 * high, size + 1))
 }
 
-/// The number in two groups at the front, where no more come.
+/// The number in the two groups that `bytes` begin with, where no more come.
 fn pair(bytes: &[u8]) -> Option<u16>
     ensures value { IfSome result (λ n. (room : ℕ) → 2 ≤ room → groups_in room bytes.now ≡ Some (n, 2)) }
     ensures within { IfSome result (λ n. 2 ≤ length bytes.now) }
@@ -40,10 +40,10 @@ fn pair(bytes: &[u8]) -> Option<u16>
     Some(u16::from(*first - 128) + 128 * u16::from(*second))
 }
 
-/// The varint64 at the front of `bytes`: the number, below 2^64, and how many bytes it takes, 1
+/// The varint64 that `bytes` begin with: the number, below 2^64, and how many bytes it takes, 1
 /// to 10.
 ///
-/// `None` comes exactly where no varint64 begins the bytes: the bytes end within it, its tenth
+/// `None` comes if and only if no varint64 begins the bytes: the bytes end within it, its tenth
 /// byte says that more come, or the number is 2^64 or above. Leading zero groups are allowed.
 /// Source: LevelDB, util/coding.h; docs/FORMAT.md, "Table file".
 pub fn get_varint(bytes: &[u8]) -> Option<(u64, usize)>
@@ -63,10 +63,10 @@ pub fn get_varint(bytes: &[u8]) -> Option<(u64, usize)>
     Some((number, size))
 }
 
-/// The varint32 at the front of `bytes`: the number, below 2^32, and how many bytes it takes, 1
+/// The varint32 that `bytes` begin with: the number, below 2^32, and how many bytes it takes, 1
 /// to 5.
 ///
-/// `None` comes exactly where no varint32 begins the bytes.
+/// `None` comes if and only if no varint32 begins the bytes.
 /// Source: LevelDB, util/coding.h; docs/FORMAT.md, "Table file".
 pub fn get_varint32(bytes: &[u8]) -> Option<(u32, usize)>
     ensures value { result ≡ varint32_in bytes.now }

@@ -4,3 +4,4 @@ pub mod Walks
 pub mod Left
 pub mod Seconds
 pub mod Texts
+pub mod Fitting

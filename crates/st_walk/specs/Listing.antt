@@ -3,7 +3,7 @@ use Rattle.std.specs.Prelude.{ℕ, zero, suc, ◌+◌, ◌-◌, ◌*◌, ◌==�
 use Rattle.st_walk.specs.declared.header.Layer.{Layer}
 use Rattle.st_walk.specs.declared.header.Layer.TheVariants.{Ether, Next, Label, Ip4, Ip6, Chain, Last, Fragment, Ports}
 use Rattle.st_walk.specs.declared.header.Spot.{Spot}
-use Rattle.st_walk.specs.declared.numbers.TheConstants.{IP4, IP6}
+use Rattle.st_walk.specs.declared.numbers.TheConstants.{IP4, IP6, KIND_SIZE, ETHER_SIZE, ETHER_KIND_AT, TAG_SIZE, TAG_KIND_AT, LABEL_SIZE, IP4_VERSION, IP4_PROTO_AT, IP6_SIZE, IP6_VERSION, IP6_NEXT_AT}
 use Rattle.st_walk.specs.declared.text.Key.{Key}
 use Rattle.st_walk.specs.declared.iter.Keys.{Keys}
 use Rattle.st_walk.specs.Layers.{byte, field, holds, is_tag, is_labelled, is_bottom, is_version, ip4_size, is_ip4, is_ip6, is_first, has_ports, extension_size, is_extension, is_later, layer_keys}
@@ -15,26 +15,26 @@ spot_at o l = Some (record { at = o; layer = l })
 -- the layer that this one leads to
 abbrev pub following : List ℕ → ℕ → Layer → Option Spot
 following p o Ether =
-    if holds p o 14 then spot_at (o + 14) (Next (field 2 (o + 12) p)) else None
+    if holds p o ETHER_SIZE then spot_at (o + ETHER_SIZE) (Next (field KIND_SIZE (o + ETHER_KIND_AT) p)) else None
 following p o (Next n) =
-    if is_tag n then (if holds p o 4 then spot_at (o + 4) (Next (field 2 (o + 2) p)) else None)
+    if is_tag n then (if holds p o TAG_SIZE then spot_at (o + TAG_SIZE) (Next (field KIND_SIZE (o + TAG_KIND_AT) p)) else None)
     else (if is_labelled n then spot_at o Label
     else (if n == IP4 then spot_at o Ip4
     else (if n == IP6 then spot_at o Ip6 else None)))
 following p o Label =
-    if holds p o 4 then
+    if holds p o LABEL_SIZE then
     (if is_bottom p o then
-    (if is_version p (o + 4) 4 then spot_at (o + 4) Ip4
-    else (if is_version p (o + 4) 6 then spot_at (o + 4) Ip6 else None))
-    else spot_at (o + 4) Label)
+    (if is_version p (o + LABEL_SIZE) IP4_VERSION then spot_at (o + LABEL_SIZE) Ip4
+    else (if is_version p (o + LABEL_SIZE) IP6_VERSION then spot_at (o + LABEL_SIZE) Ip6 else None))
+    else spot_at (o + LABEL_SIZE) Label)
     else None
 following p o Ip4 =
     if is_ip4 p o then
     (if is_first p o then
-    (if has_ports (byte p (o + 9)) then spot_at (o + ip4_size p o) Ports else None)
+    (if has_ports (byte p (o + IP4_PROTO_AT)) then spot_at (o + ip4_size p o) Ports else None)
     else None)
     else None
-following p o Ip6 = if is_ip6 p o then spot_at (o + 40) (Chain (byte p (o + 6))) else None
+following p o Ip6 = if is_ip6 p o then spot_at (o + IP6_SIZE) (Chain (byte p (o + IP6_NEXT_AT))) else None
 following p o (Chain n) =
     if is_extension p o n then
     (if is_later p o n then spot_at (o + extension_size p o n) (Fragment (byte p o))
@@ -60,7 +60,7 @@ free_steps Ports = 0
 abbrev pub steps_left : List ℕ → ℕ → Layer → ℕ
 steps_left p o l = 4 * (length p - o) + free_steps l
 
--- the keys of the first so many layers from a spot on
+-- the keys of this many layers from a spot on
 unfoldable pub keys_within : ℕ → List ℕ → Option Spot → List Key
 keys_within zero p q = []
 keys_within (suc n) p None = []

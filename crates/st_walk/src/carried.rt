@@ -7,13 +7,18 @@ ghost use Rattle.st_walk.specs.declared.header.Layer.TheVariants.{Next, Label, I
 
 use crate::fields::{holds, u16_at, u32_at, u128_at};
 use crate::header::{Layer, Spot, is_ip4, is_ip6, is_tag};
+use crate::numbers::{
+    DESTINATION_PORT_AT, IP4_DESTINATION_AT, IP4_PROTO_AT, IP4_SOURCE_AT, IP6_DESTINATION_AT,
+    IP6_SOURCE_AT, LABEL_SIZE, LABEL_UNIT, MOST_KEYS, MPLS_SIZE, PORTS_SIZE, TAG_LIMIT, TAG_SIZE,
+    VLAN_SIZE,
+};
 use crate::text::Key;
 
 /// The key of this number, from 0, among those that the layer carries.
 #[inline(always)]
 pub fn key_at(frame: &[u8], spot: Spot, i: usize) -> Option<Key>
     ensures key { slice_get (layer_keys frame.now spot.at spot.layer) i ≡ result }
-    ensures few { OnSome result (i < 3) }
+    ensures few { OnSome result (i < MOST_KEYS) }
 {
     let at = spot.at;
     match spot.layer {
@@ -32,9 +37,9 @@ pub fn key_at(frame: &[u8], spot: Spot, i: usize) -> Option<Key>
 #[inline]
 fn tag_key(frame: &[u8], at: usize, kind: u16, i: usize) -> Option<Key>
     ensures key { slice_get (layer_keys frame.now at (Next kind)) i ≡ result }
-    ensures few { OnSome result (i < 3) }
+    ensures few { OnSome result (i < MOST_KEYS) }
 {
-    if i > 0 || !is_tag(kind) || !holds(frame, at, 4) {
+    if i > 0 || !is_tag(kind) || !holds(frame, at, TAG_SIZE) {
         return None;
     }
     Some(Key::Vlan(tag_id(frame, at)))
@@ -43,9 +48,9 @@ fn tag_key(frame: &[u8], at: usize, kind: u16, i: usize) -> Option<Key>
 #[inline]
 fn label_key(frame: &[u8], at: usize, i: usize) -> Option<Key>
     ensures key { slice_get (layer_keys frame.now at Label) i ≡ result }
-    ensures few { OnSome result (i < 3) }
+    ensures few { OnSome result (i < MOST_KEYS) }
 {
-    if i > 0 || !holds(frame, at, 4) {
+    if i > 0 || !holds(frame, at, LABEL_SIZE) {
         return None;
     }
     Some(Key::Mpls(label(frame, at)))
@@ -54,15 +59,15 @@ fn label_key(frame: &[u8], at: usize, i: usize) -> Option<Key>
 #[inline]
 fn ip4_key(frame: &[u8], at: usize, i: usize) -> Option<Key>
     ensures key { slice_get (layer_keys frame.now at Ip4) i ≡ result }
-    ensures few { OnSome result (i < 3) }
+    ensures few { OnSome result (i < MOST_KEYS) }
 {
     if !is_ip4(frame, at) {
         return None;
     }
     match i {
-        0 => Some(Key::Proto(frame[at + 9])),
-        1 => Some(Key::V4(u32_at(frame, at + 12))),
-        2 => Some(Key::V4(u32_at(frame, at + 16))),
+        0 => Some(Key::Proto(frame[at + IP4_PROTO_AT])),
+        1 => Some(Key::V4(u32_at(frame, at + IP4_SOURCE_AT))),
+        2 => Some(Key::V4(u32_at(frame, at + IP4_DESTINATION_AT))),
         _ => None,
     }
 }
@@ -70,14 +75,14 @@ fn ip4_key(frame: &[u8], at: usize, i: usize) -> Option<Key>
 #[inline]
 fn ip6_key(frame: &[u8], at: usize, i: usize) -> Option<Key>
     ensures key { slice_get (layer_keys frame.now at Ip6) i ≡ result }
-    ensures few { OnSome result (i < 3) }
+    ensures few { OnSome result (i < MOST_KEYS) }
 {
     if !is_ip6(frame, at) {
         return None;
     }
     match i {
-        0 => Some(Key::V6(u128_at(frame, at + 8))),
-        1 => Some(Key::V6(u128_at(frame, at + 24))),
+        0 => Some(Key::V6(u128_at(frame, at + IP6_SOURCE_AT))),
+        1 => Some(Key::V6(u128_at(frame, at + IP6_DESTINATION_AT))),
         _ => None,
     }
 }
@@ -85,7 +90,7 @@ fn ip6_key(frame: &[u8], at: usize, i: usize) -> Option<Key>
 #[inline]
 fn proto_key(number: u8, i: usize) -> Option<Key>
     ensures key { slice_get (Key.Proto number ∷ []) i ≡ result }
-    ensures few { OnSome result (i < 3) }
+    ensures few { OnSome result (i < MOST_KEYS) }
 {
     if i > 0 {
         return None;
@@ -96,14 +101,14 @@ fn proto_key(number: u8, i: usize) -> Option<Key>
 #[inline]
 fn ports_key(frame: &[u8], at: usize, i: usize) -> Option<Key>
     ensures key { slice_get (layer_keys frame.now at Ports) i ≡ result }
-    ensures few { OnSome result (i < 3) }
+    ensures few { OnSome result (i < MOST_KEYS) }
 {
-    if !holds(frame, at, 4) {
+    if !holds(frame, at, PORTS_SIZE) {
         return None;
     }
     match i {
         0 => Some(Key::Port(u16_at(frame, at))),
-        1 => Some(Key::Port(u16_at(frame, at + 2))),
+        1 => Some(Key::Port(u16_at(frame, at + DESTINATION_PORT_AT))),
         _ => None,
     }
 }
@@ -111,19 +116,19 @@ fn ports_key(frame: &[u8], at: usize, i: usize) -> Option<Key>
 // The identifier in the low 12 bits of a tag's first two bytes.
 #[inline]
 fn tag_id(frame: &[u8], at: usize) -> u16
-    requires { at + 4 ≤ length frame.now }
-    ensures { result ≡ field 2 at frame.now % 4096 }
+    requires { at + TAG_SIZE ≤ length frame.now }
+    ensures { result ≡ field VLAN_SIZE at frame.now % TAG_LIMIT }
 {
-    u16_at(frame, at) % 4096
+    u16_at(frame, at) % TAG_LIMIT
 }
 
 // The label in the high 20 bits of an entry's four bytes.
 #[inline]
 fn label(frame: &[u8], at: usize) -> u32
-    requires { at + 4 ≤ length frame.now }
-    ensures { result ≡ field 4 at frame.now / 4096 }
+    requires { at + LABEL_SIZE ≤ length frame.now }
+    ensures { result ≡ field MPLS_SIZE at frame.now / LABEL_UNIT }
 {
-    u32_at(frame, at) / 4096
+    u32_at(frame, at) / LABEL_UNIT
 }
 
 /// Whether the layer carries the key.
@@ -150,7 +155,7 @@ fn tag_carries(frame: &[u8], at: usize, kind: u16, key: &Key) -> bool
     ensures { IsTrue result ↔ Carries frame.now at (Next kind) key.now }
 {
     match *key {
-        Key::Vlan(id) => is_tag(kind) && holds(frame, at, 4) && tag_id(frame, at) == id,
+        Key::Vlan(id) => is_tag(kind) && holds(frame, at, TAG_SIZE) && tag_id(frame, at) == id,
         _ => false,
     }
 }
@@ -160,7 +165,7 @@ fn label_carries(frame: &[u8], at: usize, key: &Key) -> bool
     ensures { IsTrue result ↔ Carries frame.now at Label key.now }
 {
     match *key {
-        Key::Mpls(wanted) => holds(frame, at, 4) && label(frame, at) == wanted,
+        Key::Mpls(wanted) => holds(frame, at, LABEL_SIZE) && label(frame, at) == wanted,
         _ => false,
     }
 }
@@ -170,10 +175,11 @@ fn ip4_carries(frame: &[u8], at: usize, key: &Key) -> bool
     ensures { IsTrue result ↔ Carries frame.now at Ip4 key.now }
 {
     match *key {
-        Key::Proto(number) => is_ip4(frame, at) && frame[at + 9] == number,
+        Key::Proto(number) => is_ip4(frame, at) && frame[at + IP4_PROTO_AT] == number,
         Key::V4(address) => {
             is_ip4(frame, at)
-                && (u32_at(frame, at + 12) == address || u32_at(frame, at + 16) == address)
+                && (u32_at(frame, at + IP4_SOURCE_AT) == address
+                    || u32_at(frame, at + IP4_DESTINATION_AT) == address)
         }
         _ => false,
     }
@@ -186,7 +192,8 @@ fn ip6_carries(frame: &[u8], at: usize, key: &Key) -> bool
     match *key {
         Key::V6(address) => {
             is_ip6(frame, at)
-                && (u128_at(frame, at + 8) == address || u128_at(frame, at + 24) == address)
+                && (u128_at(frame, at + IP6_SOURCE_AT) == address
+                    || u128_at(frame, at + IP6_DESTINATION_AT) == address)
         }
         _ => false,
     }
@@ -208,7 +215,8 @@ fn ports_carry(frame: &[u8], at: usize, key: &Key) -> bool
 {
     match *key {
         Key::Port(port) => {
-            holds(frame, at, 4) && (u16_at(frame, at) == port || u16_at(frame, at + 2) == port)
+            holds(frame, at, PORTS_SIZE)
+                && (u16_at(frame, at) == port || u16_at(frame, at + DESTINATION_PORT_AT) == port)
         }
         _ => false,
     }

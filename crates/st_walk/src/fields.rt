@@ -5,7 +5,7 @@ ghost use Rattle.st_walk.specs.Layers.{field, holds};
 
 use byteorder::{BigEndian, ByteOrder};
 
-/// Whether so many bytes from `at` are captured.
+/// Whether `count` bytes from `at` on are captured.
 #[inline]
 #[tactic(auto, unfolding(crate::specs::Layers::holds))]
 pub fn holds(frame: &[u8], at: usize, count: usize) -> bool

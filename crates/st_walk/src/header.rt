@@ -1,4 +1,4 @@
-//! Where the walk stands, and the step from there to the next layer.
+//! Where the walk is, and the step from there to the next layer.
 
 ghost use Rattle.std.specs.Prelude.{◌≡◌, ◌+◌, ◌≤◌, length, IsTrue, IfSome, is_some, if◌then◌else◌};
 ghost use Rattle.st_walk.specs.Layers.{holds, is_tag, is_labelled, is_bottom, is_version, is_ip4, is_ip6, is_first, has_ports, is_extension, extension_size, is_later, field};
@@ -7,11 +7,15 @@ ghost use Rattle.st_walk.specs.Listing.{following, spot_at};
 
 use crate::fields::{holds, u16_at};
 use crate::numbers::{
-    AUTHENTICATION, CUSTOMER_TAG, DESTINATION, FRAGMENT, HOP_BY_HOP, IP4, IP6, MPLS,
-    MPLS_MULTICAST, OUTER_TAG, ROUTING, SERVICE_TAG, TCP, UDP,
+    AUTHENTICATION, AUTHENTICATION_UNCOUNTED, AUTHENTICATION_UNIT, CUSTOMER_TAG, DESTINATION,
+    ETHER_KIND_AT, ETHER_SIZE, EXTENSION_UNIT, EXTENSION_UNITS_AT, FRAGMENT, FRAGMENT_OFFSET_AT,
+    FRAGMENT_OFFSET_UNIT, FRAGMENT_SIZE, HALF, HOP_BY_HOP, IP4, IP4_FRAGMENT_AT,
+    IP4_FRAGMENT_LIMIT, IP4_PROTO_AT, IP4_SIZE, IP4_VERSION, IP4_WORD_SIZE, IP4_WORDS, IP6,
+    IP6_NEXT_AT, IP6_SIZE, IP6_VERSION, KIND_SIZE, LABEL_END_AT, LABEL_SIZE, MPLS, MPLS_MULTICAST,
+    OUTER_TAG, ROUTING, SERVICE_TAG, TAG_KIND_AT, TAG_SIZE, TCP, UDP,
 };
 
-/// What stands at an offset of a frame.
+/// What begins at an offset of a frame.
 #[derive(Clone, Copy, Debug)]
 pub enum Layer {
     /// The Ethernet header.
@@ -71,11 +75,11 @@ fn leads_to(at: usize, layer: Layer) -> Option<Spot>
 fn after_ether(frame: &[u8], at: usize) -> Option<Spot>
     ensures { result ≡ following frame.now at Ether }
 {
-    if !holds(frame, at, 14) {
+    if !holds(frame, at, ETHER_SIZE) {
         return None;
     }
-    let kind = u16_at(frame, at + 12);
-    leads_to(at + 14, Layer::Next(kind))
+    let kind = u16_at(frame, at + ETHER_KIND_AT);
+    leads_to(at + ETHER_SIZE, Layer::Next(kind))
 }
 
 #[inline]
@@ -97,31 +101,32 @@ fn after_kind(frame: &[u8], at: usize, kind: u16) -> Option<Spot>
 
 #[inline]
 fn after_tag(frame: &[u8], at: usize) -> Option<Spot>
-    ensures { result ≡ (if holds frame.now at 4
-        then spot_at (at + 4) (Next (field 2 (at + 2) frame.now)) else None) }
+    ensures { result ≡ (if holds frame.now at TAG_SIZE
+        then spot_at (at + TAG_SIZE) (Next (field KIND_SIZE (at + TAG_KIND_AT) frame.now))
+        else None) }
 {
-    if !holds(frame, at, 4) {
+    if !holds(frame, at, TAG_SIZE) {
         return None;
     }
-    let kind = u16_at(frame, at + 2);
-    leads_to(at + 4, Layer::Next(kind))
+    let kind = u16_at(frame, at + TAG_KIND_AT);
+    leads_to(at + TAG_SIZE, Layer::Next(kind))
 }
 
 #[inline]
 fn after_label(frame: &[u8], at: usize) -> Option<Spot>
     ensures { result ≡ following frame.now at Label }
 {
-    if !holds(frame, at, 4) {
+    if !holds(frame, at, LABEL_SIZE) {
         return None;
     }
-    let at_next = at + 4;
+    let at_next = at + LABEL_SIZE;
     if !is_bottom(frame, at) {
         return leads_to(at_next, Layer::Label);
     }
-    if is_version(frame, at_next, 4) {
+    if is_version(frame, at_next, IP4_VERSION) {
         return leads_to(at_next, Layer::Ip4);
     }
-    if is_version(frame, at_next, 6) {
+    if is_version(frame, at_next, IP6_VERSION) {
         return leads_to(at_next, Layer::Ip6);
     }
     None
@@ -131,11 +136,11 @@ fn after_label(frame: &[u8], at: usize) -> Option<Spot>
 fn after_ip4(frame: &[u8], at: usize) -> Option<Spot>
     ensures { result ≡ following frame.now at Ip4 }
 {
-    if !is_ip4(frame, at) || !is_first(frame, at) || !has_ports(frame[at + 9]) {
+    if !is_ip4(frame, at) || !is_first(frame, at) || !has_ports(frame[at + IP4_PROTO_AT]) {
         return None;
     }
-    let words = (frame[at] % 16) as usize;
-    leads_to(at + 4 * words, Layer::Ports)
+    let words = (frame[at] % HALF) as usize;
+    leads_to(at + IP4_WORD_SIZE * words, Layer::Ports)
 }
 
 #[inline]
@@ -145,7 +150,7 @@ fn after_ip6(frame: &[u8], at: usize) -> Option<Spot>
     if !is_ip6(frame, at) {
         return None;
     }
-    leads_to(at + 40, Layer::Chain(frame[at + 6]))
+    leads_to(at + IP6_SIZE, Layer::Chain(frame[at + IP6_NEXT_AT]))
 }
 
 #[inline]
@@ -192,10 +197,10 @@ fn is_labelled(kind: u16) -> bool
 #[inline]
 #[tactic(auto, unfolding(crate::specs::Layers::is_bottom))]
 fn is_bottom(frame: &[u8], at: usize) -> bool
-    requires { at + 4 ≤ length frame.now }
+    requires { at + LABEL_SIZE ≤ length frame.now }
     ensures { result ≡ is_bottom frame.now at }
 {
-    frame[at + 2] % 2 == 1
+    frame[at + LABEL_END_AT] % 2 == 1
 }
 
 #[inline]
@@ -203,34 +208,34 @@ fn is_bottom(frame: &[u8], at: usize) -> bool
 fn is_version(frame: &[u8], at: usize, version: u8) -> bool
     ensures { result ≡ is_version frame.now at version }
 {
-    holds(frame, at, 1) && frame[at] / 16 == version
+    holds(frame, at, 1) && frame[at] / HALF == version
 }
 
 #[inline]
 #[tactic(auto, unfolding(crate::specs::Layers::is_ip4))]
 pub fn is_ip4(frame: &[u8], at: usize) -> bool
     ensures value { result ≡ is_ip4 frame.now at }
-    ensures room { IsTrue result → at + 20 ≤ length frame.now }
+    ensures room { IsTrue result → at + IP4_SIZE ≤ length frame.now }
 {
-    holds(frame, at, 20) && frame[at] / 16 == 4 && frame[at] % 16 >= 5
+    holds(frame, at, IP4_SIZE) && frame[at] / HALF == IP4_VERSION && frame[at] % HALF >= IP4_WORDS
 }
 
 #[inline]
 #[tactic(auto, unfolding(crate::specs::Layers::is_ip6))]
 pub fn is_ip6(frame: &[u8], at: usize) -> bool
     ensures value { result ≡ is_ip6 frame.now at }
-    ensures room { IsTrue result → at + 40 ≤ length frame.now }
+    ensures room { IsTrue result → at + IP6_SIZE ≤ length frame.now }
 {
-    holds(frame, at, 40) && frame[at] / 16 == 6
+    holds(frame, at, IP6_SIZE) && frame[at] / HALF == IP6_VERSION
 }
 
 #[inline]
 #[tactic(auto, unfolding(crate::specs::Layers::is_first))]
 fn is_first(frame: &[u8], at: usize) -> bool
-    requires { at + 20 ≤ length frame.now }
+    requires { at + IP4_SIZE ≤ length frame.now }
     ensures { result ≡ is_first frame.now at }
 {
-    u16_at(frame, at + 6) % 8192 == 0
+    u16_at(frame, at + IP4_FRAGMENT_AT) % IP4_FRAGMENT_LIMIT == 0
 }
 
 #[inline]
@@ -247,17 +252,17 @@ fn has_ports(number: u8) -> bool
 #[tactic(auto, using(crate::proofs::Headers::none_within), unfolding(crate::specs::Layers::extension_size, crate::specs::Layers::is_extension))]
 fn extension_end(frame: &[u8], at: usize, number: u8) -> Option<usize>
     ensures end { IfSome result (λ e. (e ≡ at + extension_size frame.now at number)
-        × (at + 8 ≤ length frame.now)) }
+        × (at + EXTENSION_UNIT ≤ length frame.now)) }
     ensures some { is_some result ≡ is_extension frame.now at number }
 {
-    if !holds(frame, at, 8) {
+    if !holds(frame, at, EXTENSION_UNIT) {
         return None;
     }
-    let units = frame[at + 1] as usize;
+    let units = frame[at + EXTENSION_UNITS_AT] as usize;
     let size = match number {
-        HOP_BY_HOP | ROUTING | DESTINATION => 8 * (units + 1),
-        FRAGMENT => 8,
-        AUTHENTICATION => 4 * (units + 2),
+        HOP_BY_HOP | ROUTING | DESTINATION => EXTENSION_UNIT * (units + 1),
+        FRAGMENT => FRAGMENT_SIZE,
+        AUTHENTICATION => AUTHENTICATION_UNIT * (units + AUTHENTICATION_UNCOUNTED),
         _ => return None,
     };
     if holds(frame, at, size) {
@@ -270,8 +275,8 @@ fn extension_end(frame: &[u8], at: usize, number: u8) -> Option<usize>
 #[inline]
 #[tactic(auto, unfolding(crate::specs::Layers::is_later))]
 fn is_later(frame: &[u8], at: usize, number: u8) -> bool
-    requires { at + 8 ≤ length frame.now }
+    requires { at + FRAGMENT_SIZE ≤ length frame.now }
     ensures { result ≡ is_later frame.now at number }
 {
-    number == FRAGMENT && u16_at(frame, at + 2) / 8 != 0
+    number == FRAGMENT && u16_at(frame, at + FRAGMENT_OFFSET_AT) / FRAGMENT_OFFSET_UNIT != 0
 }

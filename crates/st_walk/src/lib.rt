@@ -9,8 +9,8 @@
 //! # What it promises
 //!
 //! - A key is found exactly where the walk reaches a layer that carries it (`has_key`).
-//! - The keys of a frame come in walk order, each as often as it stands there, and no other
-//!   (`keys`, `Keys::next`).
+//! - The keys of a frame come in walk order, each as often as it is there, and no other (`keys`,
+//!   `Keys::next`); each fits the type of its kind (`keys`, `laws::keys_fit`).
 //! - A key's text is the byte of its kind and its value, the highest byte first (`key_text`).
 //!
 //! None of these takes memory.
@@ -22,15 +22,17 @@
 //!
 //! # Where to read
 //!
-//! `specs/Layers.antt` says what stands at an offset and which keys it carries, `specs/Walk.antt`
+//! `specs/Layers.antt` says what is at an offset and which keys it carries, `specs/Walk.antt`
 //! how one layer leads to the next, and `specs/KeyText.antt` a key's text. `specs/Listing.antt` is
-//! the same walk as a plain program. Then `walk`, `header`, `carried`.
+//! the same walk as a plain program, and `numbers` has the numbers of the headers. Then `walk`,
+//! `header`, `carried`.
 #![tactic(auto)]
 
 mod carried;
 mod fields;
 mod header;
 mod iter;
+pub mod laws;
 mod numbers;
 #[cfg(test)]
 mod tests;

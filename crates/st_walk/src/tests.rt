@@ -19,11 +19,11 @@ const UDP: &[u8] =
 const TCP: &[u8] =
     b"\x02\0\0\0\0\x02\x02\0\0\0\0\x01\x08\0\x45\0\0\x28\0\0\0\0\x40\x06\0\0\x0a\0\0\x01\x0a\0\0\x02\x30\x39\0\x50\0\0\0\x01\0\0\0\0\x50\x02\x20\0\0\0\0\0";
 
-// The UDP packet behind a service tag 10 and a customer tag 20.
+// The UDP packet after a service tag 10 and a customer tag 20.
 const TAGGED: &[u8] =
     b"\x02\0\0\0\0\x02\x02\0\0\0\0\x01\x88\xa8\0\x0a\x81\0\0\x14\x08\0\x45\0\0\x20\0\0\0\0\x40\x11\0\0\x0a\0\0\x01\x0a\0\0\x02\x30\x39\0\x35\0\x0c\0\0dns!";
 
-// A TCP segment to port 443 behind the labels 17 and 18.
+// A TCP segment to port 443 after the labels 17 and 18.
 const LABELLED: &[u8] =
     b"\x02\0\0\0\0\x02\x02\0\0\0\0\x01\x88\x47\0\x01\x10\x40\0\x01\x21\x40\x45\0\0\x28\0\0\0\0\x40\x06\0\0\x0a\0\0\x01\x0a\0\0\x02\x30\x39\x01\xbb\0\0\0\x01\0\0\0\0\x50\x02\x20\0\0\0\0\0";
 
@@ -31,7 +31,7 @@ const LABELLED: &[u8] =
 const FRAGMENT: &[u8] =
     b"\x02\0\0\0\0\x02\x02\0\0\0\0\x01\x08\0\x45\0\0\x1c\0\0\0\xb9\x40\x11\0\0\x0a\0\0\x01\x0a\0\0\x02\0\x35\0\x35\0\x08\0\0";
 
-// UDP over IPv6 behind hop-by-hop options and destination options.
+// UDP over IPv6 after hop-by-hop options and destination options.
 const CHAINED: &[u8] =
     b"\x02\0\0\0\0\x02\x02\0\0\0\0\x01\x86\xdd\x60\0\0\0\0\x18\0\x40\xfd\0\0\0\0\0\0\0\0\0\0\0\0\0\0\x01\xfd\0\0\0\0\0\0\0\0\0\0\0\0\0\0\x02\x3c\0\x01\x04\0\0\0\0\x11\0\x01\x04\0\0\0\0\x30\x39\0\x35\0\x08\0\0";
 

@@ -4,6 +4,9 @@ ghost use Rattle.std.specs.Prelude.{◌≡◌, ◌≤◌, ◌∷◌, length};
 ghost use Rattle.st_walk.specs.KeyText.{key_text, Fits};
 ghost use Rattle.st_walk.specs.declared.text.Key.{Key};
 
+use crate::numbers::{
+    MPLS_KIND, PORT_KIND, PROTO_KIND, SECOND_KIND, TEXT_SIZE, V4_KIND, V6_KIND, V6_SIZE, VLAN_KIND,
+};
 use arrayvec::ArrayVec;
 
 /// What a packet can be looked up by.
@@ -21,32 +24,32 @@ pub enum Key {
     Mpls(u32),
     /// A source or destination address of IPv6, its first byte the highest.
     V6(u128),
-    /// The second of a packet's time, since 1970. It stands in no frame.
+    /// The second of a packet's time, since 1970. It is in no frame.
     Second(u32),
 }
 
 /// The kind's byte and then the value, its highest byte first: 2 to 17 bytes.
 ///
-/// Source: docs/FORMAT.md, "Index rows".
+/// Source: docs/FORMAT.md, "Key texts".
 #[tactic(auto, using(crate::proofs::Texts::same_key))]
-pub fn key_text(key: &Key) -> ArrayVec<u8, 17>
+pub fn key_text(key: &Key) -> ArrayVec<u8, TEXT_SIZE>
     ensures text { result.items ≡ key_text key.now }
     ensures one { (k : Key) → Fits k → key_text k ≡ result.items → k ≡ key.now }
 {
     match *key {
-        Key::Proto(number) => joined(1, &number.to_be_bytes()),
-        Key::Port(port) => joined(2, &port.to_be_bytes()),
-        Key::Vlan(id) => joined(3, &id.to_be_bytes()),
-        Key::V4(address) => joined(4, &address.to_be_bytes()),
-        Key::Mpls(label) => joined(5, &label.to_be_bytes()),
-        Key::V6(address) => joined(6, &address.to_be_bytes()),
-        Key::Second(second) => joined(7, &second.to_be_bytes()),
+        Key::Proto(number) => joined(PROTO_KIND, &number.to_be_bytes()),
+        Key::Port(port) => joined(PORT_KIND, &port.to_be_bytes()),
+        Key::Vlan(id) => joined(VLAN_KIND, &id.to_be_bytes()),
+        Key::V4(address) => joined(V4_KIND, &address.to_be_bytes()),
+        Key::Mpls(label) => joined(MPLS_KIND, &label.to_be_bytes()),
+        Key::V6(address) => joined(V6_KIND, &address.to_be_bytes()),
+        Key::Second(second) => joined(SECOND_KIND, &second.to_be_bytes()),
     }
 }
 
 // The kind's byte and then the value's.
-fn joined(kind: u8, value: &[u8]) -> ArrayVec<u8, 17>
-    requires { length value.now ≤ 16 }
+fn joined(kind: u8, value: &[u8]) -> ArrayVec<u8, TEXT_SIZE>
+    requires { length value.now ≤ V6_SIZE }
     ensures { result.items ≡ kind ∷ value.now }
 {
     let mut text = ArrayVec::new();

@@ -8,7 +8,7 @@ use Rattle.std.proofs.lemmas.List.Elements.{filter-append, All-cons, All-head, A
 use Rattle.st_base.specs.Records.{Rec}
 use Rattle.st_query.specs.Answer.{Numbered, Precedes, IsAscending}
 use Rattle.st_query.proofs.AnswerOrder.{head_in, tail_in, none_in, in_cases}
-use Rattle.steno.specs.Selects.{Selects}
+use Rattle.steno.specs.Gathering.{Selects}
 use Rattle.steno.proofs.TimeOrder.{earlier, Earlier, Same, tie_then, tie_from, no_tie}
 
 abbrev pub packet : Numbered → Rec

@@ -1,5 +1,6 @@
 pub mod Answering
 pub mod AtEnd
+pub mod Buffers
 pub mod Limits
 pub mod Replying
 pub mod Selecting

@@ -1,11 +1,14 @@
--- From an answer that was written to what a run leaves.
-use Rattle.std.proofs.Common.{◌≡◌, ◌≢◌, ℕ, List, [], Option, Some, String, Global, string_bytes, refl, sym, subst, ◌∙◌, inl, inr, Bool, true, false}
+-- From what was gathered and written to what a run leaves and says.
+use Rattle.std.proofs.Common.{◌≡◌, ◌≢◌, ◌⊎◌, ℕ, List, [], Option, Some, Result, Ok, Err, refl, sym, ap, subst, ◌∙◌, inl, inr}
+use Rattle.std.specs.Io.KnownBytes.{Appends}
 use Rattle.std.proofs.KnownBytes.{Appends-nil, Keeps-refl}
+use Rattle.st_base.specs.Pieces.{AppendsPrefix}
 use Rattle.st_base.specs.Records.{Rec}
 use Rattle.st_base.specs.Ticks.{Ticks}
 use Rattle.st_pcap.specs.declared.errors.PcapErr.{PcapErr}
-use Rattle.st_pcap.specs.Heads.{IsOfFileHead}
+use Rattle.st_pcap.specs.declared.errors.PcapErr.TheVariants as cause
 use Rattle.st_pcap.specs.Input.{Input, End, Whole, Refused}
+use Rattle.st_pcap.specs.Text.{PcapText}
 use Rattle.st_pcap.proofs.Uniqueness.{one_input}
 use Rattle.st_plan.specs.Jobs.{Job}
 use Rattle.st_plan.specs.declared.jobs.Plan.{Plan}
@@ -14,52 +17,170 @@ use Rattle.st_plan.proofs.OnePlan.{one_plan}
 use Rattle.st_query.specs.declared.errors.QueryErr.{QueryErr}
 use Rattle.st_query.specs.declared.errors.QueryErr.TheVariants as refusal
 use Rattle.st_query.specs.declared.nodes.Node.{Node}
+use Rattle.st_query.specs.Answer.{AnswerOf}
+use Rattle.st_query.specs.Meaning.{Matches}
 use Rattle.st_query.specs.Spelling.{Spells, Refuses}
 use Rattle.st_query.proofs.Readings.{not_both}
-use Rattle.steno.specs.declared.ending.Ending.{Ending}
-use Rattle.steno.specs.declared.shape.Shape.{Shape}
+use Rattle.steno.specs.declared.report.Report.{Report}
 use Rattle.steno.specs.declared.status.Status.{Status}
 use Rattle.steno.specs.declared.status.Status.TheVariants.{Done, Usage, BadInput, BadQuery, ReadFault, WriteFault, DiskFault, Damaged, NoMemory, StampsSpent}
+use Rattle.steno.specs.Gathering.{IsGathered, Selects}
 use Rattle.steno.specs.Jobs.{IsReply, IsAsked, IsJob, Leaves}
-use Rattle.steno.specs.Messages.{line_of, input_line}
-use Rattle.steno.specs.Plans.{IsPlan, shape_of}
-use Rattle.steno.specs.Running.{plain_of, Writes, AsksClock, EndsBy, Speaks, SaysAnswer, SaysOf, Ends, HasWordCause}
+use Rattle.steno.specs.Limited.{Limited}
+use Rattle.steno.specs.Messages.{line_of, input_line, status_line}
+use Rattle.steno.specs.Plans.{IsPlan}
+use Rattle.steno.specs.Reports.{plain_of, ReportsInput, ReportsQuery}
+use Rattle.steno.specs.Running.{AsksClock, EndsBy, IsJobMessage, IsAnswerMessage, IsRunMessage, EndsRun, HasQueryCause, HasWordCause, IsSilent, IsUnread}
 
--- what an ending leaves
-abbrev pub LeavesReply : Node → Shape → ℕ → List ℕ → Option (List ℕ) → Option (List ℕ) → Ending → Type 0
-LeavesReply q shape now bytes old new e = Leaves (IsReply q shape now bytes) e.status (line_of e) old new
+-- what the report of a query leaves
+abbrev pub LeavesReply : Job → Node → ℕ → List ℕ → Option (List ℕ) → Option (List ℕ) → Report → Type 0
+LeavesReply job q now bytes old new r = Leaves (IsReply job q now bytes) r.status (line_of r) old new
 
--- the answer over a whole input
-pub done_leaves : (q : Node) (shape : Shape) (now : ℕ) (bytes : List ℕ) (rs : List Rec) (old new : Option (List ℕ)) (result : Ending)
-    → Input bytes rs Whole → Writes q shape now rs old new (plain_of Done) result → LeavesReply q shape now bytes old new result
-done_leaves q shape now bytes rs old new result h (inl w) =
-    subst (LeavesReply q shape now bytes old new) (sym w.0) (w.1.0, (rs, h, w.1.1, refl), w.1.2)
-done_leaves q shape now bytes rs old new result h (inr (inl w)) =
-    subst (LeavesReply q shape now bytes old new) (sym w.0) (w.1.0, Done, [], (rs, h, w.1.1, refl), w.1.2, refl)
-done_leaves q shape now bytes rs old new result h (inr (inr w)) = subst (LeavesReply q shape now bytes old new) (sym w.0) (w.1, refl)
+-- the run ended at once, as its input did
+pub stopped_leaves : (job : Job) (q : Node) (now : ℕ) (bytes : List ℕ) (kept : List Rec) (end : Result (Unit {0}) PcapErr) (report : Report) (old : Option (List ℕ))
+    → IsGathered q now bytes kept end → ReportsInput end (Err report) → LeavesReply job q now bytes old old report
+stopped_leaves job q now bytes kept (Ok done) report old h r = absurd r
+stopped_leaves job q now bytes kept (Err e) report old h (inl (other, plain)) = subst (LeavesReply job q now bytes old old) (sym plain) (Keeps-refl old, refl)
+stopped_leaves job q now bytes kept (Err e) report old h (inr (inl (fault, plain))) = subst (LeavesReply job q now bytes old old) (sym plain) (Keeps-refl old, refl)
+stopped_leaves job q now bytes kept (Err e) report old (inl outside) (inr (inr (refused, head))) = absurd (refused.inside outside)
+stopped_leaves job q now bytes kept (Err e) report old (inr (rs, cut, selected)) (inr (inr (refused, head))) =
+    subst (λ s. Leaves (IsReply job q now bytes) s (line_of report) old old) (sym refused.status) ([], (rs, e, cut, inl (head, refl), refused.line), Appends-nil old)
 
--- an input that is refused, with this text for its line
-abbrev pub cut_of : String Global → Ending
-cut_of text = record { status = BadInput; line = Some text }
+-- the answer was written
+pub written_leaves : (job : Job) (q : Node) (now : ℕ) (bytes : List ℕ) (kept answer cut : List Rec) (end : Result (Unit {0}) PcapErr) (report : Report) (old new : Option (List ℕ))
+    → IsGathered q now bytes kept end → ReportsInput end (Ok report) → ((rs : List Rec) → Selects (Matches q now) rs kept → AnswerOf q now rs answer)
+    → Limited job.limits answer cut → Appends old new (PcapText cut job.unit) → LeavesReply job q now bytes old new report
+written_leaves job q now bytes kept answer cut (Ok done) report old new (rs, whole, selected) plain sorts limited put =
+    subst (LeavesReply job q now bytes old new) (sym plain) (PcapText cut job.unit, (rs, whole, (answer, cut, sorts rs selected, limited, refl), refl), put)
+written_leaves job q now bytes kept answer cut (Err e) report old new (inl outside) (refused, records) sorts limited put = absurd (refused.inside outside)
+written_leaves job q now bytes kept answer cut (Err e) report old new (inr (rs, ends, selected)) (refused, records) sorts limited put =
+    subst (λ s. Leaves (IsReply job q now bytes) s (line_of report) old new) (sym refused.status)
+    (PcapText cut job.unit, (rs, e, ends, inr (records, (answer, cut, sorts rs selected, limited, refl)), refused.line), put)
 
--- the answer over the records before one that is refused
-pub cut_leaves : (q : Node) (shape : Shape) (now : ℕ) (bytes : List ℕ) (rs : List Rec) (cause : PcapErr) (text : String Global) (old new : Option (List ℕ)) (result : Ending)
-    → Input bytes rs (Refused cause) → (IsOfFileHead cause → ⊥) → string_bytes text ≡ input_line cause
-    → Writes q shape now rs old new (cut_of text) result → LeavesReply q shape now bytes old new result
-cut_leaves q shape now bytes rs cause text old new result h behind said (inl w) =
-    subst (LeavesReply q shape now bytes old new) (sym w.0) (w.1.0, (rs, cause, h, inr (behind, w.1.1), said), w.1.2)
-cut_leaves q shape now bytes rs cause text old new result h behind said (inr (inl w)) =
-    subst (LeavesReply q shape now bytes old new) (sym w.0) (w.1.0, BadInput, input_line cause, (rs, cause, h, inr (behind, w.1.1), refl), w.1.2, refl)
-cut_leaves q shape now bytes rs cause text old new result h behind said (inr (inr w)) = subst (LeavesReply q shape now bytes old new) (sym w.0) (w.1, refl)
+-- a prefix of the answer was written
+pub failed_leaves : (job : Job) (q : Node) (now : ℕ) (bytes : List ℕ) (kept answer cut : List Rec) (end : Result (Unit {0}) PcapErr) (report : Report) (old new : Option (List ℕ))
+    → IsGathered q now bytes kept end → ReportsInput end (Ok report) → ((rs : List Rec) → Selects (Matches q now) rs kept → AnswerOf q now rs answer)
+    → Limited job.limits answer cut → AppendsPrefix old new (PcapText cut job.unit) → LeavesReply job q now bytes old new (plain_of WriteFault)
+failed_leaves job q now bytes kept answer cut (Ok done) report old new (rs, whole, selected) plain sorts limited put =
+    (PcapText cut job.unit, Done, [], (rs, whole, (answer, cut, sorts rs selected, limited, refl), refl), put, refl)
+failed_leaves job q now bytes kept answer cut (Err e) report old new (inl outside) (refused, records) sorts limited put = absurd (refused.inside outside)
+failed_leaves job q now bytes kept answer cut (Err e) report old new (inr (rs, ends, selected)) (refused, records) sorts limited put =
+    (PcapText cut job.unit, BadInput, input_line e, (rs, e, ends, inr (records, (answer, cut, sorts rs selected, limited, refl)), refl), put, refl)
 
--- nothing where the file head is refused
-pub head_leaves : (q : Node) (shape : Shape) (now : ℕ) (bytes : List ℕ) (rs : List Rec) (cause : PcapErr) (text : String Global) (old : Option (List ℕ))
-    → Input bytes rs (Refused cause) → IsOfFileHead cause → string_bytes text ≡ input_line cause → LeavesReply q shape now bytes old old (cut_of text)
-head_leaves q shape now bytes rs cause text old h head said = ([], (rs, cause, h, inl (head, refl), said), Appends-nil old)
+-- nothing was written, since memory ran out
+pub memory_leaves : (job : Job) (now : ℕ) (bytes : List ℕ) (old : Option (List ℕ)) (report : Report) → report ≡ plain_of NoMemory
+    → Leaves (IsAsked job now bytes) report.status (line_of report) old old
+memory_leaves job now bytes old report plain = subst (λ (r : Report). Leaves (IsAsked job now bytes) r.status (line_of r) old old) (sym plain) (Keeps-refl old, refl)
+
+-- what a run says that ended at once
+pub stopped_says : (end : Result (Unit {0}) PcapErr) (report : Report) → ReportsInput end (Err report) → IsAnswerMessage report.status (line_of report)
+stopped_says (Ok done) report r = absurd r
+stopped_says (Err e) report (inl (other, plain)) = subst (λ (r : Report). IsAnswerMessage r.status (line_of r)) (sym plain) refl
+stopped_says (Err e) report (inr (inl (fault, plain))) = subst (λ (r : Report). IsAnswerMessage r.status (line_of r)) (sym plain) refl
+stopped_says (Err e) report (inr (inr (refused, head))) = subst (λ s. IsAnswerMessage s (line_of report)) (sym refused.status) (e, refused.inside, refused.line)
+
+-- what a run says that answered first
+pub going_says : (end : Result (Unit {0}) PcapErr) (report : Report) → ReportsInput end (Ok report) → IsAnswerMessage report.status (line_of report)
+going_says (Ok done) report plain = subst (λ (r : Report). IsAnswerMessage r.status (line_of r)) (sym plain) refl
+going_says (Err e) report (refused, records) = subst (λ s. IsAnswerMessage s (line_of report)) (sym refused.status) (e, refused.inside, refused.line)
+
+-- what a run says that ended for another reason than its input
+pub memory_says : (report : Report) → report ≡ plain_of NoMemory → IsAnswerMessage report.status (line_of report)
+memory_says report plain = subst (λ (r : Report). IsAnswerMessage r.status (line_of r)) (sym plain) refl
+
+pub failed_says : (report : Report) → report ≡ plain_of WriteFault → IsAnswerMessage report.status (line_of report)
+failed_says report plain = subst (λ (r : Report). IsAnswerMessage r.status (line_of r)) (sym plain) refl
+
+-- how a run that ended at once did not end, and when its input failed
+pub stopped_reads : (end : Result (Unit {0}) PcapErr) (report : Report) → ReportsInput end (Err report) → report.status ≡ ReadFault → end ≡ Err cause.ReadFault
+stopped_reads (Ok done) report r e = absurd r
+stopped_reads (Err e) report (inl (other, plain)) h = let bad : NoMemory ≡ ReadFault = sym (ap (λ (r : Report). r.status) plain) ∙ h in absurd (cc)
+stopped_reads (Err e) report (inr (inl (fault, plain))) h = ap Err fault
+stopped_reads (Err e) report (inr (inr (refused, head))) h = let bad : BadInput ≡ ReadFault = sym refused.status ∙ h in absurd (cc)
+
+pub stopped_fault : (end : Result (Unit {0}) PcapErr) (report : Report) → ReportsInput end (Err report) → end ≡ Err cause.ReadFault → report.status ≡ ReadFault
+stopped_fault (Ok done) report r h = absurd r
+stopped_fault (Err e) report (inl (other, plain)) h = let same : e ≡ cause.ReadFault = cc in absurd (other same)
+stopped_fault (Err e) report (inr (inl (fault, plain))) h = ap (λ (r : Report). r.status) plain
+stopped_fault (Err e) report (inr (inr (refused, head))) h = let same : e ≡ cause.ReadFault = cc in absurd (refused.inside (inl same))
+
+pub going_reads : (end : Result (Unit {0}) PcapErr) (report : Report) → ReportsInput end (Ok report) → end ≡ Err cause.ReadFault → ⊥
+going_reads (Ok done) report r h = cc
+going_reads (Err e) report (refused, records) h = let same : e ≡ cause.ReadFault = cc in refused.inside (inl same)
+
+pub stopped_other : (end : Result (Unit {0}) PcapErr) (report : Report) → ReportsInput end (Err report) → (report.status ≢ Done) × (report.status ≢ WriteFault)
+stopped_other (Ok done) report r = absurd r
+stopped_other (Err e) report (inl (other, plain)) =
+    let is : report.status ≡ NoMemory = ap (λ (r : Report). r.status) plain in
+    (λ h. let bad : NoMemory ≡ Done = sym is ∙ h in cc, λ h. let bad : NoMemory ≡ WriteFault = sym is ∙ h in cc)
+stopped_other (Err e) report (inr (inl (fault, plain))) =
+    let is : report.status ≡ ReadFault = ap (λ (r : Report). r.status) plain in
+    (λ h. let bad : ReadFault ≡ Done = sym is ∙ h in cc, λ h. let bad : ReadFault ≡ WriteFault = sym is ∙ h in cc)
+stopped_other (Err e) report (inr (inr (refused, head))) =
+    (λ h. let bad : BadInput ≡ Done = sym refused.status ∙ h in cc, λ h. let bad : BadInput ≡ WriteFault = sym refused.status ∙ h in cc)
+
+-- how a run that answers first ends
+pub going_ends : (end : Result (Unit {0}) PcapErr) (report : Report) → ReportsInput end (Ok report) → ((report.status ≡ Done) × (end ≡ Ok tt)) ⊎ (report.status ≡ BadInput)
+going_ends (Ok done) report plain = inl (ap (λ (r : Report). r.status) plain, refl)
+going_ends (Err e) report (refused, records) = inr refused.status
+
+pub going_other : (end : Result (Unit {0}) PcapErr) (report : Report) → ReportsInput end (Ok report) → (report.status ≢ ReadFault) × (report.status ≢ WriteFault) × (IsSilent report.status → ⊥)
+going_other end report r = elim (going_ends end report r) [
+  | inl (done, whole) ↦ (
+    λ h. let bad : Done ≡ ReadFault = sym done ∙ h in cc,
+    λ h. let bad : Done ≡ WriteFault = sym done ∙ h in cc,
+    λ s. subst IsSilent done s,
+  )
+  | inr refused ↦ (
+    λ h. let bad : BadInput ≡ ReadFault = sym refused ∙ h in cc,
+    λ h. let bad : BadInput ≡ WriteFault = sym refused ∙ h in cc,
+    λ s. subst IsSilent refused s,
+  )
+]
+
+pub going_done : (end : Result (Unit {0}) PcapErr) (report : Report) → ReportsInput end (Ok report) → report.status ≡ Done → end ≡ Ok tt
+going_done end report r h = elim (going_ends end report r) [
+  | inl (done, whole) ↦ whole
+  | inr refused ↦ let bad : BadInput ≡ Done = sym refused ∙ h in absurd (cc)
+]
+
+-- where the query is one, a reply is no refusal of it
+pub reply_cause : (job : Job) (q : Node) (status : Status) (message : List ℕ) → Spells job.query q → IsAnswerMessage status message → HasQueryCause job status
+reply_cause job q status message spelled says = record {
+  planned = λ h. subst (λ s. IsAnswerMessage s message) h says;
+  refused = λ h. absurd (subst (λ s. IsAnswerMessage s message) h says);
+  exact = λ e refused. absurd (not_both job.query q e spelled refused);
+}
+
+-- what says a reply touched its input
+pub reply_reads : (status : Status) (message : List ℕ) → IsAnswerMessage status message → IsUnread status → ⊥
+reply_reads Usage message says unread = says
+reply_reads BadQuery message says unread = says
+reply_reads Done message says unread = unread
+reply_reads BadInput message says unread = unread
+reply_reads ReadFault message says unread = unread
+reply_reads WriteFault message says unread = unread
+reply_reads NoMemory message says unread = unread
+reply_reads DiskFault message says unread = unread
+reply_reads Damaged message says unread = unread
+reply_reads StampsSpent message says unread = unread
+
+-- what a reply says is what its job does
+pub reply_answers : (job : Job) (status : Status) (message : List ℕ) → IsAnswerMessage status message → IsJobMessage job status message
+reply_answers job BadQuery message says = absurd says
+reply_answers job Usage message says = says
+reply_answers job Done message says = says
+reply_answers job BadInput message says = says
+reply_answers job ReadFault message says = says
+reply_answers job WriteFault message says = says
+reply_answers job NoMemory message says = says
+reply_answers job DiskFault message says = says
+reply_answers job Damaged message says = says
+reply_answers job StampsSpent message says = says
 
 -- a reply to the query of a plan is what the plan asks for
 pub asked_of_reply : (job : Job) (q : Node) (now : ℕ) (bytes output : List ℕ) (status : Status) (message : List ℕ)
-    → Spells job.query q → IsReply q (shape_of job) now bytes output status message → IsAsked job now bytes output status message
+    → Spells job.query q → IsReply job q now bytes output status message → IsAsked job now bytes output status message
 asked_of_reply job q now bytes output Done message spelled reply = (q, spelled, reply)
 asked_of_reply job q now bytes output BadInput message spelled reply = (q, spelled, reply)
 asked_of_reply job q now bytes output Usage message spelled reply = (q, spelled, reply)
@@ -72,7 +193,7 @@ asked_of_reply job q now bytes output NoMemory message spelled reply = (q, spell
 asked_of_reply job q now bytes output StampsSpent message spelled reply = (q, spelled, reply)
 
 pub asked_leaves : (job : Job) (q : Node) (now : ℕ) (bytes : List ℕ) (status : Status) (message : List ℕ) (old new : Option (List ℕ))
-    → Spells job.query q → Leaves (IsReply q (shape_of job) now bytes) status message old new → Leaves (IsAsked job now bytes) status message old new
+    → Spells job.query q → Leaves (IsReply job q now bytes) status message old new → Leaves (IsAsked job now bytes) status message old new
 asked_leaves job q now bytes Done message old new spelled (output, reply, put) = (output, (q, spelled, reply), put)
 asked_leaves job q now bytes BadInput message old new spelled (output, reply, put) = (output, (q, spelled, reply), put)
 asked_leaves job q now bytes WriteFault message old new spelled (output, status, silenced, reply, put, said) =
@@ -126,7 +247,7 @@ apart job other q e words plan asked spelled refused = not_both other.query q e 
 whole_only : (bytes : List ℕ) (rs qs : List Rec) (cause : PcapErr) → Input bytes rs Whole → Input bytes qs (Refused cause) → ⊥
 whole_only bytes rs qs cause h k = let bad : Whole ≡ Refused cause = (one_input bytes rs qs Whole (Refused cause) h k).1 in cc
 
--- where the words ask a query and nothing fails, the input's end decides, but for want of memory
+-- where the words ask a query and nothing fails, the input's end decides, unless memory runs out
 pub completes : (words : List (List ℕ)) (job : Job) (q : Node) (now : ℕ) (bytes : List ℕ) (rs : List Rec) (end : End) (status : Status) (message : List ℕ) (old new : Option (List ℕ))
     → IsPlan words job → Spells job.query q → Input bytes rs end → (status ≡ ReadFault → ⊥) → (status ≡ WriteFault → ⊥)
     → Leaves (IsJob words now bytes) status message old new → EndsBy end status
@@ -147,9 +268,6 @@ completes words job q now bytes rs end DiskFault message old new plan spelled gi
 completes words job q now bytes rs end Damaged message old new plan spelled given read write (output, (other, asked, (p, said, reply)), put) = absurd reply
 completes words job q now bytes rs end StampsSpent message old new plan spelled given read write (output, (other, asked, (p, said, reply)), put) = absurd reply
 
-pub differ : (b : Bool) → b ≡ true → b ≡ false → ⊥
-differ b h k = let bad : true ≡ false = sym h ∙ k in cc
-
 -- the clock was asked, by words that ask for something
 pub asks_clock : (old new : Option (List ℕ)) (status : Status) (now : ℕ) → status ≢ Usage → Ticks old new now → AsksClock old new status now
 asks_clock old new Usage now other h = absurd (other refl)
@@ -163,16 +281,16 @@ asks_clock old new DiskFault now other h = h
 asks_clock old new Damaged now other h = h
 asks_clock old new StampsSpent now other h = h
 
--- a query that is refused, or want of memory for its line
-pub spoken_leaves : (job : Job) (now : ℕ) (bytes : List ℕ) (error : QueryErr) (result : Ending) (old : Option (List ℕ))
-    → (error ≢ refusal.NoMemory → Refuses job.query error) → Speaks error result → Leaves (IsAsked job now bytes) result.status (line_of result) old old
-spoken_leaves job now bytes error result old refuses (inl e) =
-    subst (λ (r : Ending). Leaves (IsAsked job now bytes) r.status (line_of r) old old) (sym e) (Keeps-refl old, refl)
-spoken_leaves job now bytes error result old refuses (inr (other, status, line)) =
-    subst (λ s. Leaves (IsAsked job now bytes) s (line_of result) old old) (sym status) ([], (error, refuses other, refl, line), Appends-nil old)
+-- what a query that is refused leaves
+pub refused_leaves : (job : Job) (now : ℕ) (bytes : List ℕ) (error : QueryErr) (report : Report) (old : Option (List ℕ))
+    → (error ≢ refusal.NoMemory → Refuses job.query error) → ReportsQuery error report → Leaves (IsAsked job now bytes) report.status (line_of report) old old
+refused_leaves job now bytes error report old refuses (inl e) =
+    subst (λ (r : Report). Leaves (IsAsked job now bytes) r.status (line_of r) old old) (sym e) (Keeps-refl old, refl)
+refused_leaves job now bytes error report old refuses (inr (other, status, line)) =
+    subst (λ s. Leaves (IsAsked job now bytes) s (line_of report) old old) (sym status) ([], (error, refuses other, refl, line), Appends-nil old)
 
 -- what the query of a plan says is what its words say
-pub says_of : (words : List (List ℕ)) (job : Job) (status : Status) (message : List ℕ) → IsPlan words job → status ≢ Usage → SaysAnswer job status message → SaysOf words status message
+pub says_of : (words : List (List ℕ)) (job : Job) (status : Status) (message : List ℕ) → IsPlan words job → status ≢ Usage → IsJobMessage job status message → IsRunMessage words status message
 says_of words job Usage message plan other h = absurd (other refl)
 says_of words job BadQuery message plan other (e, refused, line) = (job, e, plan, refused, line)
 says_of words job Done message plan other h = h
@@ -185,14 +303,14 @@ says_of words job NoMemory message plan other h = h
 says_of words job StampsSpent message plan other h = h
 
 -- words without a plan
-pub unplanned_ends : (words : List (List ℕ)) (bytes : List ℕ) (clock old : Option (List ℕ)) (result : Ending) → result ≡ plain_of Usage → ((job : Job) → IsPlan words job → ⊥)
-    → Ends words clock clock bytes old old result.status (line_of result)
+pub unplanned_ends : (words : List (List ℕ)) (bytes : List ℕ) (clock old : Option (List ℕ)) (result : Report) → result ≡ plain_of Usage → ((job : Job) → IsPlan words job → ⊥)
+    → EndsRun words clock clock bytes old old result.status (line_of result)
 unplanned_ends words bytes clock old result is none =
-    subst (λ (r : Ending). Ends words clock clock bytes old old r.status (line_of r)) (sym is) (0, refl, ([], (none, refl, refl), Appends-nil old))
+    subst (λ (r : Report). EndsRun words clock clock bytes old old r.status (line_of r)) (sym is) (0, refl, ([], (none, refl, refl), Appends-nil old))
 
-pub unplanned_cause : (words : List (List ℕ)) (result : Ending) → result ≡ plain_of Usage → ((job : Job) → IsPlan words job → ⊥) → HasWordCause words result.status
+pub unplanned_cause : (words : List (List ℕ)) (result : Report) → result ≡ plain_of Usage → ((job : Job) → IsPlan words job → ⊥) → HasWordCause words result.status
 unplanned_cause words result is none =
-    subst (λ (r : Ending). HasWordCause words r.status) (sym is) (record {
+    subst (λ (r : Report). HasWordCause words r.status) (sym is) (record {
       usage = λ _. none;
       unplanned = λ _. inl refl;
       refused = λ e. let bad : Usage ≡ BadQuery = e in absurd (cc);

@@ -1,7 +1,7 @@
 -- Records are selected one after the other.
 use Rattle.std.proofs.Common.{List, [], ◌∷◌, ◌++◌, refl, ap, inl, inr}
 use Rattle.st_base.specs.Records.{Rec}
-use Rattle.steno.specs.Selects.{Selects, KeepsMatch}
+use Rattle.steno.specs.Gathering.{Selects, KeepsMatch}
 
 pub passed : (M : Rec → Type 0) (rs kept : List Rec) (r : Rec) → Selects M rs kept → (M r → ⊥) → Selects M (rs ++ r ∷ []) kept
 passed M [] kept r h other = inl (other, h)

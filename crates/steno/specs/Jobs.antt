@@ -12,37 +12,37 @@ use Rattle.st_query.specs.declared.errors.QueryErr.{QueryErr}
 use Rattle.st_query.specs.declared.nodes.Node.{Node}
 use Rattle.st_query.specs.Answer.{AnswerOf}
 use Rattle.st_query.specs.Spelling.{Spells, Refuses}
-use Rattle.steno.specs.declared.shape.Shape.{Shape}
 use Rattle.steno.specs.declared.status.Status.{Status}
 use Rattle.steno.specs.declared.status.Status.TheVariants.{Done, Usage, BadInput, BadQuery, ReadFault, WriteFault, NoMemory}
 use Rattle.steno.specs.Limited.{Limited}
 use Rattle.steno.specs.Messages.{status_line, query_line, input_line}
-use Rattle.steno.specs.Plans.{IsPlan, shape_of}
+use Rattle.steno.specs.Plans.{IsPlan}
 
--- the output is the pcap text of the answer over these records, cut to its limits and in its unit
-abbrev pub IsAnswered : Node → Shape → ℕ → List Rec → List ℕ → Type 0
-IsAnswered q shape now rs output =
-    (answer : List Rec) × (cut : List Rec) × AnswerOf q now rs answer × Limited shape.packets shape.bytes answer cut × (output ≡ PcapText cut shape.unit)
+-- the output is the pcap text of the answer over these records, cut to the job's limits and in its
+-- unit
+abbrev pub IsAnswered : Job → Node → ℕ → List Rec → List ℕ → Type 0
+IsAnswered job q now rs output =
+    (answer : List Rec) × (cut : List Rec) × AnswerOf q now rs answer × Limited job.limits answer cut × (output ≡ PcapText cut job.unit)
 
--- what stands at the output where the input is refused behind these records: their answer, but
+-- what stands at the output where the input is refused after these records: their answer, but
 -- nothing at all where the file head is refused
-abbrev pub IsAnsweredBefore : Node → Shape → ℕ → List Rec → PcapErr → List ℕ → Type 0
-IsAnsweredBefore q shape now rs cause output = (IsOfFileHead cause × (output ≡ [])) ⊎ ((IsOfFileHead cause → ⊥) × IsAnswered q shape now rs output)
+abbrev pub IsAnsweredBefore : Job → Node → ℕ → List Rec → PcapErr → List ℕ → Type 0
+IsAnsweredBefore job q now rs cause output = (IsOfFileHead cause × (output ≡ [])) ⊎ ((IsOfFileHead cause → ⊥) × IsAnswered job q now rs output)
 
 -- the query over these bytes ends so, with this output and this message
-abbrev pub IsReply : Node → Shape → ℕ → List ℕ → List ℕ → Status → List ℕ → Type 0
-IsReply q shape now bytes output Done message =
-    (rs : List Rec) × Input bytes rs Whole × IsAnswered q shape now rs output × (message ≡ [])
-IsReply q shape now bytes output BadInput message =
-    (rs : List Rec) × (cause : PcapErr) × Input bytes rs (Refused cause) × IsAnsweredBefore q shape now rs cause output × (message ≡ input_line cause)
-IsReply q shape now bytes output status message = ⊥
+abbrev pub IsReply : Job → Node → ℕ → List ℕ → List ℕ → Status → List ℕ → Type 0
+IsReply job q now bytes output Done message =
+    (rs : List Rec) × Input bytes rs Whole × IsAnswered job q now rs output × (message ≡ [])
+IsReply job q now bytes output BadInput message =
+    (rs : List Rec) × (cause : PcapErr) × Input bytes rs (Refused cause) × IsAnsweredBefore job q now rs cause output × (message ≡ input_line cause)
+IsReply job q now bytes output status message = ⊥
 
--- the query of a plan over these bytes ends so, with this output and this message
+-- the job over these bytes ends so, with this output and this message
 abbrev pub IsAsked : Job → ℕ → List ℕ → List ℕ → Status → List ℕ → Type 0
 IsAsked job now bytes output BadQuery message =
     (e : QueryErr) × Refuses job.query e × (output ≡ []) × (message ≡ query_line e)
 IsAsked job now bytes output status message =
-    (q : Node) × Spells job.query q × IsReply q (shape_of job) now bytes output status message
+    (q : Node) × Spells job.query q × IsReply job q now bytes output status message
 
 -- what these words ask for over these bytes ends so, with this output and this message, where no
 -- fault ends it
@@ -52,8 +52,8 @@ IsJob words now bytes output Usage message =
 IsJob words now bytes output status message =
     (job : Job) × IsPlan words job × IsAsked job now bytes output status message
 
--- What a run leaves at the output, of the jobs that it may be asked for: all of one's output; after a fault
--- of the output a front of it; and nothing where the input failed or memory was wanting.
+-- What a run leaves at the output, of the jobs that it may be asked for: all of one's output; after a
+-- fault of the output a prefix of it; and nothing where the input failed or memory ran out.
 abbrev pub Leaves : (List ℕ → Status → List ℕ → Type 0) → Status → List ℕ → Option (List ℕ) → Option (List ℕ) → Type 0
 Leaves job ReadFault message old new = Keeps old new × (message ≡ status_line ReadFault)
 Leaves job NoMemory message old new = Keeps old new × (message ≡ status_line NoMemory)

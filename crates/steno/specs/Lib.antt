@@ -1,7 +1,10 @@
+pub mod Gathering
 pub mod Jobs
 pub mod Limited
 pub mod Messages
+pub mod Packets
+pub mod PacketsView
 pub mod Plans
+pub mod Reports
 pub mod Running
-pub mod Selects
 pub mod Statuses

@@ -1,20 +1,21 @@
--- An answer within limits: the longest front of it that has at most so many packets and at most so
--- many captured bytes. So it stops at the first packet that passes a limit, and skips none.
+-- An answer within limits: the longest prefix of it that has at most this many packets and at most
+-- this many captured bytes. So it stops at the first packet that passes a limit, and skips none.
 use Rattle.std.specs.Prelude.{◌≡◌, ◌≤◌, ℕ, List, length, take, sum_by}
 use Rattle.st_base.specs.Records.{Rec}
+use Rattle.st_base.specs.declared.limits.Limits.{Limits}
 
 -- the bytes that these records captured, their heads not counted
 abbrev pub captured : List Rec → ℕ
 captured rs = sum_by (λ (r : Rec). length r.body) rs
 
--- there are at most so many records, with at most so many captured bytes
-pub record IsWithin (packets bytes : ℕ) (rs : List Rec) : Type 0 where
-  pub count : length rs ≤ packets
-  pub size : captured rs ≤ bytes
+-- there are no more records, and no more captured bytes, than the limits allow
+pub record IsWithin (limits : Limits) (rs : List Rec) : Type 0 where
+  pub count : length rs ≤ limits.packets
+  pub size : captured rs ≤ limits.bytes
 
--- the cut list is the longest front of the list that is within the limits
-pub record Limited (packets bytes : ℕ) (rs cut : List Rec) : Type 0 where
+-- the cut list is the longest prefix of the list that is within the limits
+pub record Limited (limits : Limits) (rs cut : List Rec) : Type 0 where
   pub count : ℕ
-  pub front : cut ≡ take count rs
-  pub within : IsWithin packets bytes cut
-  pub longest : (n : ℕ) → IsWithin packets bytes (take n rs) → length (take n rs) ≤ length cut
+  pub prefix : cut ≡ take count rs
+  pub within : IsWithin limits cut
+  pub longest : (n : ℕ) → IsWithin limits (take n rs) → length (take n rs) ≤ length cut

@@ -1,4 +1,4 @@
--- The line that tells why a run is not done. Each ends with a line feed.
+-- The line that says why a run is not done. Each ends with a line feed.
 use Rattle.std.specs.Prelude.{ℕ, ◌/◌, ◌%◌, false, List, [], ◌∷◌, ◌++◌, codes, Option, Some, None, String, string_bytes}
 use Rattle.std.specs.Global.{Global}
 use Rattle.std.specs.Fmt.{decimal, digit_glyph}
@@ -6,7 +6,7 @@ use Rattle.st_pcap.specs.declared.errors.PcapErr.{PcapErr}
 use Rattle.st_pcap.specs.declared.errors.PcapErr.TheVariants as pcap
 use Rattle.st_query.specs.declared.errors.QueryErr.{QueryErr}
 use Rattle.st_query.specs.declared.errors.QueryErr.TheVariants as query
-use Rattle.steno.specs.declared.ending.Ending.{Ending}
+use Rattle.steno.specs.declared.report.Report.{Report}
 use Rattle.steno.specs.declared.status.Status.{Status}
 use Rattle.steno.specs.declared.status.Status.TheVariants.{Done, Usage, BadInput, BadQuery, ReadFault, WriteFault, DiskFault, Damaged, NoMemory, StampsSpent}
 
@@ -22,7 +22,7 @@ hex_byte n = digit_glyph false (n / 16) ∷ (digit_glyph false (n % 16) ∷ [])
 abbrev pub hex_word : ℕ → List ℕ
 hex_word n = hex_byte (n / 16777216 % 256) ++ (hex_byte (n / 65536 % 256) ++ (hex_byte (n / 256 % 256) ++ hex_byte (n % 256)))
 
--- the line of a way to end that has always the same
+-- the line that a status always has
 abbrev pub status_line : Status → List ℕ
 status_line Done = []
 status_line Usage = codes "steno: usage: steno COMMAND [ARGUMENTS] [OPTIONS]\n"
@@ -65,10 +65,10 @@ input_line (pcap.Truncated number have want) = record_line number (decimal have 
 input_line (pcap.TooMuch taken) = codes "steno: input stopped after " ++ (decimal taken ++ codes " bytes\n")
 input_line pcap.NoMemory = status_line NoMemory
 
--- the line of an ending: its own, or its status's
+-- the line of a report: its own, or its status's
 abbrev pub made_line : Status → Option (String Global) → List ℕ
 made_line status (Some text) = string_bytes text
 made_line status None = status_line status
 
-abbrev pub line_of : Ending → List ℕ
+abbrev pub line_of : Report → List ℕ
 line_of e = made_line e.status e.line

@@ -3,12 +3,7 @@ use Rattle.std.specs.Prelude.{ℕ, List}
 use Rattle.st_plan.specs.Jobs.{Job}
 use Rattle.st_plan.specs.Plans as words
 use Rattle.st_plan.specs.declared.jobs.Plan.TheVariants.{Once}
-use Rattle.steno.specs.declared.shape.Shape.{Shape}
 
 -- the words ask for `once` with this query, unit and limits
 abbrev pub IsPlan : List (List ℕ) → Job → Type 0
 IsPlan asked job = words.IsPlan asked (Once job)
-
--- the form of the answer that is asked for
-abbrev pub shape_of : Job → Shape
-shape_of job = record { unit = job.unit; packets = job.limits.packets; bytes = job.limits.bytes }

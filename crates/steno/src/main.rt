@@ -1,51 +1,51 @@
 //! steno: answers a query over captured packets, as a program.
 //!
-//! Its one command is `once QUERY`: it reads a pcap on standard input and writes those of its packets
-//! that match, by second, nanosecond and place, as a pcap with times in microseconds, or with `--ns`
-//! in nanoseconds. `--packets N` and `--bytes N` limit the answer's packets and captured bytes. A
-//! run ends by a status, whose number the process ends with, and by a line on standard error where
-//! it isn't 0: docs/FORMAT.md, "Words", "Statuses" and "Messages".
+//! Its one command is `once QUERY`: it reads a pcap from standard input and writes those of its
+//! packets that match, by second, nanosecond and place, as a pcap with times in microseconds, or
+//! with `--ns` in nanoseconds. `--packets N` and `--bytes N` limit the answer's packets and
+//! captured bytes. A run ends with a status, whose number is the exit status of the process, and
+//! with a line on standard error unless it is 0: docs/FORMAT.md, "Command line", "Statuses" and
+//! "Messages".
 //!
 //! # What it promises
 //!
-//! `run` says, over any streams and clock, by the words and the input's bytes:
+//! `run` says, over any streams and clock, by the arguments and the input's bytes:
 //!
 //! - What each way to end leaves at the output and as the message (`job`). The answer is the one
 //!   list of the input's records that rises strictly by second, nanosecond and place, and whose
-//!   members are exactly those that match; within limits it is the longest front that they allow.
+//!   members are exactly those that match; within limits it is the longest prefix that they allow.
 //! - What it says, and when each way to end comes (`says`, `asked`, `fault`, `complete`, `ended`).
-//!   Want of memory alone may come at any time.
+//!   Only running out of memory may come at any time.
 //! - What it leaves as it was (`alone`, `rest`).
+//!
+//! A flush that fails after the run makes its status `WriteFault` (`flushed`).
 //!
 //! # What it leaves to others
 //!
-//! What real streams give and take is not said: `main` makes them, with buffers, and takes a flush
-//! that fails after the run for a fault of the output.
+//! What real streams give and take is not said: `main` makes them, with buffers.
 //!
 //! # Where to read
 //!
-//! `specs/Plans.antt`, `specs/Jobs.antt`, `specs/Limited.antt` and `specs/Messages.antt` say what is
-//! asked for and left, `specs/Running.antt` what the calls ensure. Then `runner`, and below it
-//! `input`, `order`, `limit`, `output`.
+//! `specs/Plans.antt`, `specs/Jobs.antt`, `specs/Limited.antt` and `specs/Messages.antt` say what
+//! is asked for and left, `specs/Running.antt` what a run ensures. Then `runner`, `once`, and below
+//! them `gather`, `packets`, `report`.
 #![tactic(auto)]
 
-ghost use Rattle.std.specs.Prelude.{◌≡◌};
+ghost use Rattle.std.specs.Prelude.{◌≡◌, MatchResult};
 
-use crate::ending::plain;
-use crate::runner::{run, tell};
+use crate::report::{plain, tell};
+use crate::runner::run;
 use crate::status::{Status, code};
-use st_base::{MachineClock, Sink, StreamSink, StreamSource};
+use st_base::{Failed, MachineClock, Sink, StreamSink, StreamSource};
 use std::io::{self, BufReader, BufWriter};
 use std::process::ExitCode;
 
-mod ending;
-mod input;
-mod limit;
+mod gather;
 mod message;
-mod order;
-mod output;
+mod once;
+mod packets;
+mod report;
 mod runner;
-mod shape;
 mod status;
 #[cfg(test)]
 mod tests;
@@ -76,13 +76,25 @@ fn begin(rt: &HostRuntime) -> Status {
     let mut clock = MachineClock::of(rt);
     let words = words.as_slice();
     let ended = run(alloc, words, &mut input, &mut out, &mut err, &mut clock);
-    if out.flush().is_err() && ended.status != Status::WriteFault {
-        return told(&mut err, Status::WriteFault);
+    let status = flushed(ended.status, out.flush());
+    if status == ended.status {
+        return status;
     }
-    ended.status
+    told(&mut err, status)
 }
 
-// The words after the program's name. One that is no text has no command.
+// How a run ended whose output was then flushed: a flush that fails is a fault of the output,
+// however the run ended.
+fn flushed(status: Status, flush: Result<(), Failed>) -> Status
+    ensures { MatchResult flush (λ _. result ≡ status) (λ _. result ≡ Status.WriteFault) }
+{
+    match flush {
+        Ok(()) => status,
+        Err(_) => Status::WriteFault,
+    }
+}
+
+// The words after the program's name. Where one is not UTF-8, there is no command.
 fn words_of(rt: &HostRuntime) -> Result<Vec<String>, Status> {
     let mut words = Vec::new(rt.alloc());
     let all = match std::env::args(rt) {
@@ -102,7 +114,7 @@ fn words_of(rt: &HostRuntime) -> Result<Vec<String>, Status> {
     Ok(words)
 }
 
-// Tells why there was no run, or why it went wrong after its end.
+// Tells the line of this status, of a run that there wasn't or whose flush failed.
 fn told<E: Sink>(err: &mut E, status: Status) -> Status
     ensures { result ≡ status }
 {

@@ -1,25 +1,25 @@
-//! The line that tells why a run isn't done. Source: docs/FORMAT.md, "Messages".
+//! The line that says why a run is not done. Source: docs/FORMAT.md, "Messages".
 
 ghost use Rattle.std.specs.Prelude.{◌≡◌, ◌+◌, ◌/◌, ◌%◌, IfOk, string_bytes};
 ghost use Rattle.steno.specs.Messages.{status_line, query_line, input_line, line_of, hex_byte};
 
-use crate::ending::Ending;
+use crate::report::Report;
 use crate::status::Status;
 use st_pcap::PcapErr;
 use st_query::QueryErr;
 use std::alloc::{AllocError, Global};
 
-/// The bytes of an ending's line.
-pub fn line_bytes(ending: &Ending) -> &[u8]
-    ensures { result.now ≡ line_of ending.now }
+/// The bytes of a report's line.
+pub fn line_bytes(report: &Report) -> &[u8]
+    ensures { result.now ≡ line_of report.now }
 {
-    match &ending.line {
+    match &report.line {
         Some(line) => line.as_bytes(),
-        None => status_text(ending.status).as_bytes(),
+        None => status_text(report.status).as_bytes(),
     }
 }
 
-// The line of a way to end that has always the same.
+// The line that a status always has.
 fn status_text(status: Status) -> &'static str
     ensures { result.now ≡ status_line status }
 {

@@ -6,29 +6,29 @@ ghost use Rattle.steno.specs.Statuses.{code_of};
 /// How a run ends; `code` gives its number.
 #[derive(Clone, Copy, Debug, PartialEq, Eq)]
 pub enum Status {
-    /// The output is whole, and the input was read to its end.
+    /// The input was read to its end, and the whole answer is written.
     Done,
-    /// The words name no command of this program.
+    /// The arguments ask for nothing that the program does.
     Usage,
-    /// The input was refused at a place that the message tells.
+    /// The input was refused, for the cause in the message.
     BadInput,
-    /// The query was refused at a place that the message tells.
+    /// The query was refused, for the cause in the message.
     BadQuery,
-    /// The input failed.
+    /// Reading the input failed.
     ReadFault,
-    /// The output failed.
+    /// Writing the output failed.
     WriteFault,
     /// The spool failed.
     DiskFault,
     /// A pair of the spool is damaged.
     Damaged,
-    /// Memory was wanting.
+    /// The program ran out of memory.
     NoMemory,
-    /// No stamp follows the last one.
+    /// There is no greater stamp left for a new pair.
     StampsSpent,
 }
 
-/// What a run answers.
+/// What a run returns.
 #[derive(Clone, Copy, Debug, PartialEq, Eq)]
 pub struct Ended {
     pub status: Status,

@@ -46,17 +46,31 @@ struct Outcome {
     message: Vec<u8>,
 }
 
-// A run of these words over this input, whose reads and writes of these numbers fail.
+// The numbers of the calls that fail, counted from 0: reads of the input, writes of the output, and
+// writes of the message.
+#[derive(Clone, Copy)]
+struct Fails<'a> {
+    reads: &'a [u32],
+    writes: &'a [u32],
+    messages: &'a [u32],
+}
+
+const NONE: Fails<'static> = Fails {
+    reads: &[],
+    writes: &[],
+    messages: &[],
+};
+
+// A run of these words over this input.
 fn tried(
     alloc: Global,
     words: Vec<String>,
     input: &[u8],
-    read_fails: &[u32],
-    write_fails: &[u32],
+    fails: &Fails<'_>,
 ) -> Result<Outcome, Fail> {
-    let mut source = MemSource::over(alloc, input, 7, read_fails)?;
-    let mut out = MemSink::new(alloc, write_fails)?;
-    let mut err = MemSink::new(alloc, &[])?;
+    let mut source = MemSource::over(alloc, input, 4_096, fails.reads)?;
+    let mut out = MemSink::new(alloc, fails.writes)?;
+    let mut err = MemSink::new(alloc, fails.messages)?;
     let mut clock = MemClock::over(alloc, &[])?;
     let words = words.as_slice();
     let ended = run(alloc, words, &mut source, &mut out, &mut err, &mut clock);
@@ -91,7 +105,7 @@ fn expect(
     status: u8,
 ) -> Result<(), Fail> {
     let alloc = rt.alloc();
-    let got = tried(alloc, once(alloc, query)?, input, &[], &[])?;
+    let got = tried(alloc, once(alloc, query)?, input, &NONE)?;
     assert_eq!(rt; got.output.as_slice(), output, "the output of {query}");
     assert_eq!(rt;
         got.message.as_slice(),
@@ -135,7 +149,7 @@ fn other_words_are_a_usage(rt: HostRuntime) -> Result<(), Fail> {
     let mut more = once(alloc, "a")?;
     more.push(String::from_str(alloc, "b")?)?;
     for words in [Vec::new(alloc), alone, more] {
-        let got = tried(alloc, words, HEAD, &[], &[])?;
+        let got = tried(alloc, words, HEAD, &NONE)?;
         assert_eq!(rt; got.status, Status::Usage);
         assert_eq!(rt; got.message.as_slice(), USAGE);
         assert!(rt; got.output.is_empty());
@@ -152,25 +166,25 @@ fn the_answer_is_by_time_and_then_by_place(rt: HostRuntime) -> Result<(), Fail> 
     let later = [5, 0, 0, 0, 10, 0, 0, 0, 46, 0, 0, 0, 99, 0, 0, 0];
     let input = joined(alloc, &[HEAD, &later, DNS, &late, DNS, &early, DNS])?;
     let wanted = joined(alloc, &[HEAD, &early, DNS, &later, DNS, &late, DNS])?;
-    let got = tried(alloc, once(alloc, "port 53")?, input.as_slice(), &[], &[])?;
+    let got = tried(alloc, once(alloc, "port 53")?, input.as_slice(), &NONE)?;
     assert_eq!(rt; got.output.as_slice(), wanted.as_slice());
     assert_eq!(rt; got.status, Status::Done);
     Ok(())
 }
 
-// Each read and each write fails in turn.
+// There are four reads: of the file head, of a record's head and its body, and of the end; and two
+// writes: of the file head, and of the packet.
 #[test]
 fn a_fault_ends_the_run(rt: HostRuntime) -> Result<(), Fail> {
     let alloc = rt.alloc();
     let whole = joined(alloc, &[HEAD, DNS_HEAD, DNS])?;
-    for call in 0..10u32 {
-        let got = tried(
-            alloc,
-            once(alloc, "port 53")?,
-            whole.as_slice(),
-            &[call],
-            &[],
-        )?;
+    let whole = whole.as_slice();
+    for call in 0..4u32 {
+        let fails = Fails {
+            reads: &[call],
+            ..NONE
+        };
+        let got = tried(alloc, once(alloc, "port 53")?, whole, &fails)?;
         assert_eq!(rt; got.status, Status::ReadFault, "at read {call}");
         assert!(rt; got.output.is_empty(), "at read {call}");
         assert_eq!(rt;
@@ -178,14 +192,12 @@ fn a_fault_ends_the_run(rt: HostRuntime) -> Result<(), Fail> {
             b"steno: reading the input failed\n".as_slice()
         );
     }
-    for call in 0..3u32 {
-        let got = tried(
-            alloc,
-            once(alloc, "port 53")?,
-            whole.as_slice(),
-            &[],
-            &[call],
-        )?;
+    for call in 0..2u32 {
+        let fails = Fails {
+            writes: &[call],
+            ..NONE
+        };
+        let got = tried(alloc, once(alloc, "port 53")?, whole, &fails)?;
         assert_eq!(rt; got.status, Status::WriteFault, "at write {call}");
         assert!(rt; whole.starts_with(got.output.as_slice()), "at write {call}");
         assert_eq!(rt;
@@ -193,5 +205,83 @@ fn a_fault_ends_the_run(rt: HostRuntime) -> Result<(), Fail> {
             b"steno: writing the output failed\n".as_slice()
         );
     }
+    Ok(())
+}
+
+// A message goes out by one write: where that fails nothing of it is there, and a second one, which
+// would fail, isn't made. The status stays in either case.
+#[test]
+fn a_message_is_one_write(rt: HostRuntime) -> Result<(), Fail> {
+    let alloc = rt.alloc();
+    for call in 0..2u32 {
+        let fails = Fails {
+            messages: &[call],
+            ..NONE
+        };
+        let got = tried(alloc, Vec::new(alloc), HEAD, &fails)?;
+        let wanted: &[u8] = if call == 0 { &[] } else { USAGE };
+        assert_eq!(rt; got.status, Status::Usage, "at write {call}");
+        assert_eq!(rt; got.message.as_slice(), wanted, "at write {call}");
+    }
+    Ok(())
+}
+
+// Packets that are in order already go out by one write, behind the file head's: a third write,
+// which would fail, isn't made.
+#[test]
+fn packets_in_order_are_one_write(rt: HostRuntime) -> Result<(), Fail> {
+    let alloc = rt.alloc();
+    let input = joined(alloc, &[HEAD, DNS_HEAD, DNS, DNS_HEAD, DNS, DNS_HEAD, DNS])?;
+    let fails = Fails {
+        writes: &[2],
+        ..NONE
+    };
+    let got = tried(alloc, once(alloc, "port 53")?, input.as_slice(), &fails)?;
+    assert_eq!(rt; got.status, Status::Done);
+    assert_eq!(rt; got.output.as_slice(), input.as_slice());
+    Ok(())
+}
+
+// 1,000 packets from the last to the first: the buffer grows many times, and all are sorted.
+#[test]
+fn many_packets_are_kept_and_sorted(rt: HostRuntime) -> Result<(), Fail> {
+    let alloc = rt.alloc();
+    let mut input = joined(alloc, &[HEAD])?;
+    let mut wanted = joined(alloc, &[HEAD])?;
+    for k in 0..1_000u32 {
+        for (text, sec) in [(&mut input, 999 - k), (&mut wanted, k)] {
+            text.extend_from_slice(&sec.to_le_bytes())?;
+            text.extend_from_slice(&DNS_HEAD[4..])?;
+            text.extend_from_slice(DNS)?;
+        }
+    }
+    let got = tried(alloc, once(alloc, "port 53")?, input.as_slice(), &NONE)?;
+    assert_eq!(rt; got.status, Status::Done);
+    assert_eq!(rt; got.output.as_slice(), wanted.as_slice());
+    Ok(())
+}
+
+// A body of 262,144 bytes, the longest that is read.
+#[test]
+fn the_longest_body_is_answered_whole(rt: HostRuntime) -> Result<(), Fail> {
+    let alloc = rt.alloc();
+    let head = [0, 0, 0, 0, 0, 0, 0, 0, 0, 0, 4, 0, 0, 0, 4, 0];
+    let rest = vec![in alloc; 0xa5; 262_144 - 46]?;
+    let input = joined(alloc, &[HEAD, &head, DNS, rest.as_slice()])?;
+    let got = tried(alloc, once(alloc, "port 53")?, input.as_slice(), &NONE)?;
+    assert_eq!(rt; got.status, Status::Done);
+    assert_eq!(rt; got.output.as_slice(), input.as_slice());
+    Ok(())
+}
+
+#[test]
+fn many_words_are_read(rt: HostRuntime) -> Result<(), Fail> {
+    let alloc = rt.alloc();
+    let mut words = once(alloc, "port 53")?;
+    for _ in 0..1_000u32 {
+        words.push(String::from_str(alloc, "port 53")?)?;
+    }
+    let got = tried(alloc, words, HEAD, &NONE)?;
+    assert_eq!(rt; got.status, Status::Usage);
     Ok(())
 }

@@ -6,7 +6,7 @@ use thiserror::Error;
 /// Why a line isn't taken.
 #[derive(Clone, Copy, Debug, PartialEq, Eq, Error)]
 pub enum LineErr {
-    /// No space stands between a key and a value.
+    /// No space is between a key and a value.
     #[error("no space")]
     NoSpace,
     /// What should be bytes is not an even number of hexadecimal digits.
@@ -18,7 +18,7 @@ pub enum LineErr {
     /// Writing the table failed.
     #[error("writing the table failed")]
     WriteFault,
-    /// Memory was wanting.
+    /// Out of memory.
     #[error("out of memory")]
     NoMemory,
 }
@@ -35,7 +35,7 @@ pub fn next_line<R: BufRead>(reader: &mut R, line: &mut Vec<u8>) -> io::Result<b
     Ok(true)
 }
 
-// Which digit comes next can't be foretold, so neither of these branches on it.
+// Which digit comes next can't be predicted, so neither of these branches on it.
 
 /// Whether this is a hexadecimal digit.
 fn is_digit(letter: u8) -> bool {

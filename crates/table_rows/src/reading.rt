@@ -3,8 +3,9 @@
 use crate::BUFFER;
 use crate::hexes::{decode, next_line, put};
 use anyhow::{Context, Result};
-use st_base::FileReader;
-use st_table::Table;
+use st_base::{FileReader, Reader};
+use st_table::{Cursor, Table};
+use std::alloc::Global;
 use std::fs::File;
 use std::io::{self, BufReader, BufWriter, Write};
 
@@ -13,6 +14,25 @@ fn open(rt: &HostRuntime, path: &str) -> Result<FileReader> {
     let file = File::open(rt, path).context("the file can't be opened")?;
     let size = file.metadata()?.len();
     Ok(FileReader::over(file, size))
+}
+
+/// Prints a line for each row that is still to come.
+///
+/// It ends over any file: each row that the table gives leaves fewer to come.
+fn print_rows<R: Reader, W: Write>(
+    alloc: Global,
+    table: &mut Table<'_, R>,
+    cursor: &mut Cursor,
+    out: &mut W,
+) -> Result<()> {
+    let mut text = Vec::new(alloc);
+    'rows: while let Some(row) = table.step(alloc, cursor)? {
+        put(out, row.key.bytes(), &mut text)?;
+        out.write_all(b" ".as_slice())?;
+        put(out, row.value.bytes(), &mut text)?;
+        out.write_all(b"\n".as_slice())?;
+    }
+    Ok(())
 }
 
 /// Prints a line for each row of the table of this path.
@@ -26,16 +46,7 @@ pub fn print(rt: &HostRuntime, path: &str) -> Result<()> {
         .ok()
         .context("out of memory")?;
     let mut out = BufWriter::with_capacity(alloc, BUFFER, io::writer(rt))?;
-    let mut text = Vec::new(alloc);
-    for _ in 0..u64::MAX {
-        let Some(row) = table.step(alloc, &mut cursor)? else {
-            break;
-        };
-        put(&mut out, row.key.bytes(), &mut text)?;
-        out.write_all(b" ".as_slice())?;
-        put(&mut out, row.value.bytes(), &mut text)?;
-        out.write_all(b"\n".as_slice())?;
-    }
+    print_rows(alloc, &mut table, &mut cursor, &mut out)?;
     out.flush()?;
     Ok(())
 }

@@ -24,7 +24,8 @@ pub fn block_head_bytes(
     first: (u32, u32),
     last: (u32, u32),
 ) -> [u8; BLOCK_HEAD]
-    ensures { result ≡ text (block_head size number count used (first.0, first.1) (last.0, last.1)) }
+    ensures { result
+        ≡ text (block_head size number count used (first.0, first.1) (last.0, last.1)) }
 {
     let mut head = [0; BLOCK_HEAD];
     LittleEndian::write_u32(&mut head[VERSION_AT..], VERSION);

@@ -39,7 +39,9 @@ pub fn check_block(number: u32, before: Option<usize>, block: &[u8]) -> Result<L
     requires least { MIN_BLOCK ≤ length block.now }
     requires whole { length block.now % ALIGNMENT ≡ 0 }
     requires place { length block.now * number + length block.now ≤ 2 ^ 32 }
-    ensures wrong { MatchResult result (λ _. block_wrong (length block.now) number before block.now ≡ None) (λ d. block_wrong (length block.now) number before block.now ≡ Some (damage_view d)) }
+    ensures wrong { MatchResult result
+        (λ _. block_wrong (length block.now) number before block.now ≡ None)
+        (λ d. block_wrong (length block.now) number before block.now ≡ Some (damage_view d)) }
     ensures whole { OnOk result (IsWholeBlock block.now) }
     ensures laid { IfOk result (IsLayout block.now) }
 {

@@ -25,7 +25,8 @@ use st_base::Damage;
 fn differs(place: u64, at: usize, head: &[u8], want: u64) -> Option<Damage>
     requires inside { at + 4 ≤ length head.now }
     requires place { place + length head.now ≤ 2 ^ 32 }
-    ensures { option_map damage_view result ≡ not_same (place + at) (little_number 4 (drop at head.now)) want }
+    ensures { option_map damage_view result
+        ≡ not_same (place + at) (little_number 4 (drop at head.now)) want }
 {
     not_same(place + at as u64, number_at(at, head) as u64, want)
 }
@@ -35,7 +36,8 @@ fn differs(place: u64, at: usize, head: &[u8], want: u64) -> Option<Damage>
 fn short_differs(place: u64, at: usize, head: &[u8], want: u64) -> Option<Damage>
     requires inside { at + 2 ≤ length head.now }
     requires place { place + length head.now ≤ 2 ^ 32 }
-    ensures { option_map damage_view result ≡ not_same (place + at) (little_number 2 (drop at head.now)) want }
+    ensures { option_map damage_view result
+        ≡ not_same (place + at) (little_number 2 (drop at head.now)) want }
 {
     not_same(place + at as u64, short_at(at, head) as u64, want)
 }
@@ -44,7 +46,8 @@ fn short_differs(place: u64, at: usize, head: &[u8], want: u64) -> Option<Damage
 fn record_head_wrong(place: u64, next: u64, bytes: &[u8]) -> Option<Damage>
     requires head { RECORD_HEAD ≤ length bytes.now }
     requires place { place + length bytes.now ≤ 2 ^ 32 }
-    ensures { (r : Rec) → option_map damage_view result ≡ first_wrong place (record_head next r) bytes.now }
+    ensures { (r : Rec) → option_map damage_view result
+        ≡ first_wrong place (record_head next r) bytes.now }
 {
     let distance = not_same(place, number_at(DISTANCE_AT, bytes) as u64, next);
     let nsec = number_at(NSEC_AT, bytes) as u64;
@@ -62,7 +65,8 @@ fn record_head_wrong(place: u64, next: u64, bytes: &[u8]) -> Option<Damage>
 fn record_wrong(place: u64, next: u64, bytes: &[u8]) -> Option<Damage>
     requires fits { room_at bytes.now ≤ length bytes.now }
     requires place { place + length bytes.now ≤ 2 ^ 32 }
-    ensures { option_map damage_view result ≡ first_wrong place (record_fields next (record_at bytes.now)) bytes.now }
+    ensures { option_map damage_view result
+        ≡ first_wrong place (record_fields next (record_at bytes.now)) bytes.now }
 {
     let len = captured_at(bytes) as usize;
     let padding = room_of(len as u32) as usize - RECORD_HEAD - len;
@@ -88,7 +92,8 @@ fn records_wrong(place: u64, count: u32, block: &[u8]) -> Option<Damage>
     requires least { BLOCK_HEAD ≤ length block.now }
     requires place { place + length block.now ≤ 2 ^ 32 }
     ensures { option_map damage_view result ≡ first_wrong (place + BLOCK_HEAD)
-        (records_fields (records_at count (drop BLOCK_HEAD block.now))) (drop BLOCK_HEAD block.now) }
+        (records_fields (records_at count (drop BLOCK_HEAD block.now)))
+        (drop BLOCK_HEAD block.now) }
 {
     let mut at = BLOCK_HEAD;
     'records: for had in 0..count {
@@ -109,7 +114,8 @@ fn counts_wrong(place: u64, number: u32, layout: Layout, block: &[u8]) -> Option
     requires least { BLOCK_HEAD ≤ length block.now }
     requires place { place + length block.now ≤ 2 ^ 32 }
     ensures { option_map damage_view result
-        ≡ first_wrong place (head_counts (length block.now) number layout.count layout.end) block.now }
+        ≡ first_wrong place
+        (head_counts (length block.now) number layout.count layout.end) block.now }
 {
     let version = number_at(VERSION_AT, block) as u64;
     let version = not_same(place, version, VERSION as u64);
@@ -133,7 +139,8 @@ fn times_wrong(place: u64, first: &[u8], last: &[u8], block: &[u8]) -> Option<Da
     requires least { BLOCK_HEAD ≤ length block.now }
     requires place { place + length block.now ≤ 2 ^ 32 }
     ensures { option_map damage_view result ≡ first_wrong (place + FIRST_SEC_AT)
-        (head_times (time (record_at first.now)) (time (record_at last.now))) (drop FIRST_SEC_AT block.now) }
+        (head_times (time (record_at first.now)) (time (record_at last.now)))
+        (drop FIRST_SEC_AT block.now) }
 {
     let sec = number_at(SEC_AT, first) as u64;
     let sec = differs(place, FIRST_SEC_AT, block, sec);
@@ -152,7 +159,8 @@ pub fn fields_wrong(place: u64, number: u32, layout: Layout, block: &[u8]) -> Op
     requires least { MIN_BLOCK ≤ length block.now }
     requires place { place + length block.now ≤ 2 ^ 32 }
     ensures { option_map damage_view result
-        ≡ first_wrong place (block_fields (length block.now) number (records_of block.now)) block.now }
+        ≡ first_wrong place
+        (block_fields (length block.now) number (records_of block.now)) block.now }
 {
     let first = block.split_at(BLOCK_HEAD).1;
     let last = block.split_at(layout.last).1;

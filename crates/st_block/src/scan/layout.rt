@@ -32,7 +32,8 @@ pub fn lay_out(place: u64, block: &[u8]) -> Result<Layout, Damage>
     requires place { place + length block.now ≤ 2 ^ 32 }
     requires least { MIN_BLOCK ≤ length block.now }
     requires whole { length block.now % ALIGNMENT ≡ 0 }
-    ensures wrong { MatchResult result (λ _. layout_wrong place block.now ≡ None) (λ d. layout_wrong place block.now ≡ Some (damage_view d)) }
+    ensures wrong { MatchResult result (λ _. layout_wrong place block.now ≡ None)
+        (λ d. layout_wrong place block.now ≡ Some (damage_view d)) }
     ensures laid { IfOk result (IsLayout block.now) }
 {
     let count = count_at(block);

@@ -1,7 +1,8 @@
 ghost use Rattle.std.specs.Prelude.{◌≡◌, ◌≤◌, ◌<◌, ◌+◌, ◌*◌, ◌^◌, List, ℕ, length, Some, IfOk};
-ghost use Rattle.st_base.specs.Faults.{HasCauseOf};
+ghost use Rattle.st_base.specs.Faults.{CountsOn, HasCauseOf};
+ghost use Rattle.st_base.specs.PlacedReads.{IsSameFile};
 ghost use Rattle.st_block.specs.Checks.{is_block_size, nearest_length};
-ghost use Rattle.st_block.specs.Scan.{Starts, EntersNew};
+ghost use Rattle.st_block.specs.Scan.{Starts, EntersNew, start_reads};
 
 use crate::errors::HeadErr;
 use crate::fields::number_at;
@@ -68,12 +69,18 @@ fn start(head: &[u8], extent: u64) -> Result<ScanState, HeadErr>
 
 /// Enters a file: reads its first eight bytes, and checks them and its length.
 pub fn enter<R: Reader>(file: &mut R) -> Result<ScanState, HeadErr>
+    // what comes
     ensures enters { (bytes : List ℕ) → R.content file.old ≡ Some bytes → EntersNew bytes result }
     ensures inside { IfOk result (λ p. p.size * p.blocks ≤ R.extent file.old) }
     ensures cause { HasCauseOf HeadErr.ReadFault (R.faults file.old) (R.faults file.new) result }
-    ensures content { R.content file.new ≡ R.content file.old }
-    ensures extent { R.extent file.new ≡ R.extent file.old }
-    ensures rest { R.beside file.new ≡ R.beside file.old }
+    // what the file was asked
+    ensures reads { CountsOn (R.reads file.old) (R.reads file.new)
+        (start_reads (R.extent file.old)) }
+    ensures asked { CountsOn (R.asked file.old) (R.asked file.new)
+        (START * start_reads (R.extent file.old)) }
+    // what stays
+    ensures same { IsSameFile (R.content file.old) (R.content file.new)
+        (R.extent file.old) (R.extent file.new) (R.beside file.old) (R.beside file.new) }
 {
     let extent = file.size();
     if extent < START as u64 {

@@ -1,9 +1,9 @@
 ghost use Rattle.std.specs.Prelude.{◌≡◌, ◌≤◌, ◌<◌, ◌+◌, ◌-◌, ◌*◌, ◌%◌, ◌^◌, length, drop, None, Some, Err, IfOk, OnErr, IfErr, OnOk, IfSome, List, ℕ, Ok, option_map};
-ghost use Rattle.st_base.specs.Faults.{HasCauseOf};
+ghost use Rattle.st_base.specs.Faults.{CountsOn, HasCauseOf};
 ghost use Rattle.st_base.specs.Records.{Rec};
-ghost use Rattle.st_base.specs.PlacedReads.{HasPart};
+ghost use Rattle.st_base.specs.PlacedReads.{HasPart, IsSameFile};
 ghost use Rattle.st_block.specs.Checks.{room_at, captured_length, record_at};
-ghost use Rattle.st_block.specs.ScanView.{bytes_of, IsNotDamage};
+ghost use Rattle.st_block.specs.ScanView.{bytes_of, load_reads, IsNotDamage};
 
 use crate::errors::BlockErr;
 use crate::fields::{captured_at, number_at};
@@ -33,9 +33,27 @@ impl Model for ScanState {
 
     ghost Value = { ScanView };
 
-    ghost view = { λ a. record { size = a.size; blocks = a.blocks; done = a.done; before = a.before; block = bytes_of (option_map (λ v. v.items) a.block); at = a.at; left = a.left; stopped = a.stopped } };
+    ghost view = { λ a. record {
+      size = a.size;
+      blocks = a.blocks;
+      done = a.done;
+      before = a.before;
+      block = bytes_of (option_map (λ v. v.items) a.block);
+      at = a.at;
+      left = a.left;
+      stopped = a.stopped;
+    } };
 
-    ghost invariant = { λ a. IsSoundScan (record { size = a.size; blocks = a.blocks; done = a.done; before = a.before; block = bytes_of (option_map (λ v. v.items) a.block); at = a.at; left = a.left; stopped = a.stopped }) };
+    ghost invariant = { λ a. IsSoundScan (record {
+      size = a.size;
+      blocks = a.blocks;
+      done = a.done;
+      before = a.before;
+      block = bytes_of (option_map (λ v. v.items) a.block);
+      at = a.at;
+      left = a.left;
+      stopped = a.stopped;
+    }) };
 }
 
 /// The bytes of a block that may not be there yet.
@@ -68,7 +86,8 @@ fn record_of(alloc: Global, bytes: &[u8]) -> Result<Record, NoMemory>
     })
 }
 
-/// The `size` bytes of the file from `place` on, in memory that was had before or in one allocation.
+/// The `size` bytes of the file from `place` on, in memory that was taken before or in one
+/// allocation.
 fn read_block<R: Reader>(
     alloc: Global,
     memory: Option<Vec<u8>>,
@@ -77,12 +96,17 @@ fn read_block<R: Reader>(
     size: u32,
 ) -> Result<Vec<u8>, BlockErr>
     requires inside { place + size ≤ R.extent file.old }
-    ensures bytes { IfOk result (λ v. (length v.items ≡ size) × HasPart (R.content file.old) place v.items) }
+    // what comes
+    ensures bytes { IfOk result
+        (λ v. (length v.items ≡ size) × HasPart (R.content file.old) place v.items) }
     ensures outside { IfErr result IsNotDamage }
     ensures cause { HasCauseOf BlockErr.ReadFault (R.faults file.old) (R.faults file.new) result }
-    ensures content { R.content file.new ≡ R.content file.old }
-    ensures extent { R.extent file.new ≡ R.extent file.old }
-    ensures rest { R.beside file.new ≡ R.beside file.old }
+    // what the file was asked
+    ensures reads { CountsOn (R.reads file.old) (R.reads file.new) (load_reads result) }
+    ensures asked { CountsOn (R.asked file.old) (R.asked file.new) (size * load_reads result) }
+    // what stays
+    ensures same { IsSameFile (R.content file.old) (R.content file.new)
+        (R.extent file.old) (R.extent file.new) (R.beside file.old) (R.beside file.new) }
 {
     let mut block = match memory {
         Some(block) => block,
@@ -100,10 +124,10 @@ fn read_block<R: Reader>(
 
 impl ScanState {
     ghost use Rattle.st_block.specs.BlockText.{IsBlockSize};
-    ghost use Rattle.st_block.specs.ScanView.{start_view, rest_of_block, reached_offset, after_record, LoadsBlock};
-    ghost use Rattle.st_block.specs.Scan.{PositionedRecord, HasGiven, GivesNext, PassesRecord, Follows};
+    ghost use Rattle.st_block.specs.ScanView.{start_view, rest_of_block, reached_offset, after_record, LoadsBlock, ReadsOnce};
+    ghost use Rattle.st_block.specs.Scan.{PositionedRecord, HasGiven, GivesNext, PassesRecord, Follows, StaysStopped};
 
-    /// A scan before the first of so many blocks.
+    /// A scan before the first of `blocks` blocks of `size` bytes.
     pub fn new(size: u32, blocks: u32) -> ScanState
         requires size { IsBlockSize size }
         requires blocks { blocks ≤ MAX_BLOCKS }
@@ -147,13 +171,19 @@ impl ScanState {
         requires left { self.old.left ≡ 0 }
         requires more { self.old.done < self.old.blocks }
         requires inside { self.old.size * self.old.blocks ≤ R.extent file.old }
+        // what comes
         ensures loads { LoadsBlock self.old (R.content file.old) self.new result }
         ensures on { OnOk result (reached_offset self.old ≤ reached_offset self.new) }
-        ensures same { (self.new.size ≡ self.old.size) × (self.new.blocks ≡ self.old.blocks) }
-        ensures cause { HasCauseOf BlockErr.ReadFault (R.faults file.old) (R.faults file.new) result }
-        ensures content { R.content file.new ≡ R.content file.old }
-        ensures extent { R.extent file.new ≡ R.extent file.old }
-        ensures rest { R.beside file.new ≡ R.beside file.old }
+        ensures file { (self.new.size ≡ self.old.size) × (self.new.blocks ≡ self.old.blocks) }
+        ensures cause { HasCauseOf BlockErr.ReadFault
+            (R.faults file.old) (R.faults file.new) result }
+        // what the file was asked
+        ensures reads { CountsOn (R.reads file.old) (R.reads file.new) (load_reads result) }
+        ensures asked { CountsOn (R.asked file.old) (R.asked file.new)
+            (self.old.size * load_reads result) }
+        // what stays
+        ensures same { IsSameFile (R.content file.old) (R.content file.new)
+            (R.extent file.old) (R.extent file.new) (R.beside file.old) (R.beside file.new) }
     {
         let place = self.size as u64 * self.done as u64;
         let memory = self.block.take();
@@ -184,15 +214,21 @@ impl ScanState {
         file: &mut R,
     ) -> Result<Option<(u32, Record)>, BlockErr>
         requires inside { self.old.size * self.old.blocks ≤ R.extent file.old }
-        ensures gives { (bytes : List ℕ) (given : List PositionedRecord) → R.content file.old ≡ Some bytes
-            → HasGiven self.old bytes given → GivesNext bytes given self.new result }
-        ensures stops { (d : Damage) → result ≡ Err (BlockErr.Damaged d) → self.new.stopped ≡ Some d }
-        ensures again { (d : Damage) → self.old.stopped ≡ Some d
-            → (result ≡ Err (BlockErr.Damaged d)) × (self.new ≡ self.old) × (file.new ≡ file.old) }
+        // what comes
+        ensures gives { (bytes : List ℕ) (given : List PositionedRecord)
+            → R.content file.old ≡ Some bytes → HasGiven self.old bytes given
+            → GivesNext bytes given self.new result }
+        ensures stopped { StaysStopped self.old self.new file.old file.new result }
         ensures follows { IfOk result (λ o. IfSome o (Follows self.old self.new)) }
-        ensures same { (self.new.size ≡ self.old.size) × (self.new.blocks ≡ self.old.blocks) }
-        ensures cause { HasCauseOf BlockErr.ReadFault (R.faults file.old) (R.faults file.new) result }
-        ensures file { (R.content file.new ≡ R.content file.old) × (R.extent file.new ≡ R.extent file.old) × (R.beside file.new ≡ R.beside file.old) }
+        ensures file { (self.new.size ≡ self.old.size) × (self.new.blocks ≡ self.old.blocks) }
+        ensures cause { HasCauseOf BlockErr.ReadFault
+            (R.faults file.old) (R.faults file.new) result }
+        // what the file was asked
+        ensures reads { ReadsOnce self.old self.new result
+            (R.reads file.old) (R.reads file.new) (R.asked file.old) (R.asked file.new) }
+        // what stays
+        ensures same { IsSameFile (R.content file.old) (R.content file.new)
+            (R.extent file.old) (R.extent file.new) (R.beside file.old) (R.beside file.new) }
     {
         if let Some(damage) = self.stopped {
             return Err(BlockErr::Damaged(damage));

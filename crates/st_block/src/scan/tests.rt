@@ -1,7 +1,11 @@
 //! A file of two blocks and the checks that it breaks, by a writer and a scan of another language.
 
-use crate::{BlockErr, HeadErr, Scan};
-use st_base::{Damage, MemReader};
+ghost use Rattle.std.specs.Prelude.{◌≤◌};
+ghost use Rattle.st_block.specs.BlockText.{IsBlockSize};
+
+use crate::format::MAX_BLOCKS;
+use crate::{BlockBuilder, BlockErr, HeadErr, Scan, record_body_into, record_head_at};
+use st_base::{Damage, MemReader, RecordRef, SliceReader};
 use std::alloc::{AllocError, Global};
 use std::test::Fail;
 
@@ -171,7 +175,7 @@ fn laid(
     Ok(bytes)
 }
 
-/// How many records a scan gives, up to eight, and the damage that ends it.
+/// How many records a scan gives, up to 5,000, and the damage that ends it.
 fn scanned(alloc: Global, bytes: &[u8]) -> Result<(u32, Option<Damage>), BlockErr> {
     let mut file = MemReader::over(alloc, bytes, &[])?;
     let mut scan = Scan::over(&mut file);
@@ -180,7 +184,7 @@ fn scanned(alloc: Global, bytes: &[u8]) -> Result<(u32, Option<Damage>), BlockEr
         Err(HeadErr::Damaged(damage)) => return Ok((0, Some(damage))),
         Err(HeadErr::ReadFault) => return Err(BlockErr::ReadFault),
     }
-    'records: for count in 0..8 {
+    'records: for count in 0..5_000 {
         match scan.next(alloc) {
             Ok(Some(_)) => {}
             Ok(None) => return Ok((count, None)),
@@ -188,7 +192,7 @@ fn scanned(alloc: Global, bytes: &[u8]) -> Result<(u32, Option<Damage>), BlockEr
             Err(error) => return Err(error),
         }
     }
-    Ok((8, None))
+    Ok((5_000, None))
 }
 
 #[test]
@@ -252,5 +256,58 @@ fn a_scan_gives_each_record_at_its_position(rt: HostRuntime) -> Result<(), Fail>
         );
     }
     assert!(rt; matches!(scan.next(alloc), Ok(None)));
+    Ok(())
+}
+
+/// A file of `count` blocks of `size` bytes, each full with one record: its body is the longest
+/// that has room, and all its bytes are 7.
+fn full_file(alloc: Global, size: u32, count: u32) -> Result<Vec<u8>, Fail>
+    requires size { IsBlockSize size }
+    requires count { count ≤ MAX_BLOCKS }
+{
+    // a block less two heads of 48 bytes
+    let len = size.saturating_sub(96);
+    let body = vec![in alloc; 7; len as usize]?;
+    let mut block = BlockBuilder::new(alloc, size)?;
+    let mut file = Vec::new(alloc);
+    'blocks: for number in 0..count {
+        block.clear();
+        if !block.fits(len) || block.fits(len + 1) {
+            return Err("not the longest body")?;
+        }
+        block.add(RecordRef {
+            sec: number,
+            nsec: 0,
+            orig: size,
+            body: body.as_slice(),
+        });
+        file.extend_from_slice(block.finish(number))?;
+    }
+    Ok(file)
+}
+
+#[test]
+fn the_largest_blocks_and_the_longest_file_come_back(rt: HostRuntime) -> Result<(), Fail> {
+    let alloc = rt.alloc();
+    let bytes = full_file(alloc, 1_048_576, 2)?;
+    assert!(rt; matches!(scanned(alloc, bytes.as_slice()), Ok((2, None))));
+    // the record of the second block
+    let mut file = SliceReader::over(bytes.as_slice());
+    let head = record_head_at(&mut file, 1_048_624).ok().ok_or("no head")?;
+    let mut body = Vec::new(alloc);
+    assert!(rt; record_body_into(&mut file, 1_048_624, &head, &mut body).is_ok());
+    assert_eq!(rt; body.len(), 1_048_480);
+    assert!(rt; body.iter().all(|byte| *byte == 7));
+    let mut bytes = full_file(alloc, 4_096, 4_095)?;
+    assert!(rt; matches!(scanned(alloc, bytes.as_slice()), Ok((4_095, None))));
+    // one block more than a file has
+    bytes.extend_from_slice(full_file(alloc, 4_096, 1)?.as_slice())?;
+    let Ok((0, Some(damage))) = scanned(alloc, bytes.as_slice()) else {
+        return Err("a block too many")?;
+    };
+    assert_eq!(rt;
+        (damage.place, damage.found, damage.want),
+        (0, 16_777_216, 16_773_120)
+    );
     Ok(())
 }

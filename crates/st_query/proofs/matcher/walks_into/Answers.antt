@@ -12,6 +12,6 @@ pub returns : goal.returns
 returns c =
     let net = network c.args.net c.args.bits in
     let n = c.args.bits in
-    found_by c.args.frame.now net n c.any.result (keys_left c.keys.result) c.keys.ensures.each
+    found_by c.args.frame.now (λ (k : Key). KeyIsIn net n k) c.any.result (keys_left c.keys.result) c.keys.ensures.each
     (cases_from_any _ _ _ (λ (k : Key). KeyIsIn net n k) (λ (k : Key). KeyIsIn net n k → ⊥) c.any.ensures.ran
     (YieldsList-from_first (λ (k : Key). k) keys_left (keys_left c.keys.result) refl) (λ x q k. search (rules, tests)) (λ x q k. search (rules, tests)))

@@ -28,8 +28,8 @@ tokens-preserved c =
     let taken = rw c.in-Ok-Some.field-0-is at c.in-Ok-Some.ensures in
     (on.within, reads_on text c.tokens.at c.in-Some.found (phase_view c.tokens.phase) (phase_view c.in-Ok-Some.next) (open_halves c.tokens.stack) (open_halves c.step.new.stack) here.0 c.in-Some.ensures here.1 taken)
 
-pub of-requires : goal.of-requires
-of-requires c =
+pub new-requires : goal.new-requires
+new-requires c =
     let text = c.args.text.now in
     let here = c.tokens.invariant in
     sound text (tree c.in-Joined.node) (spelled text c.tokens.at (tree c.in-Joined.node) c.in_default.ensures
@@ -39,7 +39,7 @@ pub returns-then-is_empty-clause-spells : goal.returns-then-is_empty-clause-spel
 returns-then-is_empty-clause-spells c =
     let text = c.args.text.now in
     let here = c.tokens.invariant in
-    rw c.of.ensures (
+    rw c.in-Ok.ensures (
       c.if-text-gt-MAX_TEXT.false,
       spelled text c.tokens.at (tree c.in-Joined.node) c.in_default.ensures
           (joined_read text c.tokens.at c.tokens.phase c.tokens.stack c.in-Joined.node c.in-Joined.is (c.if-is_empty.ensures.0 refl) here.1),

@@ -5,7 +5,7 @@ use Rattle.st_base.proofs.Putting.{prefix-more}
 use Rattle.st_tblock.specs.Builder.{block_size}
 use Rattle.st_tblock.specs.Handles.{InRange}
 use Rattle.st_table.specs.TableBuilderView.{next_handle, closing, closed, ending, ending_at, finishing}
-use Rattle.st_table.specs.Builder.{view_of}
+use Rattle.st_table.specs.TableBuilderView.{builder_view}
 use Rattle.st_table.proofs.Texts.{puts_then, on_ok}
 use Rattle.st_table.proofs.Rooms.{index_bound}
 use Rattle.st_table.proofs.Ending.{is_empty, is_filled, finishing_some, finishing_size, empty_table, closed_table}
@@ -13,7 +13,7 @@ use Rattle.st_table.proofs.builder.put_rest.Goals as goal
 
 pub returns-then-is_empty-clause-table : goal.returns-then-is_empty-clause-table
 returns-then-is_empty-clause-table g c =
-    let k = view_of c.args.block.now c.args.index.now c.args.at in
+    let k = builder_view c.args.block.now c.args.index.now c.args.at 0 in
     let none = is_empty c.args.block.now.last (sym c.is_empty.ensures ∙ c.if-is_empty.true) in
     on_ok c.put_ending.result (empty_table k none) c.put_ending.ensures.table
 
@@ -23,7 +23,7 @@ put_ending-requires-in-Ok-clause-room g c =
 
 pub returns-in-Ok-clause-bytes : goal.returns-in-Ok-clause-bytes
 returns-in-Ok-clause-bytes g c =
-    let k = view_of c.args.block.now c.args.index.now c.args.at in
+    let k = builder_view c.args.block.now c.args.index.now c.args.at 0 in
     let some = is_filled c.args.block.now.last (sym c.is_empty.ensures ∙ c.if-is_empty.false) in
     let end : ending_at c.close.new.at c.close.new.index ≡ ending (closed k) = λ i. ending_at (c.close.ensures.at i) (c.in-Ok.ensures.index i) in
     let next = subst (λ (xs : List ℕ). Puts (g.S.Sink.written c.close.new.sink) (g.S.Sink.written c.put_ending-in-Ok.new.sink) xs c.put_ending-in-Ok.result) end c.put_ending-in-Ok.ensures.bytes in
@@ -32,7 +32,7 @@ returns-in-Ok-clause-bytes g c =
 
 pub returns-in-Ok-clause-length : goal.returns-in-Ok-clause-length
 returns-in-Ok-clause-length g c =
-    let k = view_of c.args.block.now c.args.index.now c.args.at in
+    let k = builder_view c.args.block.now c.args.index.now c.args.at 0 in
     let some = is_filled c.args.block.now.last (sym c.is_empty.ensures ∙ c.if-is_empty.false) in
     let end : ending_at c.close.new.at c.close.new.index ≡ ending (closed k) = λ i. ending_at (c.close.ensures.at i) (c.in-Ok.ensures.index i) in
     IfOk-weaker c.put_ending-in-Ok.result (λ n. n ≡ c.close.new.at + length (ending_at c.close.new.at c.close.new.index)) (λ n. n ≡ c.args.at + length (finishing k))
@@ -41,7 +41,7 @@ returns-in-Ok-clause-length g c =
 
 pub returns-in-Ok-clause-table : goal.returns-in-Ok-clause-table
 returns-in-Ok-clause-table g c =
-    let k = view_of c.args.block.now c.args.index.now c.args.at in
+    let k = builder_view c.args.block.now c.args.index.now c.args.at 0 in
     let some = is_filled c.args.block.now.last (sym c.is_empty.ensures ∙ c.if-is_empty.false) in
     let room = c.requires.at in
     let range : InRange (next_handle k.at (block_size k.block)) = record { offset = omega arith; size = omega arith } in
@@ -51,7 +51,7 @@ returns-in-Ok-clause-table g c =
 
 pub returns-in-Err-clause-bytes : goal.returns-in-Err-clause-bytes
 returns-in-Err-clause-bytes g c =
-    let k = view_of c.args.block.now c.args.index.now c.args.at in
+    let k = builder_view c.args.block.now c.args.index.now c.args.at 0 in
     let some = is_filled c.args.block.now.last (sym c.is_empty.ensures ∙ c.if-is_empty.false) in
     subst (λ (xs : List ℕ). AppendsPrefix (g.S.Sink.written c.args.sink.now) (g.S.Sink.written c.close.new.sink) xs) (sym (finishing_some k some.0 some.1))
     (prefix-more _ _ (closing k) (ending (closed k)) c.in-Err.ensures.bytes)

@@ -7,7 +7,7 @@ use Rattle.st_table.proofs.index.entries_in.Goals as goal
 
 pub returns-in-Err-clause-entries : goal.returns-in-Err-clause-entries
 returns-in-Err-clause-entries c =
-    not_begun holds_handle c.args.block.now c.args.base c.in-Err.damage (Damaged c.in-Err.damage) c.in-Err.ensures refl
+    not_begun holds_handle c.args.block.now c.args.base c.in-Err.damage (Damaged c.in-Err.damage) c.in-Err.ensures.begins refl
 
 pub entries-preserved : goal.entries-preserved
 entries-preserved c =

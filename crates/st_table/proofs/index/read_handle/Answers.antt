@@ -6,5 +6,5 @@ use Rattle.st_table.proofs.index.read_handle.Goals as goal
 pub placed-requires : goal.placed-requires
 placed-requires g c =
     let low = footer_place _ (damage_view c.in-Err-read_footer.damage) c.in-Err-read_footer.ensures in
-    let some = c.if-size-lt48.false in
+    let some = c.if-size.false in
     omega arith

@@ -7,7 +7,7 @@ use Rattle.st_table.proofs.rows.value_in.Goals as goal
 
 pub returns-in-Err-clause-value : goal.returns-in-Err-clause-value
 returns-in-Err-clause-value c =
-    not_begun (lies_in c.args.bounds.now) c.args.block.now c.args.base c.in-Err.damage (Damaged c.in-Err.damage) c.in-Err.ensures refl
+    not_begun (lies_in c.args.bounds.now) c.args.block.now c.args.base c.in-Err.damage (Damaged c.in-Err.damage) c.in-Err.ensures.begins refl
 
 pub rows-preserved : goal.rows-preserved
 rows-preserved c =

@@ -33,6 +33,7 @@ returns-in-Ok-Some g c =
       };
       takes = takes_on _ _ c.self.inside.taken _ c.in-Ok.form _ head took;
       limit = search rules;
+      memory = search rules;
       cause = search rules;
       rest = search rules;
     }
@@ -61,6 +62,7 @@ returns-in-Ok-None g c =
       };
       takes = takes_on _ _ c.self.inside.taken _ c.in-Ok.form _ head (subst (λ o. TakesRecord c.self.inside.taken c.read_record.new.taken (Ok o)) c.in-Ok-None.field-0-is c.in-Ok-None.ensures.takes);
       limit = search rules;
+      memory = search rules;
       cause = search rules;
       rest = search rules;
     }
@@ -88,6 +90,7 @@ returns-in-Err-read_record g c =
       };
       takes = takes_on _ _ c.self.inside.taken _ c.in-Ok.form _ head c.in-Err-read_record.ensures.takes;
       limit = search rules;
+      memory = search rules;
       cause = search rules;
       rest = search rules;
     }

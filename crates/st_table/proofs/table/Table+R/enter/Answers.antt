@@ -1,4 +1,5 @@
 use Rattle.std.proofs.Common.{◌-◌, length, None, sym, subst}
+use Rattle.st_table.specs.TableFile.{footer_at}
 use Rattle.st_table.specs.Marks.{Checked}
 use Rattle.st_table.proofs.Tables.{table_entered}
 use Rattle.st_table.proofs.Marking.{none_checked}
@@ -9,5 +10,5 @@ returns-in-Err-clause-table g c = λ bytes rows known t. table_entered bytes row
 
 pub returns-in-Ok-unmarked-clause-checked : goal.returns-in-Ok-unmarked-clause-checked
 returns-in-Ok-unmarked-clause-checked g c = λ bytes.
-    subst (Checked (length bytes - 48) bytes None c.in-Ok.entries.items) (sym c.in-Ok-unmarked.ensures)
-    (none_checked (length bytes - 48) bytes None c.in-Ok.entries.items c.len.result)
+    subst (Checked (footer_at bytes) bytes None c.in-Ok.entries.items) (sym c.in-Ok-unmarked.ensures)
+    (none_checked (footer_at bytes) bytes None c.in-Ok.entries.items c.len.result)

@@ -1,6 +1,8 @@
-use Rattle.std.proofs.Common.{◌≡◌, None, sym, subst, arith, ◌≤◌, ◌<◌}
+use Rattle.std.proofs.Common.{◌≡◌, Option, None, Ok, Err, refl, sym, subst, arith, ◌≤◌, ◌<◌}
 use Rattle.st_block.specs.ScanView.{ScanView}
-use Rattle.st_block.specs.Scan.{HasGiven}
+use Rattle.st_block.specs.Scan.{PositionedRecord, HasGiven}
+use Rattle.st_block.specs.declared.errors.BlockErr.TheVariants as block_err
+use Rattle.st_block.proofs.Counted.{reads_none, passes_done, reads_given, reads_failed}
 use Rattle.st_block.proofs.Giving.{passes_gives, ended_gives, loads_stands, loads_gives, loads_some, follows_on}
 use Rattle.st_block.proofs.scan.state.ScanState.next_in.Goals as goal
 
@@ -40,3 +42,33 @@ returns-in-Err-clause-gives g c = λ bytes given known stands.
     let d = c.self.invariant.done in let n = c.if-self.false in omega arith in
     let more = subst (λ (p : ScanView). p.done < p.blocks) c.self.view_is inside in
     loads_gives c.args.self.now c.load.new.self _ bytes given c.in-Err.error known none stands left more c.in-Err.ensures.loads
+
+pub returns-in-Some-clause-reads : goal.returns-in-Some-clause-reads
+returns-in-Some-clause-reads g c =
+    reads_none {T = Option PositionedRecord} c.args.self.now c.args.self.now (Err (block_err.Damaged c.in-Some.damage)) _ _ tt
+
+pub returns-then-self-ne0-clause-reads : goal.returns-then-self-ne0-clause-reads
+returns-then-self-ne0-clause-reads g c =
+    reads_none c.args.self.now c.give.new.self c.give.result _ _ (passes_done c.args.self.now c.give.new.self c.give.result c.give.ensures.passes)
+
+pub returns-then-self-clause-reads : goal.returns-then-self-clause-reads
+returns-then-self-clause-reads g c =
+    reads_none {T = Option PositionedRecord} c.args.self.now c.args.self.now (Ok None) _ _ refl
+
+pub returns-in-Ok-clause-reads : goal.returns-in-Ok-clause-reads
+returns-in-Ok-clause-reads g c =
+    let left = subst (λ (p : ScanView). p.left ≡ 0) c.self.view_is c.if-self-ne0.false in
+    let inside : c.self.inside.done < c.self.inside.blocks =
+    let d = c.self.invariant.done in let n = c.if-self.false in omega arith in
+    let more = subst (λ (p : ScanView). p.done < p.blocks) c.self.view_is inside in
+    let loads = c.in-Ok.ensures in
+    reads_given c.args.self.now c.load.new.self c.give-in-Ok.new.self _ c.give-in-Ok.result _ _ _ _ left more loads.loads c.give-in-Ok.ensures.passes loads.reads loads.asked
+
+pub returns-in-Err-clause-reads : goal.returns-in-Err-clause-reads
+returns-in-Err-clause-reads g c =
+    let left = subst (λ (p : ScanView). p.left ≡ 0) c.self.view_is c.if-self-ne0.false in
+    let inside : c.self.inside.done < c.self.inside.blocks =
+    let d = c.self.invariant.done in let n = c.if-self.false in omega arith in
+    let more = subst (λ (p : ScanView). p.done < p.blocks) c.self.view_is inside in
+    let loads = c.in-Err.ensures in
+    reads_failed {T = Option PositionedRecord} c.args.self.now c.load.new.self c.in-Err.error _ _ _ _ left more loads.reads loads.asked

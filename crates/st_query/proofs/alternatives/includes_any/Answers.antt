@@ -1,0 +1,15 @@
+use Rattle.std.proofs.Common.{refl, rules, tests}
+use Rattle.std.proofs.lemmas.Iterator.{cases_from_any}
+use Rattle.std.proofs.lemmas.Iterator.Consumers.{YieldsList-from_first}
+use Rattle.st_walk.specs.Listing.{keys_left}
+use Rattle.st_walk.specs.declared.text.Key.{Key}
+use Rattle.st_query.specs.Alternatives.{Included}
+use Rattle.st_query.proofs.Matching.{found_by}
+use Rattle.st_query.proofs.alternatives.includes_any.Goals as goal
+
+pub returns : goal.returns
+returns c =
+    let groups = c.args.groups.now in
+    found_by c.args.frame.now (λ (k : Key). Included groups k) c.any.result (keys_left c.keys.result) c.keys.ensures.each
+    (cases_from_any _ _ _ (λ (k : Key). Included groups k) (λ (k : Key). Included groups k → ⊥) c.any.ensures.ran
+    (YieldsList-from_first (λ (k : Key). k) keys_left (keys_left c.keys.result) refl) (λ x q k. search (rules, tests)) (λ x q k. search (rules, tests)))
