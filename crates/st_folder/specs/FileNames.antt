@@ -1,5 +1,5 @@
 -- The names of a shelf's files in a file system: docs/FORMAT.md, "Folders and names".
-use Rattle.std.specs.Prelude.{ℕ, zero, suc, ◌+◌, ◌/◌, ◌%◌, ◌^◌, ◌<◌, List, [], ◌∷◌, ◌++◌, codes}
+use Rattle.std.specs.Prelude.{ℕ, zero, suc, false, ◌/◌, ◌%◌, List, [], ◌∷◌, ◌++◌, codes}
 use Rattle.std.specs.Fmt.{digit_glyph, decimal}
 use Rattle.st_disk.specs.declared.naming.Kind.{Kind}
 use Rattle.st_disk.specs.declared.naming.Kind.TheVariants as kind
@@ -35,10 +35,3 @@ folder_path root kind = (root ++ codes "/") ++ folder_name kind
 -- the path of a file
 abbrev pub file_path : List ℕ → Name → List ℕ
 file_path root name = (folder_path root (kind_of name) ++ codes "/") ++ file_name name
-
--- its stamp or number is one that a u64 holds
-abbrev pub FitsWord : Name → Type 0
-FitsWord (Block stamp) = stamp < 2 ^ 64
-FitsWord (Index stamp) = stamp < 2 ^ 64
-FitsWord (Parked stamp) = stamp < 2 ^ 64
-FitsWord (Draft k number) = number < 2 ^ 64

@@ -1,4 +1,5 @@
 // The shelf in a folder of the machine's file system.
+mod digits;
 mod draft;
 mod folders;
 mod names;

@@ -35,7 +35,7 @@ mod shelves;
 #[cfg(test)]
 mod tests;
 
-pub use lent_file::LentFile;
+pub use lent_file::{CameBack, LentFile};
 pub use loans::Loans;
 pub use memory::draft::{MemDraft, MemSealed};
 pub use memory::file::MemFile;

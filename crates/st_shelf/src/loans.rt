@@ -1,7 +1,6 @@
 ghost use Rattle.std.specs.Prelude.{◌≡◌};
 ghost use Rattle.st_shelf.specs.Loans.{no_loans, lend, take_back};
 
-use crate::lent_file::LentFile;
 use st_disk::Kind;
 use std::marker::Model;
 
@@ -42,44 +41,23 @@ impl Loans {
         }
     }
 
-    /// Lends a file of this kind for the shelf `home`: one file more is out.
-    pub fn lend<R>(&mut self, kind: Kind, home: u64, file: R) -> LentFile<R>
-        ensures loans { self.new ≡ lend self.old }
-        ensures file { result.file ≡ file }
-        ensures origin { (result.kind ≡ kind) × (result.home ≡ home) }
-        ensures unread { (result.reads ≡ 0) × (result.asked ≡ 0) × (result.faults ≡ 0) }
+    /// One file more is out.
+    pub fn lend(&mut self)
+        ensures { self.new ≡ lend self.old }
     {
         self.lent = self.lent.saturating_add(1);
         self.peak = self.peak.max(self.lent);
-        LentFile {
-            kind,
-            home,
-            file,
-            reads: 0,
-            asked: 0,
-            faults: 0,
-        }
     }
 
-    /// Takes a lent file back, and returns how often reading it failed.
-    pub fn take_back<R: Drop>(&mut self, file: LentFile<R>) -> u64
-        ensures loans { self.new ≡ take_back file.kind file.reads file.asked self.old }
-        ensures faults { result ≡ file.faults }
+    /// A file of this kind came back, which was read so many times, for so many bytes.
+    pub fn take_back(&mut self, kind: Kind, reads: u64, asked: u64)
+        ensures { self.new ≡ take_back kind reads asked self.old }
     {
-        let LentFile {
-            kind,
-            home: _home,
-            file: _file,
-            reads,
-            asked,
-            faults,
-        } = file;
         self.lent = self.lent.saturating_sub(1);
         if kind == Kind::Block {
             self.block_reads = self.block_reads.saturating_add(reads);
             self.block_asked = self.block_asked.saturating_add(asked);
         }
-        faults
     }
 
     /// The greatest number of files that were out at once.

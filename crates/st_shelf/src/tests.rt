@@ -70,8 +70,10 @@ fn run(shelf: &mut MemShelf, alloc: Global) -> Result<[u8; 2], u64> {
     if shelf.flush(Kind::Index).is_err() {
         return Err(4);
     }
-    if shelf.list(alloc).is_err() {
-        return Err(5);
+    match shelf.list(alloc) {
+        Ok(_) => {}
+        Err(ListErr::DiskFault) => return Err(5),
+        Err(ListErr::NoMemory) => return Err(u64::MAX),
     }
     let part = read_file(shelf)?;
     if !shelf.has(Name::Index(7)) || shelf.has(Name::Parked(7)) {
@@ -91,10 +93,10 @@ const DRAFT: Name = Name::Draft {
     number: 0,
 };
 
-// Of each call that fails, alone or with all behind it: what the run answers, how often the shelf
-// failed, and what is read at the end.
+// Of each call that fails, alone or with all that follow it: what the run returns, how often the
+// shelf failed, and what is read at the end.
 #[test]
-fn each_call_fails_where_it_is_told_to(rt: HostRuntime) -> Result<(), Fail> {
+fn each_listed_call_fails(rt: HostRuntime) -> Result<(), Fail> {
     let alloc = rt.alloc();
     let (nothing, draft) = ([].as_slice(), [DRAFT].as_slice());
     let (index, parked) = ([Name::Index(7)].as_slice(), [Name::Parked(7)].as_slice());
@@ -124,6 +126,18 @@ fn each_call_fails_where_it_is_told_to(rt: HostRuntime) -> Result<(), Fail> {
             let mut image = shelf.crash(alloc, shelf.moments(), u64::MAX)?;
             assert_eq!(rt; image.list(alloc)?.items(), left, "call {call}");
         }
+    }
+    Ok(())
+}
+
+// Of the run's calls those of the shelf are moments, one that fails and `close` too.
+#[test]
+fn each_call_of_the_shelf_is_a_moment(rt: HostRuntime) -> Result<(), Fail> {
+    let alloc = rt.alloc();
+    for (call, moments) in [(0, 1), (2, 2), (3, 3), (7, 6), (8, 8), (9, 7), (11, 8)] {
+        let mut shelf = MemShelf::with(alloc, &[call], None)?;
+        let _ = run(&mut shelf, alloc);
+        assert_eq!(rt; shelf.moments(), moments, "call {call}");
     }
     Ok(())
 }

@@ -1,5 +1,5 @@
 // A shelf's folders in a file system, as its first call makes and opens them.
-ghost use Rattle.std.specs.Prelude.{◌≡◌, ◌+◌, ◌<◌, ◌⊎◌, ℕ, MatchOption, All, Any};
+ghost use Rattle.std.specs.Prelude.{◌≡◌, ◌+◌, ◌<◌, ◌⊎◌, ◌≤◌, ℕ, MatchOption, IfSome, All};
 ghost use Rattle.st_folder.specs.Numbers.{IsLastDraft, IsBelow};
 
 use crate::real::names::{name_of, path_of_folder};
@@ -118,18 +118,32 @@ fn add_entry(kind: Kind, entry: &DirEntry, names: &mut Vec<Name>) -> io::Result<
 
 // A number above those of all drafts, unless one of them has the greatest number.
 fn number_above(names: &[Name]) -> Option<u64>
-    ensures { MatchOption result (Any IsLastDraft names.now) (λ next. All (IsBelow next) names.now) }
+    ensures { IfSome result (λ next. All (IsBelow next) names.now) }
 {
     let mut next = 0;
     'names: for name in names {
-        if let Name::Draft { number, .. } = name {
-            if *number == u64::MAX {
-                return None;
-            }
-            next = next.max(*number + 1);
+        match number_after(next, name) {
+            Some(higher) => next = higher,
+            None => return None,
         }
     }
     Some(next)
+}
+
+// At least `next`, and above the number of this name if it is a draft's, unless that is the greatest.
+fn number_after(next: u64, name: &Name) -> Option<u64>
+    ensures { MatchOption result (IsLastDraft name.now)
+        (λ higher. (next ≤ higher) × IsBelow higher name.now) }
+{
+    match name {
+        Name::Draft { number, .. } => {
+            if *number == u64::MAX {
+                return None;
+            }
+            Some(next.max(*number + 1))
+        }
+        _ => Some(next),
+    }
 }
 
 // Makes a file that isn't there, open for writing and its owner's alone.

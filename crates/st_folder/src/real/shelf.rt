@@ -1,6 +1,9 @@
 ghost use Rattle.std.specs.Prelude.{Option, ◌≡◌, ◌≤◌, ◌+◌, ◌-◌, ◌^◌, ◌⊎◌, ◌<◌, ◌↔◌, ℕ, List, None, Some, Ok, min, IsOk, IsErr, IfOk};
-ghost use Rattle.st_base.specs.Faults.{CountsOne, next_count};
+ghost use Rattle.st_base.specs.Faults.{Rose, CountsOne, next_count};
+ghost use Rattle.st_disk.specs.LoggedCalls.{Abandons};
 ghost use Rattle.st_shelf.specs.Loans.{no_loans};
+ghost use Rattle.st_shelf.specs.Origins.{draft_name};
+ghost use Rattle.st_shelf.specs.Ends.{end_origin, end_faults, TakesFaults};
 ghost use Rattle.st_folder.specs.Counting.{IsLeftAlone, SettlesUp};
 
 use crate::real::draft::{RealDraft, RealSealed};
@@ -79,12 +82,30 @@ impl RealShelf {
 
     // Counts one fault if a draft that came back was not removed, or had faults of its own.
     fn settle_up(&mut self, removed: io::Result<()>, faults: u64)
-        ensures cause { SettlesUp removed faults self.old.faults self.new.faults }
+        ensures counts { SettlesUp removed faults self.old.faults self.new.faults }
+        ensures log { (faults ≡ 0 → self.new.faults ≡ self.old.faults)
+            ⊎ Rose self.old.faults self.new.faults }
+        ensures cause { TakesFaults faults self.old.faults self.new.faults }
         ensures loans { self.new.loans ≡ self.old.loans }
     {
-        if removed.is_err() || faults > 0 {
+        if removed.is_err() {
+            self.count_fault();
+            return;
+        }
+        if faults > 0 {
             self.count_fault();
         }
+    }
+
+    // Removes a draft that came back with this many faults of its own.
+    fn give_up(&mut self, kind: Kind, number: u64, faults: u64)
+        ensures log { (faults ≡ 0 → self.new.faults ≡ self.old.faults)
+            ⊎ Rose self.old.faults self.new.faults }
+        ensures cause { TakesFaults faults self.old.faults self.new.faults }
+        ensures loans { self.new.loans ≡ self.old.loans }
+    {
+        let removed = self.delete(Name::Draft { kind, number });
+        self.settle_up(removed, faults);
     }
 
     // Opens the folders, unless an earlier call did.
@@ -295,19 +316,28 @@ impl Shelf for RealShelf {
         self.loans.take_back(kind, reads, asked);
     }
 
-    fn abandon(&mut self, end: End<RealDraft>) {
-        let (kind, number, faults) = match end {
-            End::Unsealed(RealDraft { kind, number, sink }) => (kind, number, sink.fault_count()),
+    fn abandon(&mut self, end: End<RealDraft>)
+        ensures log { Abandons None None
+            (draft_name (end_origin (λ d. record { kind = d.kind; number = d.number; home = 0 })
+                (λ s. record { kind = s.kind; number = s.number; home = 0 }) end))
+            (end_faults (λ d. d.sink.faults) (λ s. s.faults) end) self.old.faults self.new.faults }
+        ensures cause { TakesFaults (end_faults (λ d. d.sink.faults) (λ s. s.faults) end)
+            self.old.faults self.new.faults }
+        ensures loans { self.new.loans ≡ self.old.loans }
+    {
+        match end {
+            End::Unsealed(RealDraft { kind, number, sink }) => {
+                let faults = sink.fault_count();
+                self.give_up(kind, number, faults)
+            }
             End::Sealed(
                 RealSealed {
                     kind,
                     number,
                     faults,
                 },
-            ) => (kind, number, faults),
-        };
-        let removed = self.delete(Name::Draft { kind, number });
-        self.settle_up(removed, faults);
+            ) => self.give_up(kind, number, faults),
+        }
     }
 
     fn fault_count(&self) -> u64 {

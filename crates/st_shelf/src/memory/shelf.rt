@@ -11,7 +11,7 @@ ghost use Rattle.st_shelf.specs.Loans.{no_loans};
 ghost use Rattle.st_shelf.specs.Origins.{draft_name};
 ghost use Rattle.st_shelf.specs.Ends.{end_origin, end_faults, TakesFaults};
 
-use crate::lent_file::LentFile;
+use crate::lent_file::{CameBack, LentFile};
 use crate::loans::Loans;
 use crate::memory::draft::{MemDraft, MemSealed};
 use crate::memory::file::MemFile;
@@ -131,7 +131,7 @@ impl Shelf for MemShelf {
 
     ghost loans = { λ s. s.loans };
 
-    ghost file_origin = { λ f. record { kind = f.kind; home = f.home } };
+    ghost file_origin = { λ f. record { kind = f.kind; home = 0 } };
 
     ghost drafts_known = { λ shelf l d known. refl };
 
@@ -250,15 +250,23 @@ impl Shelf for MemShelf {
             faults: 0,
             schedule,
         };
-        Ok(self.loans.lend(kind_of_name(name), 0, file))
+        self.loans.lend();
+        Ok(LentFile::lend(kind_of_name(name), file))
     }
 
     fn close(&mut self, file: LentFile<MemFile>) {
         let failed = self.schedule.fails();
         let _ = self.book.look();
-        if self.loans.take_back(file) > 0 || failed {
+        let CameBack {
+            kind,
+            reads,
+            asked,
+            faults,
+        } = file.come_back();
+        if failed || faults > 0 {
             self.faults = self.faults.saturating_add(1);
         }
+        self.loans.take_back(kind, reads, asked);
     }
 
     fn abandon(&mut self, end: End<MemDraft>)
