@@ -18,13 +18,7 @@
 #![tactic(auto)]
 
 mod real;
-mod real_draft;
-mod real_file;
-mod real_folders;
-mod real_names;
 #[cfg(test)]
 mod tests;
 
-pub use real::RealShelf;
-pub use real_draft::{RealDraft, RealSealed};
-pub use real_file::RealFile;
+pub use real::{RealDraft, RealFile, RealSealed, RealShelf};
