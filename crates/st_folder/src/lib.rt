@@ -1,11 +1,11 @@
 //! The shelf in a folder of the machine's file system: the trusted edge of st_shelf.
 //!
-//! Source of the names: docs/FORMAT.md, "Folders and names". Which system calls each call makes, and
-//! in which order, stands in docs/ARCHITECTURE.md, "What RealShelf does in a file system".
+//! Source of the names: docs/FORMAT.md, "Folders and names". Which system calls each call makes,
+//! and in which order, stands in docs/ARCHITECTURE.md, "What RealShelf does in a file system".
 //!
 //! # What it promises
 //!
-//! - `RealShelf` answers by the clauses of `Shelf`: a fault only where the count of faults rose, and
+//! - `RealShelf` answers by the clauses of `Shelf`: a fault only if the count of faults rose, and
 //!   each lent file counted.
 //!
 //! # What it leaves to others

@@ -31,7 +31,11 @@ fn digit_of(value: u8) -> u8
     ensures digit { result ≡ digit_glyph false value }
     ensures ascii { result < 128 }
 {
-    if value < 10 { b'0' + value } else { b'a' + (value - 10) }
+    if value < 10 {
+        b'0' + value
+    } else {
+        b'a' + (value - 10)
+    }
 }
 
 // The number of sixteen hexadecimal digits in lower case.

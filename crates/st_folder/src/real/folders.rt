@@ -130,7 +130,8 @@ fn number_above(names: &[Name]) -> Option<u64>
     Some(next)
 }
 
-// At least `next`, and above the number of this name if it is a draft's, unless that is the greatest.
+// At least `next`, and above the number of this name if it is a draft's, unless that is the
+// greatest.
 fn number_after(next: u64, name: &Name) -> Option<u64>
     ensures { MatchOption result (IsLastDraft name.now)
         (λ higher. (next ≤ higher) × IsBelow higher name.now) }

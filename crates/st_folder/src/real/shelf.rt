@@ -319,7 +319,7 @@ impl Shelf for RealShelf {
     fn abandon(&mut self, end: End<RealDraft>)
         ensures log { Abandons None None
             (draft_name (end_origin (λ d. record { kind = d.kind; number = d.number; home = 0 })
-                (λ s. record { kind = s.kind; number = s.number; home = 0 }) end))
+            (λ s. record { kind = s.kind; number = s.number; home = 0 }) end))
             (end_faults (λ d. d.sink.faults) (λ s. s.faults) end) self.old.faults self.new.faults }
         ensures cause { TakesFaults (end_faults (λ d. d.sink.faults) (λ s. s.faults) end)
             self.old.faults self.new.faults }
