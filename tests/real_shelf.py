@@ -219,6 +219,12 @@ def makes_new_drafts(program, folder):
     there = ["block 1", "block 2", "block 3", "draft block 0", "draft block 6", "draft index 1", "index 3"]
     good = got[:2] == ["ok", "ok"] and sorted(got[2:-2]) == there and got[-2:] == ["ok", "0"]
     yield "drafts that another program left are in no draft's way", good, got
+    greatest = os.path.join(folder, "greatest")
+    os.makedirs(os.path.join(greatest, "IDX0"))
+    pathlib.Path(greatest, "IDX0", f".draft-{2**64 - 1}").write_bytes(b"left")
+    got = ask(program, greatest, ["put index 3 5", "put block 3 5", "list", "faults"])
+    want = ["ok", "ok", "block 3", "index 3", f"draft index {2**64 - 1}", "ok", "0"]
+    yield "nor is a left draft of the greatest number", sorted(got) == sorted(want), got
 
 
 def keeps_its_lock_after_a_fault(program, folder):
