@@ -1,6 +1,6 @@
 ghost use Rattle.std.specs.Prelude.{◌≡◌, ◌+◌, ◌-◌, ◌^◌, ◌≤◌, ◌<◌, min, length, None};
 ghost use Rattle.std.specs.Io.KnownBytes.{Keeps};
-ghost use Rattle.st_base.specs.Faults.{HasCause};
+ghost use Rattle.st_base.specs.Faults.{HasCause, next_count};
 
 use crate::failures::Failed;
 use crate::sinks::Sink;
@@ -71,6 +71,28 @@ impl<W: Write> StreamSink<W> {
         ensures faults { result.faults ≡ 0 }
     {
         StreamSink { writer, faults: 0 }
+    }
+
+    /// The writer.
+    pub fn writer(&self) -> &W
+        ensures { result.now ≡ self.now.writer }
+    {
+        &self.writer
+    }
+
+    /// Counts a failure of the writer in a call that was made past this sink.
+    pub fn count_fault(&mut self)
+        ensures writer { self.new.writer ≡ self.old.writer }
+        ensures faults { self.new.faults ≡ next_count self.old.faults }
+    {
+        self.faults = self.faults.saturating_add(1);
+    }
+
+    /// The count of faults.
+    pub fn fault_count(&self) -> u64
+        ensures { result ≡ self.now.faults }
+    {
+        self.faults
     }
 
     /// Has the writer hand on what it buffered.

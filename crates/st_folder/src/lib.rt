@@ -1,11 +1,11 @@
 //! The shelf in a folder of the machine's file system: the trusted edge of st_shelf.
 //!
-//! Source of the names: docs/FORMAT.md, "Folders and names". Which system calls each call makes, and
-//! in which order, stands in docs/ARCHITECTURE.md, "What RealShelf does in a file system".
+//! Source of the names: docs/FORMAT.md, "Folders and names". Which system calls each call makes,
+//! and in which order, stands in docs/ARCHITECTURE.md, "What RealShelf does in a file system".
 //!
 //! # What it promises
 //!
-//! - `RealShelf` answers by the clauses of `Shelf`: a fault only where the count of faults rose, and
+//! - `RealShelf` answers by the clauses of `Shelf`: a fault only if the count of faults rose, and
 //!   each lent file counted.
 //!
 //! # What it leaves to others
@@ -18,13 +18,7 @@
 #![tactic(auto)]
 
 mod real;
-mod real_draft;
-mod real_file;
-mod real_folders;
-mod real_names;
 #[cfg(test)]
 mod tests;
 
-pub use real::RealShelf;
-pub use real_draft::{RealDraft, RealSealed};
-pub use real_file::RealFile;
+pub use real::{RealDraft, RealFile, RealSealed, RealShelf};

@@ -1,15 +1,18 @@
 // A shelf's folders in a file system, as its first call makes and opens them.
-use crate::real_names::{folder_path, name_of};
+ghost use Rattle.std.specs.Prelude.{◌≡◌, ◌+◌, ◌<◌, ◌⊎◌, ◌≤◌, ℕ, MatchOption, IfSome, All};
+ghost use Rattle.st_folder.specs.Numbers.{IsLastDraft, IsBelow};
+
+use crate::real::names::{name_of, path_of_folder};
 use st_shelf::{Kind, Name};
 use std::alloc::Global;
-use std::fs::{DirBuilder, DirEntry, File, ReadDir, TryLockError};
+use std::fs::{DirBuilder, DirEntry, File, OpenOptions, ReadDir, TryLockError};
 use std::io::ErrorKind;
-use std::os::unix::fs::DirBuilderExt;
+use std::os::unix::fs::{DirBuilderExt, OpenOptionsExt};
 use std::rt::HostRuntime;
 use std::{fs, io};
 
 // What stays open from the first call to the shelf's end: the spool folder, whose lock keeps other
-// programs out, both folders, and a number above those of all drafts.
+// programs out, both folders, and the number of the next draft.
 #[derive(Drop)]
 pub(crate) struct RealFolders {
     pub(crate) _lock: File,
@@ -32,12 +35,32 @@ impl RealFolders {
         let mut names = Vec::new(alloc);
         read_names(rt, alloc, root, Kind::Block, &mut names)?;
         read_names(rt, alloc, root, Kind::Index, &mut names)?;
+        let next = match number_above(names.as_slice()) {
+            Some(next) => next,
+            // A draft has the greatest number. A lower one is free once no crash can bring back a
+            // draft that was removed.
+            None => {
+                blocks.sync_all()?;
+                indexes.sync_all()?;
+                0
+            }
+        };
         Ok(RealFolders {
             _lock: lock,
             blocks,
             indexes,
-            next: number_above(&names),
+            next,
         })
+    }
+
+    // The number of the next draft. After the greatest one it begins again at 0.
+    pub(crate) fn take_number(&mut self) -> u64
+        ensures number { result ≡ self.old.next }
+        ensures next { result < self.new.next ⊎ self.new.next ≡ 0 }
+    {
+        let number = self.next;
+        self.next = number.wrapping_add(1);
+        number
     }
 
     // Has the disk keep all changes of a folder.
@@ -57,7 +80,7 @@ pub(crate) fn read_names(
     kind: Kind,
     names: &mut Vec<Name>,
 ) -> io::Result<()> {
-    let path = folder_path(alloc, root, kind)?;
+    let path = path_of_folder(alloc, root, kind)?;
     for entry in open_names(rt, path.as_str())? {
         match entry {
             Ok(entry) => add_entry(kind, &entry, names)?,
@@ -93,18 +116,46 @@ fn add_entry(kind: Kind, entry: &DirEntry, names: &mut Vec<Name>) -> io::Result<
     Ok(())
 }
 
-fn number_above(names: &[Name]) -> u64 {
-    let mut next = 0u64;
-    for name in names {
-        if let Name::Draft { number, .. } = name {
-            next = next.max(number.saturating_add(1));
+// A number above those of all drafts, unless one of them has the greatest number.
+fn number_above(names: &[Name]) -> Option<u64>
+    ensures { IfSome result (λ next. All (IsBelow next) names.now) }
+{
+    let mut next = 0;
+    'names: for name in names {
+        match number_after(next, name) {
+            Some(higher) => next = higher,
+            None => return None,
         }
     }
-    next
+    Some(next)
+}
+
+// At least `next`, and above the number of this name if it is a draft's, unless that is the
+// greatest.
+fn number_after(next: u64, name: &Name) -> Option<u64>
+    ensures { MatchOption result (IsLastDraft name.now)
+        (λ higher. (next ≤ higher) × IsBelow higher name.now) }
+{
+    match name {
+        Name::Draft { number, .. } => {
+            if *number == u64::MAX {
+                return None;
+            }
+            Some(next.max(*number + 1))
+        }
+        _ => Some(next),
+    }
+}
+
+// Makes a file that isn't there, open for writing and its owner's alone.
+pub(crate) fn create_file(rt: &HostRuntime, path: &str) -> io::Result<File> {
+    let mut options = OpenOptions::new();
+    options.write(true).create_new(true).mode(0o600);
+    options.open(rt, path)
 }
 
 fn open_folder(rt: &HostRuntime, alloc: Global, root: &str, kind: Kind) -> io::Result<File> {
-    let path = folder_path(alloc, root, kind)?;
+    let path = path_of_folder(alloc, root, kind)?;
     make_folder(rt, path.as_str())?;
     File::open(rt, path.as_str())
 }

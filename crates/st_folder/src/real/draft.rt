@@ -1,16 +1,14 @@
 ghost use Rattle.std.specs.Prelude.{◌≡◌, None};
 
-use st_base::{Failed, Sink};
+use st_base::{Failed, Sink, StreamSink};
 use st_shelf::{Draft, Kind};
 use std::fs::File;
-use std::io::{ErrorKind, Write};
 
-/// A draft in a file system: a hidden file that is open for writing. It tells no bytes.
+/// A draft in a file system: a hidden file that is open for writing. Its bytes are not known.
 pub struct RealDraft {
     pub(crate) kind: Kind,
     pub(crate) number: u64,
-    pub(crate) file: File,
-    pub(crate) faults: u64,
+    pub(crate) sink: StreamSink<File>,
 }
 
 /// A sealed file in a file system: its bytes are on the disk, its name is still a draft's.
@@ -27,27 +25,12 @@ impl Sink for RealDraft {
 
     ghost written = { λ d. None };
 
-    ghost faults = { λ d. d.faults };
+    ghost faults = { λ d. d.sink.faults };
 
     ghost beside = { λ d. record { kind = d.kind; number = d.number; home = 0 } };
 
     fn write(&mut self, bytes: &[u8]) -> Result<usize, Failed> {
-        if bytes.is_empty() {
-            return Ok(0);
-        }
-        'tries: for _ in 0..u64::MAX {
-            match self.file.write(bytes) {
-                Ok(0) => break,
-                Ok(taken) => return Ok(taken),
-                Err(error) => {
-                    if error.kind() != ErrorKind::Interrupted {
-                        break;
-                    }
-                }
-            }
-        }
-        self.faults = self.faults.saturating_add(1);
-        Err(Failed)
+        self.sink.write(bytes)
     }
 }
 
@@ -65,20 +48,15 @@ impl Draft for RealDraft {
     ghost keeps = { λ a b same. same };
 
     fn seal(mut self) -> Result<RealSealed, RealDraft> {
-        if self.file.sync_data().is_err() {
-            self.faults = self.faults.saturating_add(1);
+        if self.sink.writer().sync_data().is_err() {
+            self.sink.count_fault();
             return Err(self);
         }
-        let RealDraft {
-            kind,
-            number,
-            file: _file,
-            faults,
-        } = self;
+        let RealDraft { kind, number, sink } = self;
         Ok(RealSealed {
             kind,
             number,
-            faults,
+            faults: sink.fault_count(),
         })
     }
 }

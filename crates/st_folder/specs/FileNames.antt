@@ -1,0 +1,37 @@
+-- The names of a shelf's files in a file system: docs/FORMAT.md, "Folders and names".
+use Rattle.std.specs.Prelude.{ℕ, zero, suc, false, ◌/◌, ◌%◌, List, [], ◌∷◌, ◌++◌, codes}
+use Rattle.std.specs.Fmt.{digit_glyph, decimal}
+use Rattle.st_disk.specs.declared.naming.Kind.{Kind}
+use Rattle.st_disk.specs.declared.naming.Kind.TheVariants as kind
+use Rattle.st_disk.specs.declared.naming.Name.{Name}
+use Rattle.st_disk.specs.declared.naming.Name.TheVariants.{Block, Index, Parked, Draft}
+use Rattle.st_disk.specs.Names.{kind_of}
+
+-- a number in this many hexadecimal digits in lower case
+abbrev pub hex_text : ℕ → ℕ → List ℕ
+hex_text zero n = []
+hex_text (suc k) n = hex_text k (n / 16) ++ (digit_glyph false (n % 16) ∷ [])
+
+-- a stamp in sixteen hexadecimal digits in lower case
+unfoldable pub stamp_text : ℕ → List ℕ
+stamp_text stamp = hex_text 16 stamp
+
+-- the name of a file in its folder
+abbrev pub file_name : Name → List ℕ
+file_name (Block stamp) = stamp_text stamp
+file_name (Index stamp) = stamp_text stamp
+file_name (Parked stamp) = codes ".parked-" ++ stamp_text stamp
+file_name (Draft k number) = codes ".draft-" ++ decimal number
+
+-- the name of a folder in the spool folder
+abbrev pub folder_name : Kind → List ℕ
+folder_name kind.Block = codes "PKT0"
+folder_name kind.Index = codes "IDX0"
+
+-- the path of a folder
+abbrev pub folder_path : List ℕ → Kind → List ℕ
+folder_path root kind = (root ++ codes "/") ++ folder_name kind
+
+-- the path of a file
+abbrev pub file_path : List ℕ → Name → List ℕ
+file_path root name = (folder_path root (kind_of name) ++ codes "/") ++ file_name name

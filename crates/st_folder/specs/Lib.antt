@@ -1,0 +1,3 @@
+pub mod FileNames
+pub mod Counting
+pub mod Numbers

@@ -1,0 +1,92 @@
+// The names of a shelf's files in a file system: docs/FORMAT.md, "Folders and names".
+ghost use Rattle.std.specs.Prelude.{◌≡◌, ◌++◌, IfOk, IfSome, OnOk, string_bytes};
+ghost use Rattle.st_disk.specs.declared.naming.Kind.TheVariants as kind;
+ghost use Rattle.st_disk.specs.Names.{kind_of};
+ghost use Rattle.st_folder.specs.FileNames.{file_name, folder_name, folder_path, file_path};
+
+use crate::real::digits::{after, number_of, put_stamp, stamp_of};
+use st_disk::kind_of_name;
+use st_shelf::{Kind, Name};
+use std::alloc::{AllocError, Global};
+
+// The path of the folder of this kind.
+pub(crate) fn path_of_folder(alloc: Global, root: &str, kind: Kind) -> Result<String, AllocError>
+    ensures { IfOk result (λ path. string_bytes path ≡ folder_path root.now kind) }
+{
+    let mut path = String::from_str(alloc, root)?;
+    path.push_str("/")?;
+    path.push_str(name_of_folder(kind))?;
+    Ok(path)
+}
+
+// The path of the file of this name.
+pub(crate) fn path_of(alloc: Global, root: &str, name: Name) -> Result<String, AllocError>
+    ensures { IfOk result (λ path. string_bytes path ≡ file_path root.now name) }
+{
+    let mut path = path_of_folder(alloc, root, kind_of_name(name))?;
+    path.push_str("/")?;
+    put_name(alloc, &mut path, name)?;
+    Ok(path)
+}
+
+fn name_of_folder(kind: Kind) -> &'static str
+    ensures { result.now ≡ folder_name kind }
+{
+    match kind {
+        Kind::Block => "PKT0",
+        Kind::Index => "IDX0",
+    }
+}
+
+fn put_name(alloc: Global, text: &mut String, name: Name) -> Result<(), AllocError>
+    ensures { OnOk result (string_bytes text.new ≡ string_bytes text.old ++ file_name name) }
+{
+    match name {
+        Name::Block(stamp) => put_stamp(text, stamp),
+        Name::Index(stamp) => put_stamp(text, stamp),
+        Name::Parked(stamp) => {
+            text.push_str(".parked-")?;
+            put_stamp(text, stamp)
+        }
+        Name::Draft { number, .. } => {
+            text.push_str(".draft-")?;
+            let digits = format!(in alloc; "{number}")?;
+            text.push_str(digits.as_str())
+        }
+    }
+}
+
+// The name that a file of this folder has, if it is one of a shelf's.
+pub(crate) fn name_of(kind: Kind, text: &str) -> Option<Name>
+    ensures { IfSome result (λ name. (kind_of name ≡ kind) × (text.now ≡ file_name name)) }
+{
+    if let Some(number) = after(".draft-", text) {
+        return match number_of(number) {
+            Some(number) => Some(Name::Draft { kind, number }),
+            None => None,
+        };
+    }
+    match kind {
+        Kind::Block => match stamp_of(text) {
+            Some(stamp) => Some(Name::Block(stamp)),
+            None => None,
+        },
+        Kind::Index => index_name(text),
+    }
+}
+
+// The name of an index, or of a parked one.
+fn index_name(text: &str) -> Option<Name>
+    ensures { IfSome result (λ name. (kind_of name ≡ kind.Index) × (text.now ≡ file_name name)) }
+{
+    if let Some(stamp) = after(".parked-", text) {
+        return match stamp_of(stamp) {
+            Some(stamp) => Some(Name::Parked(stamp)),
+            None => None,
+        };
+    }
+    match stamp_of(text) {
+        Some(stamp) => Some(Name::Index(stamp)),
+        None => None,
+    }
+}
