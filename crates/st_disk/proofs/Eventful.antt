@@ -2,7 +2,6 @@
 use Rattle.std.proofs.Common.{◌≡◌, List, [], ◌∷◌, ◌++◌, refl, sym, ◌∙◌, ap, append_assoc}
 use Rattle.std.proofs.lemmas.List.{append-nil}
 use Rattle.st_disk.specs.declared.naming.Kind.TheVariants as kind
-use Rattle.st_disk.specs.declared.changes.Change.{Change}
 use Rattle.st_disk.specs.declared.changes.Call.{Call}
 use Rattle.st_disk.specs.declared.changes.Call.TheVariants.{Did, Flush, Other}
 use Rattle.st_disk.specs.Folders.{Folder, join, change_kind, folder_of}

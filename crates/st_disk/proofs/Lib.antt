@@ -10,5 +10,6 @@ mod Placing
 pub mod Bits
 pub mod Crashing
 pub mod OneSet
+pub mod Sets
 pub mod Runs
 pub mod Reading

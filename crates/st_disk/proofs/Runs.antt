@@ -12,8 +12,7 @@ use Rattle.st_disk.specs.declared.changes.Call.TheVariants.{Did, Flush, Other}
 use Rattle.st_disk.specs.Names.{kind_of}
 use Rattle.st_disk.specs.Folders.{Folder, apply, where_there, given}
 use Rattle.st_disk.specs.Disks.{Log, reads, Leaves, and_then, moment, Since, log_of}
-use Rattle.st_disk.specs.Pairs.{Entry}
-use Rattle.st_disk.specs.Events.{Event, Publish, Remove, call_events, change_events, events}
+use Rattle.st_disk.specs.Events.{Event, Publish, Remove, call_events, events}
 use Rattle.st_disk.specs.LoggedCalls.{Adds, Looks, Does, removal, Abandons, Reads, KnownBefore}
 use Rattle.st_disk.specs.Runs.{Each, LeavesOnly, Ran}
 use Rattle.st_disk.proofs.Images.{leaves_did, leaves_flush, leaves_other}

@@ -1,12 +1,9 @@
 -- The list of all names that are there.
-use Rattle.std.specs.Prelude.{◌≡◌, ◌<◌, ◌⊎◌, ◌↔◌, ℕ, List, [], ◌∷◌, Option, Some, IsSome, Contains, AllPairs}
-use Rattle.st_disk.specs.declared.naming.Kind.TheVariants as kind
+use Rattle.std.specs.Prelude.{◌≡◌, ◌⊎◌, ◌↔◌, List, [], ◌∷◌, Option, Some, IsSome, Contains}
 use Rattle.st_disk.specs.declared.naming.Name.{Name}
-use Rattle.st_disk.specs.declared.naming.Name.TheVariants.{Block, Index, Parked, Draft}
 use Rattle.st_disk.specs.declared.changes.Update.{Update}
 use Rattle.st_disk.specs.declared.changes.Update.TheVariants.{Set, Move}
 use Rattle.st_disk.specs.Disks.{Log, reads}
-use Rattle.st_disk.specs.Names.{number_of}
 
 -- where the log is known, these are just the names that are there
 abbrev pub AreAll : Option Log → List Name → Type 0

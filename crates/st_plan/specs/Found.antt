@@ -1,4 +1,4 @@
--- What a parse of the words found.
+-- What clap finds in the arguments.
 use Rattle.std.specs.Prelude.{◌≡◌, List, [], ◌∷◌, Option, Some, None, option_map, codes, if◌then◌else◌}
 use Rattle.std.specs.Str.{bytes_eq}
 use Rattle.clap.specs.Words.{Text, first_value, matched_of, raw_values}
@@ -14,23 +14,23 @@ abbrev pub some_of : List Text → Option (List Text)
 some_of [] = None
 some_of (g ∷ gs) = Some (g ∷ gs)
 
--- the values of the arguments
+-- the values of the operands
 abbrev pub arguments_of : Found → Option (List Text)
 arguments_of f = option_map raw_values (matched_of f (codes "words"))
 
--- these options and arguments were found
+-- these options and operands were found
 pub record IsFound (o : Options) (gs : List Text) (f : Found) : Type 0 where
   pub ns : first_value f (codes "ns") ≡ Some (if o.ns then codes "true" else codes "false")
   pub packets : first_value f (codes "packets") ≡ o.packets
   pub bytes : first_value f (codes "bytes") ≡ o.bytes
   pub words : arguments_of f ≡ some_of gs
 
--- the words are a line, and what it makes was found
+-- the arguments are a line, and what it makes was found
 pub record IsTaken (words : List Text) (f : Found) : Type 0 where
   pub line : (o : Options) × (gs : List Text) × Line no_options [] words o gs
   pub found : (o : Options) (gs : List Text) → Line no_options [] words o gs → IsFound o gs f
 
--- the words are no line
+-- the arguments are no line
 abbrev pub IsNoLine : List Text → Type 0
 IsNoLine words = (o : Options) (gs : List Text) → Line no_options [] words o gs → ⊥
 

@@ -1,4 +1,4 @@
--- How the words of a command line are read: options in any place, and arguments.
+-- How the arguments of a command line are read: options in any place, and operands.
 use Rattle.std.specs.Prelude.{◌≡◌, Bool, true, false, not, ◌==◌, List, [], ◌∷◌, ◌++◌, Option, Some, None, codes}
 use Rattle.clap.specs.Words.{Text}
 
@@ -11,16 +11,16 @@ pub record Options : Type 0 where
 abbrev pub no_options : Options
 no_options = record { ns = false; packets = None; bytes = None }
 
--- a word that may be an argument or an option's value: one that does not begin with a hyphen, or is
--- a hyphen alone
+-- an argument that may be an operand or an option's value: one that does not begin with a hyphen,
+-- or is a hyphen alone
 abbrev pub is_plain : Text → Bool
 is_plain [] = true
 is_plain (x ∷ []) = true
 is_plain (x ∷ (y ∷ rest)) = not (x == 45)
 
--- With these options and arguments before them, the words are read to their end, and with those
--- that they have they make those. An option stands once. It has its value as the next word, or
--- behind an equals sign. Behind `--` each word is an argument.
+-- With these options and operands before them, the arguments are read to their end, and with those
+-- that they have they make those. An option stands once. Its value is the next argument, or follows
+-- an equals sign. After `--` each argument is an operand.
 pub data Line : Options → List Text → List Text → Options → List Text → Type 0 where
   nothing : {o : Options} {gs : List Text} → Line o gs [] o gs
   rest : {o : Options} {gs ws hs : List Text} → hs ≡ gs ++ ws → Line o gs (codes "--" ∷ ws) o hs

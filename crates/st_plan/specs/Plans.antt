@@ -17,13 +17,13 @@ abbrev pub IsLimit : Option Text → ℕ → Type 0
 IsLimit None n = n ≡ 2 ^ 64 - 1
 IsLimit (Some word) n = IsNumber word n
 
--- these options and arguments are `once` with one query
+-- these options and operands are `once` with one query
 pub record IsJob (o : Options) (gs : List Text) (job : Job) : Type 0 where
   pub words : gs ≡ codes "once" ∷ (job.query ∷ [])
   pub unit : job.unit ≡ (if o.ns then Nano else Micro)
   pub packets : IsLimit o.packets job.limits.packets
   pub bytes : IsLimit o.bytes job.limits.bytes
 
--- these words have this plan
+-- these arguments have this plan
 abbrev pub IsPlan : List Text → Plan → Type 0
 IsPlan words (Once job) = (o : Options) × (gs : List Text) × Line no_options [] words o gs × IsJob o gs job

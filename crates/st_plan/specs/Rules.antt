@@ -1,4 +1,4 @@
--- The command's arguments, as its rules.
+-- The options and operands of the command, as clap's rules.
 use Rattle.std.specs.Prelude.{Some, true, codes}
 use Rattle.clap.specs.Words.{App, Rule, Text, new_rule, new_app, with_rule}
 use Rattle.clap.specs.declared.builder.ArgAction.TheVariants.{Set, SetTrue, Append}

@@ -1,18 +1,16 @@
 -- Texts of packets in one buffer.
 use Rattle.std.proofs.Common.{◌≡◌, ℕ, ◌+◌, ◌-◌, ◌≤◌, List, [], ◌∷◌, ◌++◌, length, take, drop, map, refl, sym, ap, subst, ◌∙◌, arith, length-append, append_assoc}
-use Rattle.std.specs.List.{All, sum_by, flat_map}
+use Rattle.std.specs.List.{sum_by, flat_map}
 use Rattle.std.proofs.lemmas.List.{take-append-le, drop-append-le, length-drop, length-take, take_all, drop-drop, map-append}
 use Rattle.std.proofs.lemmas.List.Elements.{All-head, All-tail, All-push, All-weaker}
 use Rattle.std.proofs.lemmas.List.Sums.{sum_by-cons}
 use Rattle.std.proofs.Math.Seq.{drop-append_seam, take-add}
-use Rattle.byteorder.specs.Endian.{little_bytes}
-use Rattle.byteorder.specs.Numbers.{length-bytes_low_first}
 use Rattle.st_base.specs.Records.{Rec}
 use Rattle.st_pcap.specs.declared.forms.Unit as unit
-use Rattle.st_pcap.specs.Forms.{fraction_of}
+use Rattle.st_pcap.specs.declared.numbers.TheConstants.{RECORD_HEAD_SIZE}
 use Rattle.st_pcap.specs.Text.{record_head, record_text}
+use Rattle.st_pcap.proofs.Writing.{length-record_head, length-record_text}
 use Rattle.steno.specs.declared.packets.Packet.{Packet}
-use Rattle.steno.specs.declared.packets.TheConstants.{RECORD_HEAD}
 use Rattle.steno.specs.Limited.{captured}
 use Rattle.steno.specs.Packets.{stretch, end_of, text_of, record_of, Lies, AllLie, AllWithin}
 
@@ -36,7 +34,7 @@ stretch-new text xs to is =
 
 pub record-append : (text more : List ℕ) (p : Packet) → end_of p ≤ length text → record_of (text ++ more) p ≡ record_of text p
 record-append text more p within =
-    ap (λ b. record { sec = p.sec; nsec = p.nsec; orig = p.orig; body = b }) (stretch-append text more (p.start + RECORD_HEAD) (end_of p) (omega arith) within)
+    ap (λ b. record { sec = p.sec; nsec = p.nsec; orig = p.orig; body = b }) (stretch-append text more (p.start + RECORD_HEAD_SIZE) (end_of p) (omega arith) within)
 
 pub lies-append : (u : unit.Unit) (text more : List ℕ) (p : Packet) → Lies u text p → Lies u (text ++ more) p
 lies-append u text more p h = record {
@@ -54,21 +52,6 @@ records-append u text more (p ∷ ps) h =
     ap (λ r. r ∷ map (record_of (text ++ more)) ps) (record-append text more p (All-head (Lies u text) p ps h).within)
     ∙ ap (λ rs. record_of text p ∷ rs) (records-append u text more ps (All-tail (Lies u text) p ps h))
 
-four : (x : ℕ) → length (little_bytes 4 x) ≡ 4
-four x = length-bytes_low_first 0 4 x
-
-pub length-record_head : (u : unit.Unit) (r : Rec) → length (record_head u r) ≡ RECORD_HEAD
-unfolding record_head
-length-record_head u r =
-    let a = little_bytes 4 r.sec in
-    let b = little_bytes 4 (fraction_of u r.nsec) in
-    let c = little_bytes 4 (length r.body) in
-    let d = little_bytes 4 r.orig in
-    omega (arith, length-append a (b ++ (c ++ d)), length-append b (c ++ d), length-append c d, four r.sec, four (fraction_of u r.nsec), four (length r.body), four r.orig)
-
-pub length-record_text : (u : unit.Unit) (r : Rec) → length (record_text u r) ≡ RECORD_HEAD + length r.body
-length-record_text u r = omega (arith, length-append (record_head u r) r.body, length-record_head u r)
-
 -- the packet of a record whose text begins at this offset
 abbrev pub packet_at : ℕ → Rec → Packet
 packet_at start r = record { sec = r.sec; nsec = r.nsec; orig = r.orig; len = length r.body; start = start }
@@ -76,12 +59,12 @@ packet_at start r = record { sec = r.sec; nsec = r.nsec; orig = r.orig; len = le
 pub record-new : (u : unit.Unit) (text : List ℕ) (r : Rec) → record_of (text ++ record_text u r) (packet_at (length text) r) ≡ r
 record-new u text r =
     let front = text ++ record_head u r in
-    let start : length front ≡ length text + RECORD_HEAD = length-append text (record_head u r) ∙ ap (λ n. length text + n) (length-record_head u r) in
-    let there : stretch (front ++ r.body) (length front) (length text + RECORD_HEAD + length r.body) ≡ r.body =
-    stretch-new front r.body (length text + RECORD_HEAD + length r.body) (omega (arith, start)) in
-    let body : stretch (text ++ record_text u r) (length text + RECORD_HEAD) (length text + RECORD_HEAD + length r.body) ≡ r.body =
-    subst (λ n. stretch (text ++ record_text u r) n (length text + RECORD_HEAD + length r.body) ≡ r.body) start
-    (subst (λ t. stretch t (length front) (length text + RECORD_HEAD + length r.body) ≡ r.body) (append_assoc text (record_head u r) r.body) there) in
+    let start : length front ≡ length text + RECORD_HEAD_SIZE = length-append text (record_head u r) ∙ ap (λ n. length text + n) (length-record_head u r) in
+    let there : stretch (front ++ r.body) (length front) (length text + RECORD_HEAD_SIZE + length r.body) ≡ r.body =
+    stretch-new front r.body (length text + RECORD_HEAD_SIZE + length r.body) (omega (arith, start)) in
+    let body : stretch (text ++ record_text u r) (length text + RECORD_HEAD_SIZE) (length text + RECORD_HEAD_SIZE + length r.body) ≡ r.body =
+    subst (λ n. stretch (text ++ record_text u r) n (length text + RECORD_HEAD_SIZE + length r.body) ≡ r.body) start
+    (subst (λ t. stretch t (length front) (length text + RECORD_HEAD_SIZE + length r.body) ≡ r.body) (append_assoc text (record_head u r) r.body) there) in
     ap (λ b. record { sec = r.sec; nsec = r.nsec; orig = r.orig; body = b }) body
 
 pub lies-new : (u : unit.Unit) (text : List ℕ) (r : Rec) → Lies u (text ++ record_text u r) (packet_at (length text) r)
@@ -89,7 +72,7 @@ lies-new u text r =
     let long = length-record_text u r in
     record {
       within = omega (arith, length-append text (record_text u r), long);
-      is = stretch-new text (record_text u r) (length text + RECORD_HEAD + length r.body) (omega (arith, long)) ∙ ap (record_text u) (sym (record-new u text r));
+      is = stretch-new text (record_text u r) (length text + RECORD_HEAD_SIZE + length r.body) (omega (arith, long)) ∙ ap (record_text u) (sym (record-new u text r));
     }
 
 -- a record's text follows a buffer, and its packet the others
@@ -118,7 +101,7 @@ texts-are u text (p ∷ ps) h =
 -- a packet captured as many bytes as its record has
 pub length-body : (u : unit.Unit) (text : List ℕ) (p : Packet) → Lies u text p → length (record_of text p).body ≡ p.len
 length-body u text p h =
-    let from = p.start + RECORD_HEAD in
+    let from = p.start + RECORD_HEAD_SIZE in
     omega (arith, length-take (end_of p - from) (drop from text), length-drop from text, h.within)
 
 pub captured-lens : (u : unit.Unit) (text : List ℕ) (ps : List Packet) → AllLie u text ps → captured (map (record_of text) ps) ≡ sum_by (λ (p : Packet). p.len) ps

@@ -1,5 +1,5 @@
 -- From what was gathered and written to what a run leaves and says.
-use Rattle.std.proofs.Common.{◌≡◌, ◌≢◌, ◌⊎◌, ℕ, List, [], Option, Some, Result, Ok, Err, refl, sym, ap, subst, ◌∙◌, inl, inr}
+use Rattle.std.proofs.Common.{◌≡◌, ◌≢◌, ◌⊎◌, ℕ, List, [], Option, Result, Ok, Err, refl, sym, ap, subst, ◌∙◌, inl, inr}
 use Rattle.std.specs.Io.KnownBytes.{Appends}
 use Rattle.std.proofs.KnownBytes.{Appends-nil, Keeps-refl}
 use Rattle.st_base.specs.Pieces.{AppendsPrefix}
@@ -8,10 +8,10 @@ use Rattle.st_base.specs.Ticks.{Ticks}
 use Rattle.st_pcap.specs.declared.errors.PcapErr.{PcapErr}
 use Rattle.st_pcap.specs.declared.errors.PcapErr.TheVariants as cause
 use Rattle.st_pcap.specs.Input.{Input, End, Whole, Refused}
+use Rattle.st_pcap.specs.Reading.{IsOutside}
 use Rattle.st_pcap.specs.Text.{PcapText}
 use Rattle.st_pcap.proofs.Uniqueness.{one_input}
 use Rattle.st_plan.specs.Jobs.{Job}
-use Rattle.st_plan.specs.declared.jobs.Plan.{Plan}
 use Rattle.st_plan.specs.declared.jobs.Plan.TheVariants.{Once}
 use Rattle.st_plan.proofs.OnePlan.{one_plan}
 use Rattle.st_query.specs.declared.errors.QueryErr.{QueryErr}
@@ -24,13 +24,13 @@ use Rattle.st_query.proofs.Readings.{not_both}
 use Rattle.steno.specs.declared.report.Report.{Report}
 use Rattle.steno.specs.declared.status.Status.{Status}
 use Rattle.steno.specs.declared.status.Status.TheVariants.{Done, Usage, BadInput, BadQuery, ReadFault, WriteFault, DiskFault, Damaged, NoMemory, StampsSpent}
-use Rattle.steno.specs.Gathering.{IsGathered, Selects}
+use Rattle.steno.specs.Gathering.{IsGathered, Selects, StopsAt, ReadsUpTo}
 use Rattle.steno.specs.Jobs.{IsReply, IsAsked, IsJob, Leaves}
 use Rattle.steno.specs.Limited.{Limited}
-use Rattle.steno.specs.Messages.{line_of, input_line, status_line}
+use Rattle.steno.specs.Messages.{line_of, input_line}
 use Rattle.steno.specs.Plans.{IsPlan}
-use Rattle.steno.specs.Reports.{plain_of, ReportsInput, ReportsQuery}
-use Rattle.steno.specs.Running.{AsksClock, EndsBy, IsJobMessage, IsAnswerMessage, IsRunMessage, EndsRun, HasQueryCause, HasWordCause, IsSilent, IsUnread}
+use Rattle.steno.specs.Reports.{plain_of, IsRefusal, ReportsInput, ReportsQuery}
+use Rattle.steno.specs.Running.{AsksClock, EndsBy, EndsInput, IsJobMessage, IsAnswerMessage, IsRunMessage, EndsRun, HasQueryCause, HasWordCause, IsSilent, IsUnread}
 
 -- what the report of a query leaves
 abbrev pub LeavesReply : Job → Node → ℕ → List ℕ → Option (List ℕ) → Option (List ℕ) → Report → Type 0
@@ -138,12 +138,6 @@ going_other end report r = elim (going_ends end report r) [
   )
 ]
 
-pub going_done : (end : Result (Unit {0}) PcapErr) (report : Report) → ReportsInput end (Ok report) → report.status ≡ Done → end ≡ Ok tt
-going_done end report r h = elim (going_ends end report r) [
-  | inl (done, whole) ↦ whole
-  | inr refused ↦ let bad : BadInput ≡ Done = sym refused ∙ h in absurd (cc)
-]
-
 -- where the query is one, a reply is no refusal of it
 pub reply_cause : (job : Job) (q : Node) (status : Status) (message : List ℕ) → Spells job.query q → IsAnswerMessage status message → HasQueryCause job status
 reply_cause job q status message spelled says = record {
@@ -151,6 +145,30 @@ reply_cause job q status message spelled says = record {
   refused = λ h. absurd (subst (λ s. IsAnswerMessage s message) h says);
   exact = λ e refused. absurd (not_both job.query q e spelled refused);
 }
+
+-- how far a run that ended so read its input
+pub plain_input : (bytes : List ℕ) (left : Option (List ℕ)) (report : Report) (status : Status) → EndsInput bytes status left → report ≡ plain_of status → EndsInput bytes report.status left
+plain_input bytes left report status h plain = subst (λ (r : Report). EndsInput bytes r.status left) (sym plain) h
+
+pub query_input : (bytes : List ℕ) (left : Option (List ℕ)) (error : QueryErr) (report : Report) → ReportsQuery error report → EndsInput bytes report.status left
+query_input bytes left error report (inl plain) = plain_input bytes left report NoMemory tt plain
+query_input bytes left error report (inr (other, status, line)) = subst (λ s. EndsInput bytes s left) (sym status) tt
+
+refused_input : (bytes : List ℕ) (left : Option (List ℕ)) (e : PcapErr) (report : Report) → IsRefusal e report → IsOutside e ⊎ StopsAt bytes e left → EndsInput bytes report.status left
+refused_input bytes left e report refused (inl outside) = absurd (refused.inside outside)
+refused_input bytes left e report refused (inr stops) = subst (λ s. EndsInput bytes s left) (sym refused.status) (e, stops)
+
+pub stopped_input : (bytes : List ℕ) (left : Option (List ℕ)) (end : Result (Unit {0}) PcapErr) (report : Report) → ReportsInput end (Err report) → ReadsUpTo bytes end left
+    → EndsInput bytes report.status left
+stopped_input bytes left (Ok done) report r h = absurd r
+stopped_input bytes left (Err e) report (inl (other, plain)) h = plain_input bytes left report NoMemory tt plain
+stopped_input bytes left (Err e) report (inr (inl (fault, plain))) h = plain_input bytes left report ReadFault tt plain
+stopped_input bytes left (Err e) report (inr (inr (refused, head))) h = refused_input bytes left e report refused h
+
+pub going_input : (bytes : List ℕ) (left : Option (List ℕ)) (end : Result (Unit {0}) PcapErr) (report : Report) → ReportsInput end (Ok report) → ReadsUpTo bytes end left
+    → EndsInput bytes report.status left
+going_input bytes left (Ok done) report plain h = plain_input bytes left report Done h plain
+going_input bytes left (Err e) report (refused, records) h = refused_input bytes left e report refused h
 
 -- what says a reply touched its input
 pub reply_reads : (status : Status) (message : List ℕ) → IsAnswerMessage status message → IsUnread status → ⊥

@@ -1,9 +1,11 @@
--- The records of an input that match, in its order.
-use Rattle.std.specs.Prelude.{◌≡◌, ◌⊎◌, ◌++◌, ℕ, List, [], ◌∷◌, Result, Ok, Err}
+-- The records of an input that match, in its order, and how much of it is read.
+use Rattle.std.specs.Prelude.{◌≡◌, ◌+◌, ◌⊎◌, ◌++◌, ℕ, List, [], ◌∷◌, length, drop, Option, Some, Result, Ok, Err}
 use Rattle.st_base.specs.Records.{Rec}
 use Rattle.st_pcap.specs.declared.errors.PcapErr.{PcapErr}
 use Rattle.st_pcap.specs.Input.{Input, Whole, Refused}
 use Rattle.st_pcap.specs.Reading.{IsOutside}
+use Rattle.st_pcap.specs.Taking.{RefusesHead, RefusesRecord}
+use Rattle.st_pcap.specs.declared.numbers.TheConstants.{FILE_HEAD_SIZE, RECORD_HEAD_SIZE}
 use Rattle.st_query.specs.declared.nodes.Node.{Node}
 use Rattle.st_query.specs.Meaning.{Matches}
 
@@ -20,3 +22,22 @@ KeepsMatch M r old new = ((M r → ⊥) × (new ≡ old)) ⊎ (M r × (new ≡ o
 abbrev pub IsGathered : Node → ℕ → List ℕ → List Rec → Result (Unit {0}) PcapErr → Type 0
 IsGathered q now bytes kept (Ok done) = (rs : List Rec) × Input bytes rs Whole × Selects (Matches q now) rs kept
 IsGathered q now bytes kept (Err e) = IsOutside e ⊎ ((rs : List Rec) × Input bytes rs (Refused e) × Selects (Matches q now) rs kept)
+
+-- how many bytes these records have in an input
+abbrev pub size_of : List Rec → ℕ
+size_of [] = 0
+size_of (r ∷ rs) = RECORD_HEAD_SIZE + length r.body + size_of rs
+
+-- the input is refused by this cause, and no more of it was taken than that takes: the rest is left
+pub record StopsAt (bytes : List ℕ) (e : PcapErr) (left : Option (List ℕ)) : Type 0 where
+  pub rs : List Rec
+  pub refused : Input bytes rs (Refused e)
+  pub taken : ℕ
+  pub enough : RefusesHead 0 taken e ⊎ RefusesRecord (FILE_HEAD_SIZE + size_of rs) taken e
+  pub rest : left ≡ Some (drop taken bytes)
+
+-- how far an input was read that ended so: to its end, or as far as its refusal takes; or something
+-- outside failed
+abbrev pub ReadsUpTo : List ℕ → Result (Unit {0}) PcapErr → Option (List ℕ) → Type 0
+ReadsUpTo bytes (Ok done) left = left ≡ Some []
+ReadsUpTo bytes (Err e) left = IsOutside e ⊎ StopsAt bytes e left

@@ -44,7 +44,7 @@ IsAsked job now bytes output BadQuery message =
 IsAsked job now bytes output status message =
     (q : Node) × Spells job.query q × IsReply job q now bytes output status message
 
--- what these words ask for over these bytes ends so, with this output and this message, where no
+-- what these arguments ask for over these bytes ends so, with this output and this message, where no
 -- fault ends it
 abbrev pub IsJob : List (List ℕ) → ℕ → List ℕ → List ℕ → Status → List ℕ → Type 0
 IsJob words now bytes output Usage message =

@@ -4,9 +4,9 @@ use Rattle.std.specs.List.{All}
 use Rattle.std.specs.Ordering.{is_lt, ordering_then, nat_cmp}
 use Rattle.st_base.specs.Records.{Rec}
 use Rattle.st_pcap.specs.declared.forms.Unit as unit
+use Rattle.st_pcap.specs.declared.numbers.TheConstants.{RECORD_HEAD_SIZE}
 use Rattle.st_pcap.specs.Text.{record_text}
 use Rattle.steno.specs.declared.packets.Packet.{Packet}
-use Rattle.steno.specs.declared.packets.TheConstants.{RECORD_HEAD}
 
 -- the bytes of a buffer from one offset up to another
 abbrev pub stretch : List ℕ → ℕ → ℕ → List ℕ
@@ -14,7 +14,7 @@ stretch text from to = take (to - from) (drop from text)
 
 -- where a packet's text ends in the buffer
 abbrev pub end_of : Packet → ℕ
-end_of p = p.start + RECORD_HEAD + p.len
+end_of p = p.start + RECORD_HEAD_SIZE + p.len
 
 -- the packet's text in this buffer
 abbrev pub text_of : List ℕ → Packet → List ℕ
@@ -26,7 +26,7 @@ record_of text p = record {
   sec = p.sec;
   nsec = p.nsec;
   orig = p.orig;
-  body = stretch text (p.start + RECORD_HEAD) (end_of p);
+  body = stretch text (p.start + RECORD_HEAD_SIZE) (end_of p);
 }
 
 -- the packet's text lies in the buffer, and is that of its record in this unit

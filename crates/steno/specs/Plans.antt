@@ -1,9 +1,9 @@
--- What the words after the program's name ask for.
+-- What the arguments after the program's name ask for.
 use Rattle.std.specs.Prelude.{ℕ, List}
 use Rattle.st_plan.specs.Jobs.{Job}
 use Rattle.st_plan.specs.Plans as words
 use Rattle.st_plan.specs.declared.jobs.Plan.TheVariants.{Once}
 
--- the words ask for `once` with this query, unit and limits
+-- the arguments ask for `once` with this query, unit and limits
 abbrev pub IsPlan : List (List ℕ) → Job → Type 0
 IsPlan asked job = words.IsPlan asked (Once job)

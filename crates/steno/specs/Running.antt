@@ -1,5 +1,5 @@
 -- What the calls of a run ensure.
-use Rattle.std.specs.Prelude.{◌≡◌, ◌≢◌, ◌≤◌, ◌⊎◌, ℕ, List, [], Option}
+use Rattle.std.specs.Prelude.{◌≡◌, ◌≢◌, ◌≤◌, ◌⊎◌, ℕ, List, [], Option, Some}
 use Rattle.st_base.specs.Faults.{Rose}
 use Rattle.st_base.specs.Ticks.{Ticks}
 use Rattle.st_pcap.specs.declared.errors.PcapErr.{PcapErr}
@@ -11,19 +11,20 @@ use Rattle.st_query.specs.Spelling.{Refuses}
 use Rattle.steno.specs.declared.report.Report.{Report}
 use Rattle.steno.specs.declared.status.Status.{Status}
 use Rattle.steno.specs.declared.status.Status.TheVariants.{Done, Usage, BadInput, BadQuery, ReadFault, WriteFault, NoMemory}
+use Rattle.steno.specs.Gathering.{StopsAt}
 use Rattle.steno.specs.Jobs.{IsAsked, IsJob, Leaves}
 use Rattle.steno.specs.Messages.{line_of, status_line, query_line, input_line}
 use Rattle.steno.specs.Plans.{IsPlan}
 use Rattle.steno.specs.Reports.{Tells}
 
--- the clock was asked once, but not at all where the words ask for nothing, or there was no memory
+-- the clock was asked once, but not at all where the arguments ask for nothing, or there was no memory
 -- for their plan
 abbrev pub AsksClock : Option (List ℕ) → Option (List ℕ) → Status → ℕ → Type 0
 AsksClock old new Usage now = new ≡ old
 AsksClock old new NoMemory now = (new ≡ old) ⊎ Ticks old new now
 AsksClock old new status now = Ticks old new now
 
--- a run of these words over these bytes ended so, with this line: the clock and the output
+-- a run of these arguments over these bytes ended so, with this line: the clock and the output
 abbrev pub EndsRun : List (List ℕ) → Option (List ℕ) → Option (List ℕ) → List ℕ → Option (List ℕ) → Option (List ℕ) → Status → List ℕ → Type 0
 EndsRun words clock ticked bytes old new status line =
     (now : ℕ) × AsksClock clock ticked status now × Leaves (IsJob words now bytes) status line old new
@@ -33,7 +34,7 @@ abbrev pub EndsJob : Job → Option (List ℕ) → Option (List ℕ) → List �
 EndsJob job clock ticked bytes old new report =
     (now : ℕ) × Ticks clock ticked now × Leaves (IsAsked job now bytes) report.status (line_of report) old new
 
--- a run of these words over these bytes ended so: the clock, the output and the message
+-- a run of these arguments over these bytes ended so: the clock, the output and the message
 abbrev pub EndsAndTells : List (List ℕ) → Option (List ℕ) → Option (List ℕ) → List ℕ → Option (List ℕ) → Option (List ℕ)
     → Option (List ℕ) → Option (List ℕ) → ℕ → ℕ → Status → Type 0
 EndsAndTells words clock ticked bytes old new err told before after status =
@@ -48,7 +49,7 @@ IsAnswerMessage WriteFault message = message ≡ status_line WriteFault
 IsAnswerMessage NoMemory message = message ≡ status_line NoMemory
 IsAnswerMessage status message = ⊥
 
--- the message of a run of these words that ended so, over any input; it ends in no other way
+-- the message of a run of these arguments that ended so, over any input; it ends in no other way
 abbrev pub IsRunMessage : List (List ℕ) → Status → List ℕ → Type 0
 IsRunMessage words Usage message = message ≡ status_line Usage
 IsRunMessage words BadQuery message = (job : Job) × (e : QueryErr) × IsPlan words job × Refuses job.query e × (message ≡ query_line e)
@@ -65,8 +66,9 @@ TellsRun words clock ticked err told before after status =
     (message : List ℕ) × IsRunMessage words status message × Tells err told before after message
     × ((now : ℕ) × AsksClock clock ticked status now)
 
--- Words without a plan, and only these, end so, unless memory runs out. A query is refused only if
--- the words ask one that is, and if they do, the run ends in no other way unless memory runs out.
+-- Arguments without a plan, and only these, end so, unless memory runs out. A query is refused only
+-- if the arguments ask one that is, and if they do, the run ends in no other way unless memory runs
+-- out.
 pub record HasWordCause (words : List (List ℕ)) (status : Status) : Type 0 where
   pub usage : status ≡ Usage → (job : Job) → IsPlan words job → ⊥
   pub unplanned : ((job : Job) → IsPlan words job → ⊥) → (status ≡ Usage) ⊎ (status ≡ NoMemory)
@@ -99,6 +101,13 @@ abbrev pub EndsBy : End → Status → Type 0
 EndsBy Whole status = (status ≡ Done) ⊎ (status ≡ NoMemory)
 EndsBy (Refused cause) status = (status ≡ BadInput) ⊎ (status ≡ NoMemory)
 
+-- how far a run that ended so read its input: to its end where all is done, and where the input is
+-- refused as far as that takes
+abbrev pub EndsInput : List ℕ → Status → Option (List ℕ) → Type 0
+EndsInput bytes Done left = left ≡ Some []
+EndsInput bytes BadInput left = (cause : PcapErr) × StopsAt bytes cause left
+EndsInput bytes status left = Unit {0}
+
 -- ways to end in which nothing is written
 abbrev pub IsSilent : Status → Type 0
 IsSilent Done = ⊥
@@ -112,8 +121,8 @@ IsUnread Usage = Unit {0}
 IsUnread BadQuery = Unit {0}
 IsUnread status = ⊥
 
--- the streams that a run doesn't touch: the input where the words or the query are refused, and the
--- output where nothing is written
+-- the streams that a run doesn't touch: the input where the arguments or the query are refused, and
+-- the output where nothing is written
 pub record LeavesStreams {I O : Type 0} (status : Status) (input input' : I) (out out' : O) : Type 0 where
   pub unread : IsUnread status → input' ≡ input
   pub unwritten : IsSilent status → out' ≡ out

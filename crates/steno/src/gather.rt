@@ -1,9 +1,9 @@
 //! The records of an input that match a query.
 
-ghost use Rattle.std.specs.Prelude.{◌≡◌, [], ℕ, List, Some, OnOk};
+ghost use Rattle.std.specs.Prelude.{◌≡◌, ℕ, List, Some, OnOk};
 ghost use Rattle.st_pcap.specs.Reading.{HasFaultCause};
 ghost use Rattle.st_query.specs.Meaning.{Matches};
-ghost use Rattle.steno.specs.Gathering.{IsGathered, KeepsMatch};
+ghost use Rattle.steno.specs.Gathering.{IsGathered, KeepsMatch, ReadsUpTo};
 
 use crate::packets::Packets;
 use st_base::{NoMemory, Record, Source};
@@ -22,8 +22,8 @@ pub struct Gathered {
 /// Reads the pcap to its end, and keeps the records that match `query` at `now`, in microseconds
 /// since 1970, to be written in `unit`.
 ///
-/// All records are read into the same memory, one after the other. `ReadFault` comes only where
-/// the input's `faults` rose.
+/// All records are read into the same memory, one after the other. Nothing is read after a refusal.
+/// `ReadFault` comes only if the input's `faults` rose.
 pub fn gather<I: Source>(
     alloc: Global,
     query: &Query,
@@ -36,7 +36,7 @@ pub fn gather<I: Source>(
         → IsGathered query.now now bytes result.packets.records result.end }
     ensures unit { result.packets.unit ≡ unit }
     ensures ended { (bytes : List ℕ) → I.left input.old ≡ Some bytes
-        → OnOk result.end (I.left input.new ≡ Some []) }
+        → ReadsUpTo bytes result.end (I.left input.new) }
 
     // What the input's faults say, and what else of it stays.
     ensures cause { HasFaultCause (I.faults input.old) (I.faults input.new) result.end }

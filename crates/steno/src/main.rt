@@ -32,6 +32,8 @@
 #![tactic(auto)]
 
 ghost use Rattle.std.specs.Prelude.{◌≡◌, MatchResult};
+ghost use Rattle.steno.specs.Messages.{status_line};
+ghost use Rattle.steno.specs.Reports.{Tells};
 
 use crate::report::{plain, tell};
 use crate::runner::run;
@@ -116,7 +118,9 @@ fn words_of(rt: &HostRuntime) -> Result<Vec<String>, Status> {
 
 // Tells the line of this status, of a run that there wasn't or whose flush failed.
 fn told<E: Sink>(err: &mut E, status: Status) -> Status
-    ensures { result ≡ status }
+    ensures same { result ≡ status }
+    ensures line { Tells (E.written err.old) (E.written err.new)
+        (E.faults err.old) (E.faults err.new) (status_line status) }
 {
     tell(err, &plain(status));
     status

@@ -1,9 +1,9 @@
 //! The command `once`: a query over one input.
 
-ghost use Rattle.std.specs.Prelude.{◌≡◌, [], ℕ, List, Some};
+ghost use Rattle.std.specs.Prelude.{◌≡◌, ℕ, List, Some};
 ghost use Rattle.st_base.specs.Ticks.{Ticks};
 ghost use Rattle.steno.specs.Messages.{line_of};
-ghost use Rattle.steno.specs.Running.{EndsJob, IsJobMessage, HasQueryCause, HasFaultCause, LeavesStreams};
+ghost use Rattle.steno.specs.Running.{EndsInput, EndsJob, IsJobMessage, HasQueryCause, HasFaultCause, LeavesStreams};
 
 use crate::gather::gather;
 use crate::report::{Report, input_ended, plain, query_refused};
@@ -31,7 +31,7 @@ pub fn once<I: Source, O: Sink, C: Clock>(
         → EndsJob plan.now (C.to_come clock.old) (C.to_come clock.new) bytes
         (O.written out.old) (O.written out.new) result }
     ensures ended { (bytes : List ℕ) → I.left input.old ≡ Some bytes
-        → result.status ≡ Status.Done → I.left input.new ≡ Some [] }
+        → EndsInput bytes result.status (I.left input.new) }
 
     // What it says and when each way to end comes, over any input.
     ensures says { IsJobMessage plan.now result.status (line_of result) }

@@ -10,13 +10,9 @@ ghost use Rattle.steno.specs.Limited.{Limited};
 ghost use Rattle.steno.specs.Packets.{record_of, text_of, Lies, AllLie, AllWithin, is_earlier, Appends};
 
 use st_base::{Failed, Limits, NoMemory, Record, Sink, put};
-use st_pcap::{Unit, append_record, put_header};
+use st_pcap::{RECORD_HEAD_SIZE, Unit, append_record, put_header};
 use std::alloc::Global;
 use std::marker::Model;
-
-/// The bytes before a record's body. Source: docs/FORMAT.md, "Record: a head of 16 bytes, then the
-/// body".
-const RECORD_HEAD: usize = 16;
 
 /// What a packet is sorted and cut by, and where its text begins.
 #[derive(Clone, Copy)]
@@ -141,7 +137,7 @@ fn append(
         text.old.items order.old.items text.new.items order.new.items result }
 {
     let body = packet.body.bytes();
-    match make_room(text, RECORD_HEAD + body.len()) {
+    match make_room(text, RECORD_HEAD_SIZE + body.len()) {
         Ok(()) => {}
         Err(error) => return Err(error),
     }
@@ -252,7 +248,7 @@ fn put_texts<O: Sink>(out: &mut O, order: &[Packet], text: &[u8]) -> Result<(), 
                 Err(error) => return Err(error),
             }
         }
-        to = packet.start + RECORD_HEAD + packet.len as usize;
+        to = packet.start + RECORD_HEAD_SIZE + packet.len as usize;
     }
     put(out, &text[from..to])
 }

@@ -1,6 +1,6 @@
 //! A run of the program, over whatever its streams and clock are.
 
-ghost use Rattle.std.specs.Prelude.{◌≡◌, [], ℕ, List, Some, map, string_bytes};
+ghost use Rattle.std.specs.Prelude.{◌≡◌, ℕ, List, Some, map, string_bytes};
 ghost use Rattle.st_base.specs.Records.{Rec};
 ghost use Rattle.st_pcap.specs.Input.{Input, End};
 ghost use Rattle.st_plan.specs.Jobs.{Job};
@@ -8,7 +8,7 @@ ghost use Rattle.st_query.specs.declared.nodes.Node.{Node};
 ghost use Rattle.st_query.specs.Spelling.{Spells};
 ghost use Rattle.steno.specs.Messages.{line_of};
 ghost use Rattle.steno.specs.Plans.{IsPlan};
-ghost use Rattle.steno.specs.Running.{EndsAndTells, EndsRun, TellsRun, IsRunMessage, AsksClock, HasWordCause, HasFaultCause, NoneRose, EndsBy, LeavesAlone, LeavesStreams};
+ghost use Rattle.steno.specs.Running.{EndsInput, EndsAndTells, EndsRun, TellsRun, IsRunMessage, AsksClock, HasWordCause, HasFaultCause, NoneRose, EndsBy, LeavesAlone, LeavesStreams};
 
 use crate::once::once;
 use crate::report::{Report, plain, tell};
@@ -17,9 +17,9 @@ use st_base::{Clock, NoMemory, Sink, Source};
 use st_plan::{Once, Plan, plan_of};
 use std::alloc::Global;
 
-/// Does what the words after the program's name ask for: `once QUERY` writes to `out` the packets
-/// of the pcap in `input` that match, by second, nanosecond and place, as a pcap in the unit and
-/// within the limits that the options say.
+/// Does what the arguments in `words` ask for: `once QUERY` writes to `out` the packets of the pcap
+/// in `input` that match, by second, nanosecond and place, as a pcap in the unit and within the
+/// limits that the options say.
 ///
 /// The clock is read once, in microseconds since 1970, before the query is. A refused record ends
 /// the input, and what came before it is answered; nothing is written where the file head is
@@ -49,14 +49,14 @@ pub fn run<I: Source, O: Sink, E: Sink, C: Clock>(
     ensures fault { HasFaultCause (I.faults input.old) (I.faults input.new)
         (O.faults out.old) (O.faults out.new) result.status }
 
-    // Where nothing failed, the input's end decides; where all is done, it was read to its end.
+    // Where nothing failed, the input's end decides; it was read to its end, or to its refusal.
     ensures complete { (asked : Job) (bytes : List ℕ) (q : Node) (rs : List Rec) (end : End)
         → IsPlan (map string_bytes words.now) asked → Spells asked.query q
         → I.left input.old ≡ Some bytes → Input bytes rs end
         → NoneRose (I.faults input.old) (I.faults input.new) (O.faults out.old) (O.faults out.new)
         → EndsBy end result.status }
     ensures ended { (bytes : List ℕ) → I.left input.old ≡ Some bytes
-        → result.status ≡ Status.Done → I.left input.new ≡ Some [] }
+        → EndsInput bytes result.status (I.left input.new) }
 
     // What stays as it was.
     ensures alone { LeavesAlone result.status input.old input.new out.old out.new err.old err.new }
@@ -70,7 +70,7 @@ pub fn run<I: Source, O: Sink, E: Sink, C: Clock>(
     }
 }
 
-// Does what the words ask for, and reports how that ended.
+// Does what the arguments ask for, and reports how that ended.
 fn obey<I: Source, O: Sink, C: Clock>(
     alloc: Global,
     words: &[String],
@@ -83,7 +83,7 @@ fn obey<I: Source, O: Sink, C: Clock>(
         → EndsRun (map string_bytes words.now) (C.to_come clock.old) (C.to_come clock.new) bytes
         (O.written out.old) (O.written out.new) result.status (line_of result) }
     ensures ended { (bytes : List ℕ) → I.left input.old ≡ Some bytes
-        → result.status ≡ Status.Done → I.left input.new ≡ Some [] }
+        → EndsInput bytes result.status (I.left input.new) }
 
     // What it says and when each way to end comes, over any input.
     ensures says { IsRunMessage (map string_bytes words.now) result.status (line_of result) }

@@ -1,18 +1,14 @@
-use Rattle.std.proofs.Common.{◌≡◌, ◌≢◌, ◌∙◌, refl, sym, ap, subst, arith, Some, [], OnOk}
+use Rattle.std.proofs.Common.{◌≢◌, ◌∙◌, refl, sym, ap, subst, arith}
 use Rattle.std.specs.Io.KnownBytes.{Appends}
 use Rattle.st_base.specs.Pieces.{AppendsPrefix}
 use Rattle.st_pcap.specs.Text.{PcapText}
 use Rattle.st_plan.specs.Jobs.{Job}
 use Rattle.st_query.specs.declared.errors.QueryErr.TheVariants as refusal
-use Rattle.st_query.specs.Answer.{AnswerOf}
 use Rattle.st_query.specs.Spelling.{Spells, Refuses}
-use Rattle.steno.specs.declared.report.Report.{Report}
 use Rattle.steno.specs.Limited.{Limited}
 use Rattle.steno.specs.Messages.{line_of}
-use Rattle.steno.specs.declared.status.Status.{Status}
-use Rattle.steno.specs.declared.status.Status.TheVariants.{Done, ReadFault, WriteFault, NoMemory}
-use Rattle.steno.specs.Running.{IsSilent}
-use Rattle.steno.proofs.Replying.{LeavesReply, asked_leaves, refused_leaves, stopped_leaves, stopped_says, stopped_reads, stopped_fault, stopped_other, going_says, going_reads, going_other, going_done, written_leaves, failed_leaves, failed_says, memory_leaves, memory_says, reply_answers, reply_cause, reply_reads}
+use Rattle.steno.specs.declared.status.Status.TheVariants.{WriteFault, NoMemory}
+use Rattle.steno.proofs.Replying.{LeavesReply, asked_leaves, refused_leaves, stopped_leaves, stopped_says, stopped_reads, stopped_fault, stopped_other, going_says, going_reads, going_other, going_input, plain_input, query_input, stopped_input, written_leaves, failed_leaves, failed_says, memory_leaves, memory_says, reply_answers, reply_cause, reply_reads}
 use Rattle.steno.proofs.once.once.Goals as goal
 
 pub returns-in-Err-clause-job : goal.returns-in-Err-clause-job
@@ -96,7 +92,7 @@ returns-in-Err-input_ended-clause-fault g c =
     }
 
 pub returns-in-Err-input_ended-clause-ended : goal.returns-in-Err-input_ended-clause-ended
-returns-in-Err-input_ended-clause-ended g c = λ bytes told done. absurd ((stopped_other c.gather-gathered.result.end c.in-Err-input_ended.report c.in-Err-input_ended.ensures).0 done)
+returns-in-Err-input_ended-clause-ended g c = λ bytes told. stopped_input bytes (g.I.Source.left c.gather-gathered.new.input) c.gather-gathered.result.end c.in-Err-input_ended.report c.in-Err-input_ended.ensures (c.gather-gathered.ensures.ended bytes told)
 
 pub returns-in-Err-input_ended-clause-alone : goal.returns-in-Err-input_ended-clause-alone
 returns-in-Err-input_ended-clause-alone g c = record {
@@ -130,8 +126,7 @@ returns-in-Ok-write-clause-fault g c =
     }
 
 pub returns-in-Ok-write-clause-ended : goal.returns-in-Ok-write-clause-ended
-returns-in-Ok-write-clause-ended g c = λ bytes told done.
-    subst (λ r. OnOk r (g.I.Source.left c.gather-gathered.new.input ≡ Some [])) (going_done c.gather-gathered.result.end c.in-Ok-input_ended.report c.in-Ok-input_ended.ensures done) (c.gather-gathered.ensures.ended bytes told)
+returns-in-Ok-write-clause-ended g c = λ bytes told. going_input bytes (g.I.Source.left c.gather-gathered.new.input) c.gather-gathered.result.end c.in-Ok-input_ended.report c.in-Ok-input_ended.ensures (c.gather-gathered.ensures.ended bytes told)
 
 pub returns-in-Ok-write-clause-alone : goal.returns-in-Ok-write-clause-alone
 returns-in-Ok-write-clause-alone g c = record {
@@ -143,3 +138,12 @@ pub returns-clause-asked : goal.returns-clause-asked
 returns-clause-asked g c =
     let spelled = subst (λ t. Spells t c.in-Ok.query) (c.as_bytes.ensures.value ∙ ap (λ (j : Job). j.query) c.plan.view_is) c.in-Ok.ensures.spells in
     reply_cause c.args.plan.now c.in-Ok.query c.plain-in-Err-write.result.status (line_of c.plain-in-Err-write.result) spelled (failed_says c.plain-in-Err-write.result c.plain-in-Err-write.ensures)
+
+pub returns-in-Err-clause-ended : goal.returns-in-Err-clause-ended
+returns-in-Err-clause-ended g c = λ bytes told. query_input bytes (g.I.Source.left c.args.input.now) c.in-Err.error c.query_refused.result c.query_refused.ensures
+
+pub returns-in-Err-sort_by_time-clause-ended : goal.returns-in-Err-sort_by_time-clause-ended
+returns-in-Err-sort_by_time-clause-ended g c = λ bytes told. plain_input bytes (g.I.Source.left c.gather-gathered.new.input) c.plain.result NoMemory tt c.plain.ensures
+
+pub returns-clause-ended : goal.returns-clause-ended
+returns-clause-ended g c = λ bytes told. plain_input bytes (g.I.Source.left c.gather-gathered.new.input) c.plain-in-Err-write.result WriteFault tt c.plain-in-Err-write.ensures

@@ -1,5 +1,4 @@
 use Rattle.std.proofs.Common.{◌≡◌, ◌≤◌, length, take}
-use Rattle.steno.specs.Packets.{end_of}
 use Rattle.steno.proofs.Writing.{Owes}
 use Rattle.steno.proofs.packets.put_texts.Given as goal
 

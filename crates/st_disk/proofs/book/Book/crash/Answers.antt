@@ -1,5 +1,4 @@
-use Rattle.std.proofs.Common.{◌≡◌, ◌≤◌, ◌+◌, length, List, take, sym, ◌∙◌, ap, subst}
-use Rattle.st_disk.specs.declared.changes.Call.{Call}
+use Rattle.std.proofs.Common.{◌≤◌, ◌+◌, length, sym, ◌∙◌, subst}
 use Rattle.st_disk.specs.Disks.{Log, log_of}
 use Rattle.st_disk.specs.Crashes.{IsCrash}
 use Rattle.st_disk.proofs.Crashing.{whole, block_side, index_side, is_crash, kept_crash}

@@ -1,4 +1,4 @@
-use Rattle.std.proofs.Common.{◌≡◌, Option, Some, ap, rules}
+use Rattle.std.proofs.Common.{◌≡◌, Some, ap, rules}
 use Rattle.st_disk.specs.declared.changes.Change.TheVariants as change
 use Rattle.st_disk.specs.declared.changes.Call.TheVariants as call
 use Rattle.st_disk.specs.Disks.{Log, and_then}

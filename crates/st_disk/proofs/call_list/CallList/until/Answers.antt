@@ -1,7 +1,6 @@
-use Rattle.std.proofs.Common.{◌≡◌, ◌++◌, ◌∙◌, ap, List, length, take, min, rules}
+use Rattle.std.proofs.Common.{◌≡◌, ◌∙◌, ap, List, length, take, min, rules}
 use Rattle.st_disk.specs.declared.changes.Call.{Call}
 use Rattle.st_disk.specs.Disks.{after}
-use Rattle.st_disk.specs.Book.{idle_calls}
 use Rattle.st_disk.proofs.Idle.{until_written}
 use Rattle.st_disk.proofs.call_list.CallList.until.Goals as goal
 
