@@ -212,8 +212,8 @@ def makes_new_drafts(program, folder):
     yield "a draft is never written over another file", got == ["failed: create", "ok", "1"], got
     left = foreign.read_bytes() if foreign.exists() else None
     yield "that file is left", left == b"mine", left
-    for folder, number in (("PKT0", 0), ("IDX0", 1), ("PKT0", 6)):
-        pathlib.Path(spool, folder, f".draft-{number}").write_bytes(b"left")
+    for place, number in (("PKT0", 0), ("IDX0", 1), ("PKT0", 6)):
+        pathlib.Path(spool, place, f".draft-{number}").write_bytes(b"left")
     foreign.unlink(missing_ok=True)
     got = ask(program, spool, ["put block 3 5", "put index 3 5", "list", "faults"])
     there = ["block 1", "block 2", "block 3", "draft block 0", "draft block 6", "draft index 1", "index 3"]
