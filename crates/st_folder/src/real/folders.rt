@@ -1,5 +1,5 @@
 // A shelf's folders in a file system, as its first call makes and opens them.
-ghost use Rattle.std.specs.Prelude.{◌≡◌, ◌+◌, ◌<◌, ◌⊎◌, ◌≤◌, ℕ, MatchOption, IfSome, All};
+ghost use Rattle.std.specs.Prelude.{◌≡◌, ◌+◌, ◌<◌, ◌⊎◌, ◌≤◌, ℕ, MatchOption};
 ghost use Rattle.st_folder.specs.Numbers.{IsLastDraft, IsBelow};
 
 use crate::real::names::{name_of, path_of_folder};
@@ -117,9 +117,7 @@ fn add_entry(kind: Kind, entry: &DirEntry, names: &mut Vec<Name>) -> io::Result<
 }
 
 // A number above those of all drafts, unless one of them has the greatest number.
-fn number_above(names: &[Name]) -> Option<u64>
-    ensures { IfSome result (λ next. All (IsBelow next) names.now) }
-{
+fn number_above(names: &[Name]) -> Option<u64> {
     let mut next = 0;
     'names: for name in names {
         match number_after(next, name) {

@@ -1,5 +1,5 @@
 ghost use Rattle.std.specs.Prelude.{Option, ◌≡◌, ◌≤◌, ◌+◌, ◌-◌, ◌^◌, ◌⊎◌, ◌<◌, ◌↔◌, ℕ, List, None, Some, Ok, min, IsOk, IsErr, IfOk};
-ghost use Rattle.st_base.specs.Faults.{Rose, CountsOne, next_count};
+ghost use Rattle.st_base.specs.Faults.{Rose, HasCause, CountsOne, next_count};
 ghost use Rattle.st_disk.specs.LoggedCalls.{Abandons};
 ghost use Rattle.st_shelf.specs.Loans.{no_loans};
 ghost use Rattle.st_shelf.specs.Origins.{draft_name};
@@ -58,7 +58,8 @@ impl RealShelf {
 
     // Counts one fault.
     fn count_fault(&mut self)
-        ensures rose { self.new.faults ≡ next_count self.old.faults }
+        ensures count { self.new.faults ≡ next_count self.old.faults }
+        ensures rose { (self.old.faults ≤ self.new.faults) × Rose self.old.faults self.new.faults }
         ensures loans { self.new.loans ≡ self.old.loans }
     {
         self.faults = self.faults.saturating_add(1);
@@ -68,7 +69,9 @@ impl RealShelf {
     fn counted<T: Drop>(&mut self, done: io::Result<T>) -> Result<T, Failed>
         ensures done { IfOk result (λ value. done ≡ Ok value) }
         ensures failed { IsErr result ↔ IsErr done }
-        ensures cause { CountsOne self.old.faults self.new.faults result }
+        // It counts one, and so the count says what failed.
+        ensures counts { CountsOne self.old.faults self.new.faults result }
+        ensures cause { HasCause self.old.faults self.new.faults result }
         ensures loans { self.new.loans ≡ self.old.loans }
     {
         match done {
