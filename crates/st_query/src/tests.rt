@@ -9,75 +9,76 @@ const DNS: [u8; 46] = [
     0, 0, 1, 10, 0, 0, 2, 0x30, 0x39, 0, 0x35, 0, 0x0c, 0, 0, 0x64, 0x6e, 0x73, 0x21,
 ];
 
-/// Fails unless the text, with the clock at `now` microseconds, matches that frame, captured at
-/// second 1,000,000,000, as is expected: by hand from the addresses, the ports and the times.
-fn is_asked(rt: HostRuntime, text: &str, now: u64, expected: bool) -> Result<(), Fail> {
-    let query = parse(rt.alloc(), text.as_bytes())?;
+/// Whether the text, with the clock at `now` microseconds, matches that frame, captured at second
+/// 1,000,000,000. What is expected of each is by hand from the addresses, the ports and the times.
+fn is_asked(alloc: Global, text: &str, now: u64) -> Result<bool, Fail> {
+    let query = parse(alloc, text.as_bytes())?;
     let packet = RecordRef {
         sec: 1_000_000_000,
         nsec: 123_456_000,
         orig: 46,
         body: &DNS,
     };
-    assert_eq!(rt; matches(&query, now, packet), expected, "{text}");
-    Ok(())
+    Ok(matches(&query, now, packet))
 }
 
 #[test]
 fn a_packet_matches_what_is_asked(rt: HostRuntime) -> Result<(), Fail> {
-    is_asked(rt, "host 10.0.0.2", 0, true)?;
-    is_asked(rt, "host 10.0.0.3", 0, false)?;
-    is_asked(rt, "net 10.1.2.3 mask 255.0.0.0", 0, true)?;
-    is_asked(rt, "net 10.0.0.4/30", 0, false)?;
-    is_asked(rt, "net ::/0", 0, false)?;
-    is_asked(rt, "icmp or udp and port 53", 0, true)?;
-    is_asked(rt, "udp or (icmp and port 53)", 0, true)?;
-    is_asked(rt, "udp or icmp and port 54", 0, false)?;
-    is_asked(rt, "before 2001-09-09T01:46:40Z", 0, false)?;
-    is_asked(rt, "after 2001-09-09T03:46:40+02:00", 0, true)?;
-    is_asked(rt, "after 45m ago", 1_000_002_700_999_999, true)?;
-    is_asked(rt, "before 45m ago", 1_000_002_701_000_000, true)?;
+    let alloc = rt.alloc();
+    assert!(rt; is_asked(alloc, "host 10.0.0.2", 0)?);
+    assert!(rt; !is_asked(alloc, "host 10.0.0.3", 0)?);
+    assert!(rt; is_asked(alloc, "net 10.1.2.3 mask 255.0.0.0", 0)?);
+    assert!(rt; !is_asked(alloc, "net 10.0.0.4/30", 0)?);
+    assert!(rt; !is_asked(alloc, "net ::/0", 0)?);
+    assert!(rt; is_asked(alloc, "icmp or udp and port 53", 0)?);
+    assert!(rt; is_asked(alloc, "udp or (icmp and port 53)", 0)?);
+    assert!(rt; !is_asked(alloc, "udp or icmp and port 54", 0)?);
+    assert!(rt; !is_asked(alloc, "before 2001-09-09T01:46:40Z", 0)?);
+    assert!(rt; is_asked(alloc, "after 2001-09-09T03:46:40+02:00", 0)?);
+    assert!(rt; is_asked(alloc, "after 45m ago", 1_000_002_700_999_999)?);
+    assert!(rt; is_asked(alloc, "before 45m ago", 1_000_002_701_000_000)?);
     Ok(())
 }
 
 #[test]
 fn a_packet_matches_a_chain_of_alternatives(rt: HostRuntime) -> Result<(), Fail> {
-    is_asked(
-        rt,
-        "host 10.0.0.9 or port 7 or net ::/0 or host 10.0.0.2",
-        0,
-        true,
-    )?;
-    is_asked(
-        rt,
-        "host 10.0.0.9 or port 7 or net ::/0 or host 10.0.0.3",
-        0,
-        false,
-    )?;
-    is_asked(
-        rt,
-        "net 10.0.0.4/30 or net 10.0.0.0/30 or vlan 1 or mpls 1",
-        0,
-        true,
-    )?;
-    is_asked(
-        rt,
-        "udp or vlan 1 or mpls 1 or host ::1 and port 54",
-        0,
-        false,
-    )?;
-    is_asked(
-        rt,
-        "icmp or vlan 1 or mpls 1 or host ::1 or (udp and port 53)",
-        0,
-        true,
-    )?;
-    is_asked(
-        rt,
-        "icmp or vlan 53 or mpls 53 or host ::53 and port 53",
-        0,
-        false,
-    )?;
+    let alloc = rt.alloc();
+    assert!(rt;
+        is_asked(
+            alloc,
+            "host 10.0.0.9 or port 7 or net ::/0 or host 10.0.0.2",
+            0
+        )?
+    );
+    assert!(rt;
+        !is_asked(
+            alloc,
+            "host 10.0.0.9 or port 7 or net ::/0 or host 10.0.0.3",
+            0
+        )?
+    );
+    assert!(rt;
+        is_asked(
+            alloc,
+            "net 10.0.0.4/30 or net 10.0.0.0/30 or vlan 1 or mpls 1",
+            0
+        )?
+    );
+    assert!(rt; !is_asked(alloc, "udp or vlan 1 or mpls 1 or host ::1 and port 54", 0)?);
+    assert!(rt;
+        is_asked(
+            alloc,
+            "icmp or vlan 1 or mpls 1 or host ::1 or (udp and port 53)",
+            0
+        )?
+    );
+    assert!(rt;
+        !is_asked(
+            alloc,
+            "icmp or vlan 53 or mpls 53 or host ::53 and port 53",
+            0
+        )?
+    );
     Ok(())
 }
 
