@@ -1,0 +1,4 @@
+pub mod Positions
+pub mod KeyOrder
+pub mod Rows
+pub mod Whole

@@ -1,0 +1,6 @@
+//! The spool: which pairs of block files and indexes it has had, and has now.
+//!
+//! A history is a list of events: the pairs that were found at opening, then publications and
+//! removals, in order. `specs/History.antt` says which histories there may be, and which file set
+//! is there after one.
+#![tactic(auto)]
