@@ -1,5 +1,5 @@
 -- Lists of positions, and the bytes by which a row's value says them.
-use Rattle.std.specs.Prelude.{ℕ, ◌<◌, List, [], ◌∷◌, ◌++◌, Bool, nat_eq, AllPairs}
+use Rattle.std.specs.Prelude.{ℕ, ◌<◌, List, [], ◌∷◌, Bool, nat_eq, AllPairs}
 use Rattle.std.specs.List.{list_any, flat_map}
 use Rattle.byteorder.specs.Endian.{big_number, big_bytes}
 use Rattle.st_rows.specs.declared.format.TheConstants.{POSITION_SIZE}
