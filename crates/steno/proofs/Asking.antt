@@ -22,7 +22,6 @@ use Rattle.steno.specs.Messages.{line_of}
 use Rattle.steno.specs.Plans.{IsPlan}
 use Rattle.steno.specs.Reports.{plain_of, ReportsQuery}
 use Rattle.steno.specs.Running.{AsksClock, EndsBy, IsJobMessage, IsRunMessage, EndsRun, HasWordCause}
-use Rattle.steno.proofs.Replying.{}
 
 -- a reply to the query of a plan is what the plan asks for
 pub asked_of_reply : (job : Job) (q : Node) (now : ℕ) (bytes output : List ℕ) (status : Status) (message : List ℕ)
