@@ -25,8 +25,9 @@
 //!
 //! # What it leaves to others
 //!
-//! A block has no checksum, so a changed body goes unseen here. Which records match a query is
-//! st_index's to know.
+//! A block has no checksum, so a changed body goes unseen here. It builds blocks, not files: which
+//! records go into which block, the blocks' numbers and their order in the file are the caller's.
+//! Which records match a query, st_query says.
 //!
 //! # Where to read
 //!
