@@ -1,5 +1,5 @@
 -- The names of a shelf's files in a file system: docs/FORMAT.md, "Folders and names".
-use Rattle.std.specs.Prelude.{ℕ, zero, suc, false, ◌/◌, ◌%◌, List, [], ◌∷◌, ◌++◌, codes}
+use Rattle.std.specs.Prelude.{◌≡◌, ℕ, zero, suc, false, ◌/◌, ◌%◌, List, [], ◌∷◌, ◌++◌, codes}
 use Rattle.std.specs.Fmt.{digit_glyph, decimal}
 use Rattle.st_disk.specs.declared.naming.Kind.{Kind}
 use Rattle.st_disk.specs.declared.naming.Kind.TheVariants as kind
@@ -22,6 +22,10 @@ file_name (Block stamp) = stamp_text stamp
 file_name (Index stamp) = stamp_text stamp
 file_name (Parked stamp) = codes ".parked-" ++ stamp_text stamp
 file_name (Draft k number) = codes ".draft-" ++ decimal number
+
+-- a file of this name lies in this folder, under this text
+abbrev pub IsNameIn : Kind → Name → List ℕ → Type 0
+IsNameIn kind name text = (kind_of name ≡ kind) × (text ≡ file_name name)
 
 -- the name of a folder in the spool folder
 abbrev pub folder_name : Kind → List ℕ
