@@ -1,6 +1,6 @@
 // A shelf's folders in a file system, as its first call makes and opens them.
-ghost use Rattle.std.specs.Prelude.{◌≡◌, ◌+◌, ◌<◌, ◌⊎◌, ◌≤◌, ℕ, MatchOption};
-ghost use Rattle.st_folder.specs.Numbers.{IsLastDraft, IsBelow};
+ghost use Rattle.std.specs.Prelude.{◌≡◌, ◌+◌, ◌<◌, ◌⊎◌, ◌≤◌, ℕ, MatchOption, IfOk, All};
+ghost use Rattle.st_folder.specs.Numbers.{IsLastDraft, IsBelow, HasLastDraft, IsFirstNumber};
 
 use crate::real::names::{name_of, path_of_folder};
 use st_shelf::{Kind, Name};
@@ -35,16 +35,7 @@ impl RealFolders {
         let mut names = Vec::new(alloc);
         read_names(rt, alloc, root, Kind::Block, &mut names)?;
         read_names(rt, alloc, root, Kind::Index, &mut names)?;
-        let next = match number_above(names.as_slice()) {
-            Some(next) => next,
-            // A draft has the greatest number. A lower one is free once no crash can bring back a
-            // draft that was removed.
-            None => {
-                blocks.sync_all()?;
-                indexes.sync_all()?;
-                0
-            }
-        };
+        let next = first_number(names.as_slice(), &blocks, &indexes)?;
         Ok(RealFolders {
             _lock: lock,
             blocks,
@@ -116,8 +107,25 @@ fn add_entry(kind: Kind, entry: &DirEntry, names: &mut Vec<Name>) -> io::Result<
     Ok(())
 }
 
+// The number of the first draft: above those of all that were found, or 0 if one of these has the
+// greatest number. A lower one is free once no crash can bring back a draft that was removed.
+fn first_number(names: &[Name], blocks: &File, indexes: &File) -> io::Result<u64>
+    ensures { IfOk result (IsFirstNumber names.now) }
+{
+    match number_above(names) {
+        Some(next) => Ok(next),
+        None => {
+            blocks.sync_all()?;
+            indexes.sync_all()?;
+            Ok(0)
+        }
+    }
+}
+
 // A number above those of all drafts, unless one of them has the greatest number.
-fn number_above(names: &[Name]) -> Option<u64> {
+fn number_above(names: &[Name]) -> Option<u64>
+    ensures { MatchOption result (HasLastDraft names.now) (λ next. All (IsBelow next) names.now) }
+{
     let mut next = 0;
     'names: for name in names {
         match number_after(next, name) {
