@@ -3,9 +3,10 @@ ghost use Rattle.std.specs.Prelude.{◌≡◌, ◌+◌, ◌<◌, ◌⊎◌, ◌�
 ghost use Rattle.st_folder.specs.Numbers.{IsLastDraft, IsBelow, HasLastDraft, IsFirstNumber};
 
 use crate::real::names::{name_of, path_of_folder};
+use crate::real::retries::again;
 use st_shelf::{Kind, Name};
 use std::alloc::Global;
-use std::fs::{DirBuilder, DirEntry, File, OpenOptions, ReadDir, TryLockError};
+use std::fs::{DirBuilder, DirEntry, File, OpenOptions, TryLockError};
 use std::io::ErrorKind;
 use std::os::unix::fs::{DirBuilderExt, OpenOptionsExt};
 use std::rt::HostRuntime;
@@ -63,7 +64,7 @@ impl RealFolders {
     }
 }
 
-// Adds the names of a folder; files of other names, and what is no file, are passed over.
+// Adds the names of a folder.
 pub(crate) fn read_names(
     rt: &HostRuntime,
     alloc: Global,
@@ -72,9 +73,17 @@ pub(crate) fn read_names(
     names: &mut Vec<Name>,
 ) -> io::Result<()> {
     let path = path_of_folder(alloc, root, kind)?;
-    for entry in open_names(rt, path.as_str())? {
+    let found = again(|| names_in(rt, alloc, path.as_str(), kind))?;
+    names.extend_from_slice(found.as_slice())?;
+    Ok(())
+}
+
+// The names of a folder; files of other names, and what is no file, are passed over.
+fn names_in(rt: &HostRuntime, alloc: Global, path: &str, kind: Kind) -> io::Result<Vec<Name>> {
+    let mut names = Vec::new(alloc);
+    for entry in fs::read_dir(rt, path)? {
         match entry {
-            Ok(entry) => add_entry(kind, &entry, names)?,
+            Ok(entry) => add_entry(kind, &entry, &mut names)?,
             // A name that is no text is none of a shelf's.
             Err(error) => {
                 if error.kind() != ErrorKind::InvalidFilename {
@@ -83,25 +92,14 @@ pub(crate) fn read_names(
             }
         }
     }
-    Ok(())
-}
-
-// Opens a folder to read its names, again where a signal broke that off.
-fn open_names(rt: &HostRuntime, path: &str) -> io::Result<ReadDir> {
-    'tries: for _ in 0..u64::MAX {
-        match fs::read_dir(rt, path) {
-            Err(error) if error.kind() == ErrorKind::Interrupted => {}
-            other => return other,
-        }
-    }
-    Err(io::Error::from(ErrorKind::Interrupted))
+    Ok(names)
 }
 
 fn add_entry(kind: Kind, entry: &DirEntry, names: &mut Vec<Name>) -> io::Result<()> {
     let Some(name) = name_of(kind, entry.file_name()) else {
         return Ok(());
     };
-    if entry.file_type()?.is_file() {
+    if again(|| entry.file_type())?.is_file() {
         names.push(name)?;
     }
     Ok(())
@@ -187,7 +185,7 @@ fn make_folders(rt: &HostRuntime, path: &str) -> io::Result<()> {
 fn make_folder(rt: &HostRuntime, path: &str) -> io::Result<()> {
     let mut builder = DirBuilder::new();
     builder.mode(0o700);
-    match builder.create(rt, path) {
+    match again(|| builder.create(rt, path)) {
         Ok(()) => File::open(rt, parent_of(path))?.sync_all(),
         Err(error) if error.kind() == ErrorKind::AlreadyExists => sync_parent(rt, path),
         Err(error) => Err(error),
