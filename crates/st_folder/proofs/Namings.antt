@@ -71,7 +71,6 @@ one_name k text (Parked t) (Index s) lt lu h i = absurd (undotted s _ (sym i.1 �
 one_name k text (Parked s) (Draft j d) lt lu h i = absurd (prefixes_differ _ _ (sym h.1 ∙ i.1))
 one_name k text (Draft j d) (Parked s) lt lu h i = absurd (prefixes_differ _ _ (sym i.1 ∙ h.1))
 
-
 -- what a function of a text promises, from its two cases
 pub told_both_ways : (k : Kind) (text : List ℕ) (r : Option Name)
     → MatchOption r ((n : Name) → number_of n < 2 ^ 64 → IsNameIn k n text → ⊥) (λ m. (number_of m < 2 ^ 64) × IsNameIn k m text)
