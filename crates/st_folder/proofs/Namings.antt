@@ -71,12 +71,12 @@ one_name k text (Parked t) (Index s) lt lu h i = absurd (undotted s _ (sym i.1 �
 one_name k text (Parked s) (Draft j d) lt lu h i = absurd (prefixes_differ _ _ (sym h.1 ∙ i.1))
 one_name k text (Draft j d) (Parked s) lt lu h i = absurd (prefixes_differ _ _ (sym i.1 ∙ h.1))
 
--- what a function of a text promises, from its two cases
-pub told_both_ways : (k : Kind) (text : List ℕ) (r : Option Name)
+-- a function of a text gives just the name whose text it is, from its two cases
+pub exact_name : (k : Kind) (text : List ℕ) (r : Option Name)
     → MatchOption r ((n : Name) → number_of n < 2 ^ 64 → IsNameIn k n text → ⊥) (λ m. (number_of m < 2 ^ 64) × IsNameIn k m text)
     → (n : Name) → number_of n < 2 ^ 64 → (r ≡ Some n) ↔ IsNameIn k n text
-told_both_ways k text None h n lt = ((λ (e : None ≡ Some n). cc), λ i. absurd (h n lt i))
-told_both_ways k text (Some m) h n lt = (
+exact_name k text None h n lt = ((λ (e : None ≡ Some n). cc), λ i. absurd (h n lt i))
+exact_name k text (Some m) h n lt = (
   (λ (e : Some m ≡ Some n). let same : m ≡ n = cc in subst (λ (x : Name). IsNameIn k x text) same h.1),
   λ i. ap Some (one_name k text m n h.0 lt h.1 i),
 )

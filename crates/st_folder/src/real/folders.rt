@@ -1,5 +1,6 @@
 // A shelf's folders in a file system, as its first call makes and opens them.
-ghost use Rattle.std.specs.Prelude.{◌≡◌, ◌+◌, ◌<◌, ◌⊎◌, ◌≤◌, ℕ, MatchOption, IfOk, All};
+ghost use Rattle.std.specs.Prelude.{◌≡◌, ◌+◌, ◌<◌, ◌⊎◌, ◌≤◌, ℕ, MatchOption, IfOk, OnOk, All};
+ghost use Rattle.st_folder.specs.FileNames.{AreIn, AddsNames};
 ghost use Rattle.st_folder.specs.Numbers.{IsLastDraft, IsBelow, HasLastDraft, IsFirstNumber};
 
 use crate::real::names::{name_of, path_of_folder};
@@ -71,7 +72,9 @@ pub(crate) fn read_names(
     root: &str,
     kind: Kind,
     names: &mut Vec<Name>,
-) -> io::Result<()> {
+) -> io::Result<()>
+    ensures { OnOk result (AddsNames kind names.old.items names.new.items) }
+{
     let path = path_of_folder(alloc, root, kind)?;
     let found = again(|| names_in(rt, alloc, path.as_str(), kind))?;
     names.extend_from_slice(found.as_slice())?;
@@ -79,9 +82,11 @@ pub(crate) fn read_names(
 }
 
 // The names of a folder; files of other names, and what is no file, are passed over.
-fn names_in(rt: &HostRuntime, alloc: Global, path: &str, kind: Kind) -> io::Result<Vec<Name>> {
+fn names_in(rt: &HostRuntime, alloc: Global, path: &str, kind: Kind) -> io::Result<Vec<Name>>
+    ensures { IfOk result (λ names. AreIn kind names.items) }
+{
     let mut names = Vec::new(alloc);
-    for entry in fs::read_dir(rt, path)? {
+    'entries: for entry in fs::read_dir(rt, path)? {
         match entry {
             Ok(entry) => add_entry(kind, &entry, &mut names)?,
             // A name that is no text is none of a shelf's.
@@ -95,7 +100,9 @@ fn names_in(rt: &HostRuntime, alloc: Global, path: &str, kind: Kind) -> io::Resu
     Ok(names)
 }
 
-fn add_entry(kind: Kind, entry: &DirEntry, names: &mut Vec<Name>) -> io::Result<()> {
+fn add_entry(kind: Kind, entry: &DirEntry, names: &mut Vec<Name>) -> io::Result<()>
+    ensures { AreIn kind names.old.items → AreIn kind names.new.items }
+{
     let Some(name) = name_of(kind, entry.file_name()) else {
         return Ok(());
     };

@@ -62,11 +62,11 @@ pub(crate) fn name_of(kind: Kind, text: &str) -> Option<Name>
     ensures { (name : Name) → number_of name < 2 ^ 64
         → (result ≡ Some name) ↔ IsNameIn kind name text.now }
 {
-    named(kind, text)
+    name_in(kind, text)
 }
 
 // The name of this text, whose number is one of 64 bits.
-fn named(kind: Kind, text: &str) -> Option<Name>
+fn name_in(kind: Kind, text: &str) -> Option<Name>
     ensures { MatchOption result
         ((name : Name) → number_of name < 2 ^ 64 → IsNameIn kind name text.now → ⊥)
         (λ name. (number_of name < 2 ^ 64) × IsNameIn kind name text.now) }
