@@ -4,4 +4,5 @@ use Rattle.std.specs.Prelude.{Option, None, Some, ◌≤◌, ◌⊎◌, ℕ, Lis
 -- the call of this number is listed, or comes at the stop or after it
 abbrev pub IsToFail : Option (List ℕ × Option ℕ) → ℕ → Type 0
 IsToFail None call = ⊥
-IsToFail (Some (fails, stop)) call = Contains fails call ⊎ MatchOption stop ⊥ (λ first. first ≤ call)
+IsToFail (Some (fails, stop)) call =
+    Contains fails call ⊎ MatchOption stop ⊥ (λ first. first ≤ call)
