@@ -89,11 +89,12 @@ impl<'a> KeyLists<'a> {
     ghost use Rattle.std.specs.Prelude.{◌≡◌, ◌<◌, length, option_map, IfSome};
     ghost use Rattle.st_walk.specs.KeyText.{Fits};
     ghost use Rattle.st_index.specs.EntryLists.{GivesList};
-    ghost use Rattle.st_index.specs.KeyLists.{key_lists, lists_left};
+    ghost use Rattle.st_index.specs.KeyLists.{key_lists, lists_left, AreLists};
 
     /// All lists that have positions.
     pub(crate) fn new(lists: &'a PositionLists) -> KeyLists<'a>
-        ensures { lists_left result ≡ key_lists lists.now }
+        ensures left { lists_left result ≡ key_lists lists.now }
+        ensures all { AreLists lists.now (key_lists lists.now) }
     {
         KeyLists {
             protos: Numbered {
