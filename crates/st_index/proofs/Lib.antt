@@ -5,3 +5,4 @@ pub mod Summing
 pub mod Having
 pub mod KeyOrders
 pub mod RowsOf
+pub mod Writing

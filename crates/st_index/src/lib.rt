@@ -6,5 +6,6 @@ mod lists;
 mod maker;
 mod row_list;
 mod summary;
+mod write;
 
 pub use maker::IndexMaker;
