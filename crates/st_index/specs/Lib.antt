@@ -1,0 +1,3 @@
+pub mod CheckRows
+pub mod Verdict
+pub mod CheckLaws
