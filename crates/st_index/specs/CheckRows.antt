@@ -54,10 +54,13 @@ values_wrong (r ∷ rows) = option_or (value_wrong r) (values_wrong rows)
 abbrev pub content_wrong : List RowView → Option DamageView
 content_wrong rows = option_or (summary_wrong (summary_in rows)) (values_wrong rows)
 
--- a row as bytes: the length of its key in four bytes, or the greatest number of these where the key
--- is longer, then the key and the value
+-- the length of a key in four bytes, or the greatest number of four bytes where the key is longer
+unfoldable pub length_text : List ℕ → List ℕ
+length_text key = big_bytes POSITION_SIZE (min (length key) (2 ^ 32 - 1))
+
+-- a row as bytes: the length of its key, the key, and the value
 abbrev pub row_text : RowView → List ℕ
-row_text r = big_bytes POSITION_SIZE (min (length r.0) (2 ^ 32 - 1)) ++ (r.0 ++ r.1)
+row_text r = length_text r.0 ++ (r.0 ++ r.1)
 
 -- the first byte that differs, and what the other bytes have in its place; 256 is no byte
 abbrev pub first_difference : List ℕ → List ℕ → Option (ℕ × ℕ)

@@ -25,11 +25,12 @@ use Rattle.st_index.specs.declared.checker.Verdict.TheVariants.{Whole, Differs}
 abbrev pub IsDamage : TableErr → DamageView → Type 0
 IsDamage table_err.ReadFault d = ⊥
 IsDamage (table_err.Damaged e) d = d ≡ damage_view e
-IsDamage (table_err.Compressed place) d = d ≡ record { place = place; found = SNAPPY; want = PLAIN }
+IsDamage (table_err.Compressed place) d =
+    d ≡ record { place = place; found = SNAPPY; want = PLAIN }
 IsDamage table_err.NoMemory d = ⊥
 
--- the footer and the index block pass their checks, and so do the data blocks before the index entry
--- of some number; the block that this entry names is refused
+-- the footer and the index block pass their checks, and so do the data blocks before the index
+-- entry of some number; the block that this entry names is refused
 pub record RefusesData (bytes : List ℕ) (e : TableErr) : Type 0 where
   pub index : List RowView
   pub has : HasIndex bytes index
@@ -50,8 +51,8 @@ FailsAsIndex bytes d =
     FailsAsTable bytes d
     ⊎ ((rows : List RowView) × IsTable bytes rows × (content_wrong rows ≡ Some d))
 
--- the block file has packets and the index passes the checks for itself, but its rows aren't those of
--- the packets: the first row that differs
+-- the block file has packets and the index passes the checks for itself, but its rows aren't those
+-- of the packets: the first row that differs
 pub record FailsInRows (block index : List ℕ) (d : DamageView) : Type 0 where
   pub given : List PositionedRecord
   pub file : IsFile block given
@@ -80,7 +81,8 @@ Judges block index (Differs p d) = Fails block index p (damage_view d)
 
 -- two counts of faults never fall, a pair that is whole leaves both as they were, and this error
 -- comes only if one of them rose
-pub record HasCauseOfEither {E : Type 0} (error : E) (block_before block_now index_before index_now : ℕ)
+pub record HasCauseOfEither {E : Type 0} (error : E)
+    (block_before block_now index_before index_now : ℕ)
     (result : Result Verdict E) : Type 0 where
   pub block_later : block_before ≤ block_now
   pub index_later : index_before ≤ index_now
