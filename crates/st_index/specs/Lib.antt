@@ -1,3 +1,4 @@
 pub mod CheckRows
+pub mod CheckContent
 pub mod Verdict
 pub mod CheckLaws

@@ -1,6 +1,8 @@
 //! Whether a block file and an index are a whole pair.
 
+mod content;
 mod difference;
+mod values;
 
 use st_base::{Damage, Reader};
 use std::alloc::Global;
