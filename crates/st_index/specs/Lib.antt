@@ -1,4 +1,5 @@
 pub mod CheckRows
 pub mod CheckContent
+pub mod CheckWalk
 pub mod Verdict
 pub mod CheckLaws

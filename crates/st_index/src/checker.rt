@@ -3,6 +3,7 @@
 mod content;
 mod difference;
 mod values;
+mod walk;
 
 use st_base::{Damage, Reader};
 use std::alloc::Global;

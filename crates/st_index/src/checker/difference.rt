@@ -1,6 +1,6 @@
 //! The first byte at which a row of an index differs from the row that is wanted.
 
-ghost use Rattle.std.specs.Prelude.{◌≡◌, ◌≢◌, ◌<◌, ◌-◌, ◌^◌, length, IfSome};
+ghost use Rattle.std.specs.Prelude.{◌≡◌, ◌≢◌, ◌<◌, ◌-◌, ◌^◌, List, ℕ, [], length, IfSome, Some};
 ghost use Rattle.st_index.specs.CheckRows.{first_difference, length_text, row_text};
 
 /// What stands for a byte where there is none: no byte is as large.
@@ -67,4 +67,16 @@ pub fn row_difference(
         return Some(difference);
     }
     differing_byte(value, wanted_value)
+}
+
+/// The first byte of a row with this key, and [`NO_BYTE`], which no byte is.
+#[tactic(auto, unfolding(crate::specs::CheckRows::length_text))]
+pub fn first_byte(key: &[u8]) -> u64
+    ensures first { (value : List ℕ)
+        → first_difference (row_text (key.now, value)) [] ≡ Some (result, NO_BYTE) }
+    ensures wanted { (value : List ℕ)
+        → first_difference [] (row_text (key.now, value)) ≡ Some (NO_BYTE, result) }
+    ensures byte { result < 256 }
+{
+    u64::from(length_bytes(key)[0])
 }

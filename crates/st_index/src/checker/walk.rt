@@ -1,0 +1,113 @@
+//! The rows of an index, read against those that are wanted.
+
+ghost use Rattle.std.specs.Prelude.{◌≡◌, ◌≢◌, ◌+◌, List, ℕ, [], ◌∷◌, ◌++◌, ◌<◌, ◌-◌, ◌^◌, length, None, Some, Ok, IfOk, option_map};
+ghost use Rattle.st_base.specs.Damages.{damage_view};
+ghost use Rattle.st_base.specs.Faults.{HasCauseOf};
+ghost use Rattle.st_base.specs.PlacedReads.{IsSameFile};
+ghost use Rattle.st_tblock.specs.Block.{RowView};
+ghost use Rattle.st_table.specs.TableFile.{footer_at};
+ghost use Rattle.st_table.specs.Index.{Entered};
+ghost use Rattle.st_index.specs.CheckRows.{row_wrong, row_text, rows_wrong};
+ghost use Rattle.st_index.specs.CheckWalk.{Compares, Walks};
+
+use crate::checker::content::Content;
+use crate::checker::difference::{NO_BYTE, first_byte, row_difference};
+use st_base::{Damage, NoMemory, Reader};
+use st_table::{Cursor, Row, Table, TableErr};
+use std::alloc::Global;
+
+/// Rows that are wanted, in the order of their keys.
+pub trait WantedRows {
+    ghost use Rattle.st_index.specs.CheckWalk.{GivesRow};
+
+    ghost left: { Self → List RowView };
+
+    /// The next row, or `None` after the last. After `NoMemory` nothing is said of the others.
+    fn next_row(&mut self, alloc: Global) -> Result<Option<Row>, NoMemory>
+        ensures { GivesRow (left self.old) (left self.new) result };
+}
+
+/// What is wrong with the rows of an index.
+#[derive(Clone, Copy)]
+pub struct Found {
+    /// With what they say.
+    pub content: Content,
+    /// With the first row that differs from the one that is wanted.
+    pub rows: Option<Damage>,
+}
+
+/// The damage at the row of this number, unless its bytes are those of the row that is wanted.
+fn row_damage(number: u64, row: &Row, wanted: &Row) -> Option<Damage>
+    requires { length wanted.now.0 < 2 ^ 32 - 1 }
+    ensures { option_map damage_view result
+        ≡ row_wrong number (row_text row.now) (row_text wanted.now) }
+{
+    let (found, want) = row_difference(
+        row.key.bytes(),
+        row.value.bytes(),
+        wanted.key.bytes(),
+        wanted.value.bytes(),
+    )?;
+    Some(Damage {
+        place: number,
+        found,
+        want,
+    })
+}
+
+/// The damage at a row of this number where none is wanted.
+fn extra_damage(number: u64, row: &Row) -> Damage
+    ensures { row_wrong number (row_text row.now) [] ≡ Some (damage_view result) }
+{
+    Damage {
+        place: number,
+        found: first_byte(row.key.bytes()),
+        want: NO_BYTE,
+    }
+}
+
+/// The damage at the number of a row that is wanted where there is none.
+fn missing_damage(number: u64, wanted: &Row) -> Damage
+    ensures { row_wrong number [] (row_text wanted.now) ≡ Some (damage_view result) }
+{
+    Damage {
+        place: number,
+        found: NO_BYTE,
+        want: first_byte(wanted.key.bytes()),
+    }
+}
+
+/// Compares the row of this number with the next of those that are wanted. The damage is that of
+/// this row.
+fn compare_row<W: WantedRows>(
+    alloc: Global,
+    number: u64,
+    row: &Row,
+    wanted: &mut W,
+) -> Result<Option<Damage>, NoMemory>
+    ensures { (rows all : List RowView) → Compares number None rows (W.left wanted.old) all
+        → IfOk result (λ d. Compares (number + 1) (option_map damage_view d)
+        (rows ++ row.now ∷ []) (W.left wanted.new) all) }
+{
+    match wanted.next_row(alloc) {
+        Ok(Some(next)) => Ok(row_damage(number, row, &next)),
+        Ok(None) => Ok(Some(extra_damage(number, row))),
+        Err(error) => Err(error),
+    }
+}
+
+/// Whether a row is wanted after the last one of the index; the damage is at the number of that row.
+fn compare_end<W: WantedRows>(
+    alloc: Global,
+    number: u64,
+    wanted: &mut W,
+) -> Result<Option<Damage>, NoMemory>
+    ensures { (rows all : List RowView) → Compares number None rows (W.left wanted.old) all
+        → IfOk result (λ d. option_map damage_view d ≡ rows_wrong 0 rows all) }
+{
+    match wanted.next_row(alloc) {
+        Ok(Some(next)) => Ok(Some(missing_damage(number, &next))),
+        Ok(None) => Ok(None),
+        Err(error) => Err(error),
+    }
+}
