@@ -1,3 +1,4 @@
 pub mod Differences
 pub mod Remembering
 pub mod Comparing
+pub mod Reading

@@ -77,18 +77,23 @@ fn missing_damage(number: u64, wanted: &Row) -> Damage
     }
 }
 
-/// Compares the row of this number with the next of those that are wanted. The damage is that of
-/// this row.
+/// Compares the row of this number with the next of those that are wanted, unless a row before it
+/// differs. The damage is that of the first row that differs.
 fn compare_row<W: WantedRows>(
     alloc: Global,
     number: u64,
+    differs: Option<Damage>,
     row: &Row,
     wanted: &mut W,
 ) -> Result<Option<Damage>, NoMemory>
-    ensures { (rows all : List RowView) → Compares number None rows (W.left wanted.old) all
+    ensures { (rows all : List RowView)
+        → Compares number (option_map damage_view differs) rows (W.left wanted.old) all
         → IfOk result (λ d. Compares (number + 1) (option_map damage_view d)
         (rows ++ row.now ∷ []) (W.left wanted.new) all) }
 {
+    if let Some(damage) = differs {
+        return Ok(Some(damage));
+    }
     match wanted.next_row(alloc) {
         Ok(Some(next)) => Ok(row_damage(number, row, &next)),
         Ok(None) => Ok(Some(extra_damage(number, row))),
@@ -96,18 +101,67 @@ fn compare_row<W: WantedRows>(
     }
 }
 
-/// Whether a row is wanted after the last one of the index; the damage is at the number of that row.
+/// Compares the end of the rows, of which there are this many, with those that are wanted, unless a
+/// row differs. The damage is that of the first row that differs or isn't there.
 fn compare_end<W: WantedRows>(
     alloc: Global,
     number: u64,
+    differs: Option<Damage>,
     wanted: &mut W,
 ) -> Result<Option<Damage>, NoMemory>
-    ensures { (rows all : List RowView) → Compares number None rows (W.left wanted.old) all
+    ensures { (rows all : List RowView)
+        → Compares number (option_map damage_view differs) rows (W.left wanted.old) all
         → IfOk result (λ d. option_map damage_view d ≡ rows_wrong 0 rows all) }
 {
+    if let Some(damage) = differs {
+        return Ok(Some(damage));
+    }
     match wanted.next_row(alloc) {
         Ok(Some(next)) => Ok(Some(missing_damage(number, &next))),
         Ok(None) => Ok(None),
         Err(error) => Err(error),
     }
+}
+
+/// What is wrong with the rows of `table` from where `cursor` is, to their end.
+///
+/// The number of a row is counted from 0. A table that has 2^64 rows or more is given up as out of
+/// memory.
+pub fn walk<R: Reader, W: WantedRows>(
+    alloc: Global,
+    table: &mut Table<'_, R>,
+    cursor: &mut Cursor,
+    wanted: &mut W,
+) -> Result<Found, TableErr>
+    ensures walks { (bytes : List ℕ) → R.content table.old.file.now ≡ Some bytes
+        → (entered : Entered bytes table.old.kept.entries.items)
+        → Walks (footer_at bytes) bytes entered.index cursor.old cursor.new
+        (W.left wanted.old) result }
+    // What becomes of the file.
+    ensures same_reference { table.new.file.ghost_name ≡ table.old.file.ghost_name }
+    ensures cause { HasCauseOf TableErr.ReadFault (R.faults table.old.file.now)
+        (R.faults table.new.file.now) result }
+    ensures same { IsSameFile (R.content table.old.file.now) (R.content table.new.file.now)
+        (R.extent table.old.file.now) (R.extent table.new.file.now)
+        (R.beside table.old.file.now) (R.beside table.new.file.now) }
+{
+    let mut content = Content::none();
+    let mut differs = None;
+    'rows: for number in 0..u64::MAX {
+        match table.step(alloc, cursor) {
+            Ok(Some(row)) => {
+                content = content.after(row.key.bytes(), row.value.bytes());
+                match compare_row(alloc, number, differs, &row, wanted) {
+                    Ok(found) => differs = found,
+                    Err(NoMemory) => return Err(TableErr::NoMemory),
+                }
+            }
+            Ok(None) => match compare_end(alloc, number, differs, wanted) {
+                Ok(rows) => return Ok(Found { content, rows }),
+                Err(NoMemory) => return Err(TableErr::NoMemory),
+            },
+            Err(error) => return Err(error),
+        }
+    }
+    Err(TableErr::NoMemory)
 }
