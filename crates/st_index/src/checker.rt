@@ -2,6 +2,7 @@
 
 mod content;
 mod difference;
+mod index;
 mod values;
 mod walk;
 
