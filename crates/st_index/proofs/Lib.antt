@@ -3,3 +3,8 @@ pub mod Remembering
 pub mod Comparing
 pub mod Reading
 pub mod Judging
+pub mod Adding
+pub mod Counting
+pub mod WalkSizes
+pub mod Summing
+pub mod Having

@@ -4,3 +4,7 @@ pub mod CheckWalk
 pub mod Verdict
 pub mod CheckIndex
 pub mod CheckLaws
+pub mod NumberedLists
+pub mod PositionLists
+pub mod Summaries
+pub mod Maker

@@ -1,6 +1,11 @@
-//! The index of a pair: which rows it has, and whether a pair is whole.
+//! The index of a pair: the rows of its packets, from packet to packet, and the table of them; and
+//! whether a block file and an index are a whole pair.
 #![tactic(auto)]
 
 mod checker;
+mod lists;
+mod maker;
+mod summary;
 
 pub use checker::{CheckErr, Part, Verdict, check};
+pub use maker::IndexMaker;
