@@ -3,6 +3,7 @@ pub mod Remembering
 pub mod Comparing
 pub mod Reading
 pub mod Judging
+pub mod Following
 pub mod Adding
 pub mod Counting
 pub mod WalkSizes

@@ -5,6 +5,7 @@ pub mod Verdict
 pub mod CheckIndex
 pub mod CheckLaws
 pub mod NumberedLists
+pub mod CheckPackets
 pub mod PositionLists
 pub mod Summaries
 pub mod Maker

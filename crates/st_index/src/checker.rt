@@ -3,6 +3,7 @@
 mod content;
 mod difference;
 mod index;
+mod packets;
 mod values;
 mod walk;
 
