@@ -9,3 +9,6 @@ pub mod Counting
 pub mod WalkSizes
 pub mod Summing
 pub mod Having
+pub mod TableStands
+pub mod RowsStand
+pub mod PairStands

@@ -1,9 +1,11 @@
 -- Readings of a table, step after step.
-use Rattle.std.proofs.Common.{◌≡◌, ℕ, zero, suc, ◌+◌, false, List, [], ◌∷◌, ◌++◌, append-nil, length, length-append, take, drop, Option, Some, None, Result, Ok, Err, refl, sym, ap, ◌∙◌, subst, arith}
+use Rattle.std.proofs.Common.{◌≡◌, ℕ, zero, suc, ◌+◌, false, List, [], ◌∷◌, ◌++◌, append-nil, length, length-append, take, drop, All, Option, Some, None, Result, Ok, Err, refl, sym, ap, ◌∙◌, subst, arith}
 use Rattle.std.proofs.lemmas.List.{take_at, take-append-drop}
 use Rattle.std.proofs.Math.Seq.{take-add}
+use Rattle.std.specs.Prelude.{IsTrue}
+use Rattle.std.proofs.lemmas.List.Elements.{All-nil, All-cons}
 use Rattle.st_table.specs.TableFile.{footer_at}
-use Rattle.st_table.specs.Index.{Entered}
+use Rattle.st_table.specs.Index.{Entered, Decodes, holds_handle}
 use Rattle.st_table.specs.Cursor.{CursorView, Goes, IsDone, RefusesNext, Steps}
 use Rattle.st_table.specs.declared.errors.TableErr.{TableErr}
 use Rattle.st_table.specs.declared.index.IndexEntry.{IndexEntry}
@@ -12,6 +14,7 @@ use Rattle.st_table.specs.TableFile.{Blocks}
 use Rattle.st_table.specs.RowOrder.{last_key}
 use Rattle.st_table.specs.IndexLookup.{entry_for, first_after, found_at}
 use Rattle.st_table.proofs.Joining.{goes_joined}
+use Rattle.st_table.proofs.Indexes.{handle_passes}
 use Rattle.st_table.proofs.Stepping.{first_is}
 use Rattle.st_index.specs.Verdict.{RefusesData}
 
@@ -57,11 +60,19 @@ passed_blocks limit bytes index old new rows e g =
     subst (λ (xs : List RowView). Blocks limit bytes (last_key None xs) g.passed g.read) first.0 g.blocks in
     subst (λ (xs : List RowView). Blocks limit bytes None xs g.read) (sym taken) low
 
+-- each entry of an index that was entered is one handle
+decoded_handles : (index : List RowView) (entries : List IndexEntry) → Decodes index entries → All (λ r. IsTrue (holds_handle r)) index
+decoded_handles [] entries d = All-nil (λ r. IsTrue (holds_handle r))
+decoded_handles (r ∷ index) [] d = absurd d
+decoded_handles (r ∷ index) (e ∷ entries) d =
+    All-cons (λ r. IsTrue (holds_handle r)) r index (handle_passes r.1 e.handle d.1) (decoded_handles index entries d.2)
+
 -- and the block after them is refused as a block of the table
 pub refuses_data : (bytes : List ℕ) (entries : List IndexEntry) (old new : CursorView) (rows : List RowView) (e : TableErr) → (entered : Entered bytes entries) → entry_for [] None entered.index ≡ found_at entered.index old.next → Goes (footer_at bytes) bytes entered.index old new rows → RefusesNext (footer_at bytes) bytes entered.index new.next e → RefusesData bytes e
 refuses_data bytes entries old new rows e entered f g r = record {
       index = entered.index;
       has = entered.has;
+      handles = decoded_handles entered.index entries entered.decoded;
       number = new.next;
       before = g.read;
       good = passed_blocks (footer_at bytes) bytes entered.index old new rows f g;

@@ -1,13 +1,13 @@
 -- What `check` answers of a block file and an index: that they are a whole pair, or else the first
 -- check that fails, in the order of docs/FORMAT.md, "Checks". The block file comes first, then the
 -- index as a table, then what its rows say, and last its rows against those of the packets.
-use Rattle.std.specs.Prelude.{◌≡◌, ℕ, ◌≤◌, List, length, Option, None, Some, take, ◌⊎◌, Result, Ok, IfOk, IsErrOf}
+use Rattle.std.specs.Prelude.{◌≡◌, ℕ, ◌≤◌, List, length, All, IsTrue, Option, None, Some, take, ◌⊎◌, Result, Ok, IfOk, IsErrOf}
 use Rattle.st_base.specs.Damages.{DamageView, damage_view}
 use Rattle.st_base.specs.Faults.{Rose}
 use Rattle.st_tblock.specs.Block.{RowView}
 use Rattle.st_tblock.specs.declared.format.TheConstants.{PLAIN, SNAPPY}
 use Rattle.st_table.specs.TableFile.{HasIndex, Blocks, IsTable, footer_at}
-use Rattle.st_table.specs.Index.{RefusesTable}
+use Rattle.st_table.specs.Index.{RefusesTable, holds_handle}
 use Rattle.st_table.specs.Cursor.{RefusesNext}
 use Rattle.st_table.specs.declared.errors.TableErr.{TableErr}
 use Rattle.st_table.specs.declared.errors.TableErr.TheVariants as table_err
@@ -34,6 +34,7 @@ IsDamage table_err.NoMemory d = ⊥
 pub record RefusesData (bytes : List ℕ) (e : TableErr) : Type 0 where
   pub index : List RowView
   pub has : HasIndex bytes index
+  pub handles : All (λ r. IsTrue (holds_handle r)) index
   pub number : ℕ
   pub before : List RowView
   pub good : Blocks (footer_at bytes) bytes None (take number index) before

@@ -3,10 +3,12 @@
 mod content;
 mod difference;
 mod index;
+mod laws;
 mod packets;
 mod values;
 mod walk;
 
+pub use laws::{one_failure, whole_unhurt};
 use st_base::{Damage, Reader};
 use std::alloc::Global;
 

@@ -7,5 +7,5 @@ mod lists;
 mod maker;
 mod summary;
 
-pub use checker::{CheckErr, Part, Verdict, check};
+pub use checker::{CheckErr, Part, Verdict, check, one_failure, whole_unhurt};
 pub use maker::IndexMaker;
