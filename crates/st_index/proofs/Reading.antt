@@ -1,5 +1,5 @@
 -- Readings of a table, step after step.
-use Rattle.std.proofs.Common.{◌≡◌, ℕ, zero, suc, ◌+◌, false, List, [], ◌∷◌, ◌++◌, append-nil, length, length-append, take, drop, All, Option, Some, None, Result, Ok, Err, refl, sym, ap, ◌∙◌, subst, arith}
+use Rattle.std.proofs.Common.{◌≡◌, ℕ, zero, suc, ◌+◌, false, List, [], ◌∷◌, ◌++◌, append-nil, length, length-append, take, drop, All, Option, Some, None, Result, Ok, Err, refl, sym, ap, ◌∙◌, subst, inl, arith}
 use Rattle.std.proofs.lemmas.List.{take_at, take-append-drop}
 use Rattle.std.proofs.Math.Seq.{take-add}
 use Rattle.std.specs.Prelude.{IsTrue}
@@ -8,6 +8,7 @@ use Rattle.st_table.specs.TableFile.{footer_at}
 use Rattle.st_table.specs.Index.{Entered, Decodes, holds_handle}
 use Rattle.st_table.specs.Cursor.{CursorView, Goes, IsDone, RefusesNext, Steps}
 use Rattle.st_table.specs.declared.errors.TableErr.{TableErr}
+use Rattle.st_table.specs.declared.errors.TableErr.TheVariants as table_err
 use Rattle.st_table.specs.declared.index.IndexEntry.{IndexEntry}
 use Rattle.st_tblock.specs.Block.{RowView, is_before}
 use Rattle.st_table.specs.TableFile.{Blocks}
@@ -77,4 +78,16 @@ refuses_data bytes entries old new rows e entered f g r = record {
       before = g.read;
       good = passed_blocks (footer_at bytes) bytes entered.index old new rows f g;
       refused = r;
+    }
+
+-- out of memory before the first block
+pub no_memory : (bytes : List ℕ) (entries : List IndexEntry) → Entered bytes entries → RefusesData bytes table_err.NoMemory
+no_memory bytes entries entered = record {
+      index = entered.index;
+      has = entered.has;
+      handles = decoded_handles entered.index entries entered.decoded;
+      number = 0;
+      before = [];
+      good = refl;
+      refused = inl tt;
     }
