@@ -12,3 +12,5 @@ pub mod Having
 pub mod TableStands
 pub mod RowsStand
 pub mod PairStands
+pub mod OneDamage
+pub mod OneFailure

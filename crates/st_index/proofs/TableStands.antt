@@ -19,7 +19,7 @@ use Rattle.st_table.proofs.Stepping.{Parts, blocks-split, first_is}
 use Rattle.st_index.specs.Verdict.{IsDamage, RefusesData, FailsAsTable}
 
 -- the next block is refused by no check
-next_stands : (limit : ℕ) (bytes : List ℕ) (index rows : List RowView) (n : ℕ) (e : TableErr) → Blocks limit bytes (last_key None (take n index)) (drop n index) rows → RefusesNext limit bytes index n e → NoCheckFailed e
+pub next_stands : (limit : ℕ) (bytes : List ℕ) (index rows : List RowView) (n : ℕ) (e : TableErr) → Blocks limit bytes (last_key None (take n index)) (drop n index) rows → RefusesNext limit bytes index n e → NoCheckFailed e
 next_stands limit bytes index rows n e b (inl o) = o
 next_stands limit bytes index rows n e b (inr (a, h, i, refuses)) =
     let base = last_key None (take n index) in
@@ -51,7 +51,7 @@ data_stands bytes rows e t r =
     next_stands limit bytes r.index parts.back r.number e parts.second r.refused
 
 -- an error of no check is no failing check
-no_damage : (e : TableErr) (d : DamageView) → IsDamage e d → NoCheckFailed e → ⊥
+pub no_damage : (e : TableErr) (d : DamageView) → IsDamage e d → NoCheckFailed e → ⊥
 no_damage table_err.ReadFault d i n = i
 no_damage (table_err.Damaged x) d i n = n
 no_damage (table_err.Compressed place) d i n = n
