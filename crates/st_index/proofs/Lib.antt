@@ -14,3 +14,5 @@ pub mod RowsStand
 pub mod PairStands
 pub mod OneDamage
 pub mod OneFailure
+pub mod KeyOrders
+pub mod RowsOf

@@ -3,8 +3,10 @@
 #![tactic(auto)]
 
 mod checker;
+mod key_lists;
 mod lists;
 mod maker;
+mod row_list;
 mod summary;
 
 pub use checker::{CheckErr, Part, Verdict, check, one_failure, whole_unhurt};
