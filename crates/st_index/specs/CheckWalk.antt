@@ -9,12 +9,6 @@ use Rattle.st_index.specs.CheckRows.{rows_wrong}
 use Rattle.st_index.specs.CheckContent.{Remembers}
 use Rattle.st_index.specs.declared.checker.walk.Found.{Found}
 
--- the next of the rows that are left is given, or none is left; without memory nothing is said
-abbrev pub GivesRow : {E : Type 0} → List RowView → List RowView → Result (Option RowView) E → Type 0
-GivesRow old new (Ok None) = old ≡ []
-GivesRow old new (Ok (Some r)) = (old ≡ r ∷ new) × (length r.0 < 2 ^ 32 - 1)
-GivesRow old new (Err e) = Unit {0}
-
 -- some rows were compared with those wanted, of which these are left: what is wrong with all rows is
 -- what is wrong so far, or else with the rows to come, the first of which has this number
 pub record Compares (number : ℕ) (d : Option DamageView) (rows left wanted : List RowView) : Type 0 where

@@ -4,11 +4,13 @@ ghost use Rattle.std.specs.Prelude.{◌≡◌, List, ℕ, Some, IfOk};
 ghost use Rattle.st_base.specs.Faults.{HasCauseOf};
 ghost use Rattle.st_base.specs.PlacedReads.{IsSameFile};
 ghost use Rattle.st_table.specs.Index.{Entered};
+ghost use Rattle.st_index.specs.RowList.{rows_left};
 ghost use Rattle.st_index.specs.Verdict.{HasVerdictCause};
 ghost use Rattle.st_index.specs.CheckIndex.{ReadsTable, Refuses, JudgesFound, JudgesIndex};
 
-use crate::checker::walk::{Found, WantedRows, walk};
+use crate::checker::walk::{Found, walk};
 use crate::checker::{CheckErr, Part, Verdict};
+use crate::row_list::RowList;
 use st_base::{Damage, NoMemory, Reader};
 use st_table::{Table, TableErr};
 use st_tblock::{PLAIN, SNAPPY};
@@ -55,14 +57,14 @@ fn judge_rows(found: Found, packets: u32) -> Verdict
 }
 
 /// What is wrong with the rows of a table that was entered.
-fn read_table<R: Reader, W: WantedRows>(
+fn read_table<R: Reader>(
     alloc: Global,
     table: &mut Table<'_, R>,
-    wanted: &mut W,
+    wanted: &mut RowList<'_>,
 ) -> Result<Found, TableErr>
     ensures reads { (bytes : List ℕ) → R.content table.old.file.now ≡ Some bytes
         → Entered bytes table.old.kept.entries.items
-        → ReadsTable bytes (W.left wanted.old) result }
+        → ReadsTable bytes (rows_left wanted.old) result }
     // What becomes of the file.
     ensures same_reference { table.new.file.ghost_name ≡ table.old.file.ghost_name }
     ensures cause { HasCauseOf TableErr.ReadFault (R.faults table.old.file.now)
@@ -83,14 +85,14 @@ fn read_table<R: Reader, W: WantedRows>(
 /// The verdict on an index whose rows are to be `wanted`, those of this number of packets.
 ///
 /// `ReadFault` comes only if the index failed in this call.
-pub fn judge_index<R: Reader, W: WantedRows>(
+pub fn judge_index<R: Reader>(
     alloc: Global,
     index: &mut R,
-    wanted: &mut W,
+    wanted: &mut RowList<'_>,
     packets: u32,
 ) -> Result<Verdict, CheckErr>
     ensures judges { (bytes : List ℕ) → R.content index.old ≡ Some bytes
-        → IfOk result (JudgesIndex bytes (W.left wanted.old) packets) }
+        → IfOk result (JudgesIndex bytes (rows_left wanted.old) packets) }
     ensures cause { HasVerdictCause CheckErr.ReadFault (R.faults index.old)
         (R.faults index.new) result }
     ensures same { IsSameFile (R.content index.old) (R.content index.new) (R.extent index.old)

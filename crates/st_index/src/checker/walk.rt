@@ -7,25 +7,16 @@ ghost use Rattle.st_base.specs.PlacedReads.{IsSameFile};
 ghost use Rattle.st_tblock.specs.Block.{RowView};
 ghost use Rattle.st_table.specs.TableFile.{footer_at};
 ghost use Rattle.st_table.specs.Index.{Entered};
+ghost use Rattle.st_index.specs.RowList.{rows_left, held_row};
 ghost use Rattle.st_index.specs.CheckRows.{row_wrong, row_text, rows_wrong};
 ghost use Rattle.st_index.specs.CheckWalk.{Compares, Walks};
 
 use crate::checker::content::Content;
+use crate::row_list::RowList;
 use crate::checker::difference::{NO_BYTE, first_byte, row_difference};
 use st_base::{Damage, NoMemory, Reader};
 use st_table::{Cursor, Row, Table, TableErr};
 use std::alloc::Global;
-
-/// Rows that are wanted, in the order of their keys.
-pub trait WantedRows {
-    ghost use Rattle.st_index.specs.CheckWalk.{GivesRow};
-
-    ghost left: { Self → List RowView };
-
-    /// The next row, or `None` after the last. After `NoMemory` nothing is said of the others.
-    fn next_row(&mut self, alloc: Global) -> Result<Option<Row>, NoMemory>
-        ensures { GivesRow (left self.old) (left self.new) result };
-}
 
 /// What is wrong with the rows of an index.
 #[derive(Clone, Copy)]
@@ -36,17 +27,17 @@ pub struct Found {
     pub rows: Option<Damage>,
 }
 
-/// The damage at the row of this number, unless its bytes are those of the row that is wanted.
-fn row_damage(number: u64, row: &Row, wanted: &Row) -> Option<Damage>
-    requires { length wanted.now.0 < 2 ^ 32 - 1 }
+/// The damage at the row of this number, unless its bytes are those of the row that is held.
+fn row_damage(number: u64, row: &Row, wanted: &RowList<'_>) -> Option<Damage>
+    requires { length wanted.now.key.items < 2 ^ 32 - 1 }
     ensures { option_map damage_view result
-        ≡ row_wrong number (row_text row.now) (row_text wanted.now) }
+        ≡ row_wrong number (row_text row.now) (row_text (held_row wanted.now)) }
 {
     let (found, want) = row_difference(
         row.key.bytes(),
         row.value.bytes(),
-        wanted.key.bytes(),
-        wanted.value.bytes(),
+        wanted.key(),
+        wanted.value(),
     )?;
     Some(Damage {
         place: number,
@@ -66,59 +57,57 @@ fn extra_damage(number: u64, row: &Row) -> Damage
     }
 }
 
-/// The damage at the number of a row that is wanted where there is none.
-fn missing_damage(number: u64, wanted: &Row) -> Damage
-    ensures { row_wrong number [] (row_text wanted.now) ≡ Some (damage_view result) }
+/// The damage at this number where the row that is held is wanted, and there is none.
+fn missing_damage(number: u64, wanted: &RowList<'_>) -> Damage
+    ensures { row_wrong number [] (row_text (held_row wanted.now)) ≡ Some (damage_view result) }
 {
     Damage {
         place: number,
         found: NO_BYTE,
-        want: first_byte(wanted.key.bytes()),
+        want: first_byte(wanted.key()),
     }
 }
 
 /// Compares the row of this number with the next of those that are wanted, unless a row before it
 /// differs. The damage is that of the first row that differs.
-fn compare_row<W: WantedRows>(
-    alloc: Global,
+fn compare_row(
     number: u64,
     differs: Option<Damage>,
     row: &Row,
-    wanted: &mut W,
+    wanted: &mut RowList<'_>,
 ) -> Result<Option<Damage>, NoMemory>
     ensures { (rows all : List RowView)
-        → Compares number (option_map damage_view differs) rows (W.left wanted.old) all
+        → Compares number (option_map damage_view differs) rows (rows_left wanted.old) all
         → IfOk result (λ d. Compares (number + 1) (option_map damage_view d)
-        (rows ++ row.now ∷ []) (W.left wanted.new) all) }
+        (rows ++ row.now ∷ []) (rows_left wanted.new) all) }
 {
     if let Some(damage) = differs {
         return Ok(Some(damage));
     }
-    match wanted.next_row(alloc) {
-        Ok(Some(next)) => Ok(row_damage(number, row, &next)),
-        Ok(None) => Ok(Some(extra_damage(number, row))),
+    match wanted.next() {
+        Ok(true) => Ok(row_damage(number, row, wanted)),
+        Ok(false) => Ok(Some(extra_damage(number, row))),
         Err(error) => Err(error),
     }
 }
 
 /// Compares the end of the rows, of which there are this many, with those that are wanted, unless a
 /// row differs. The damage is that of the first row that differs or isn't there.
-fn compare_end<W: WantedRows>(
-    alloc: Global,
+fn compare_end(
     number: u64,
     differs: Option<Damage>,
-    wanted: &mut W,
+    wanted: &mut RowList<'_>,
 ) -> Result<Option<Damage>, NoMemory>
     ensures { (rows all : List RowView)
-        → Compares number (option_map damage_view differs) rows (W.left wanted.old) all
+        → Compares number (option_map damage_view differs) rows (rows_left wanted.old) all
         → IfOk result (λ d. option_map damage_view d ≡ rows_wrong 0 rows all) }
 {
     if let Some(damage) = differs {
         return Ok(Some(damage));
     }
-    match wanted.next_row(alloc) {
-        Ok(Some(next)) => Ok(Some(missing_damage(number, &next))),
-        Ok(None) => Ok(None),
+    match wanted.next() {
+        Ok(true) => Ok(Some(missing_damage(number, wanted))),
+        Ok(false) => Ok(None),
         Err(error) => Err(error),
     }
 }
@@ -127,16 +116,16 @@ fn compare_end<W: WantedRows>(
 ///
 /// The number of a row is counted from 0. A table that has 2^64 rows or more is given up as out of
 /// memory.
-pub fn walk<R: Reader, W: WantedRows>(
+pub fn walk<R: Reader>(
     alloc: Global,
     table: &mut Table<'_, R>,
     cursor: &mut Cursor,
-    wanted: &mut W,
+    wanted: &mut RowList<'_>,
 ) -> Result<Found, TableErr>
     ensures walks { (bytes : List ℕ) → R.content table.old.file.now ≡ Some bytes
         → (entered : Entered bytes table.old.kept.entries.items)
         → Walks (footer_at bytes) bytes entered.index cursor.old cursor.new
-        (W.left wanted.old) result }
+        (rows_left wanted.old) result }
     // What becomes of the file.
     ensures same_reference { table.new.file.ghost_name ≡ table.old.file.ghost_name }
     ensures cause { HasCauseOf TableErr.ReadFault (R.faults table.old.file.now)
@@ -151,12 +140,12 @@ pub fn walk<R: Reader, W: WantedRows>(
         match table.step(alloc, cursor) {
             Ok(Some(row)) => {
                 content = content.after(row.key.bytes(), row.value.bytes());
-                match compare_row(alloc, number, differs, &row, wanted) {
+                match compare_row(number, differs, &row, wanted) {
                     Ok(found) => differs = found,
                     Err(NoMemory) => return Err(TableErr::NoMemory),
                 }
             }
-            Ok(None) => match compare_end(alloc, number, differs, wanted) {
+            Ok(None) => match compare_end(number, differs, wanted) {
                 Ok(rows) => return Ok(Found { content, rows }),
                 Err(NoMemory) => return Err(TableErr::NoMemory),
             },

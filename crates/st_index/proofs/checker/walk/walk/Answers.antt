@@ -1,3 +1,4 @@
+use Rattle.st_index.specs.RowList.{rows_left}
 use Rattle.std.proofs.Common.{◌≡◌, ℕ, List, [], ◌∷◌, ◌++◌, Option, Some, None, Result, Ok, Err, sym, ap, ◌∙◌, subst, inl}
 use Rattle.st_tblock.specs.Block.{RowView}
 use Rattle.st_table.specs.TableFile.{footer_at}
@@ -26,7 +27,7 @@ returns-in-Ok-compare_end-clause-walks g c bytes told entered =
     let here = c.rows.invariant.same.content ∙ told in
     let says = rw c.in-Ok-None.field-0-is at (c.in-Ok-None.ensures.steps bytes here) in
     let s = step_over bytes _ _ c.rows.cursor c.step.new.cursor (Ok None) (ap (λ v. v.items) c.rows.invariant.entries) says entered in
-    (rows, goes_nothing (footer_at bytes) bytes entered.index c.args.cursor.now c.rows.cursor c.step.new.cursor rows went s.0, s.1, s.2, m, c.in-Ok-compare_end.ensures rows (g.W.WantedRows.left c.args.wanted.now) k)
+    (rows, goes_nothing (footer_at bytes) bytes entered.index c.args.cursor.now c.rows.cursor c.step.new.cursor rows went s.0, s.1, s.2, m, c.in-Ok-compare_end.ensures rows (rows_left c.args.wanted.now) k)
 
 pub returns-in-Err-compare_end-clause-walks : goal.returns-in-Err-compare_end-clause-walks
 returns-in-Err-compare_end-clause-walks g c bytes told entered =
@@ -61,5 +62,5 @@ rows-preserved g c =
           let here = v.same.content ∙ told in
           let says = rw c.in-Ok-Some.field-0-is at (c.in-Ok-Some.ensures.steps bytes here) in
           let s = step_over bytes _ _ c.rows.cursor c.step.new.cursor (Ok (Some c.in-Ok-Some.row)) (ap (λ v. v.items) v.entries) says entered in
-          (rows ++ c.in-Ok-Some.row ∷ [], goes_joined (footer_at bytes) bytes entered.index c.args.cursor.now c.rows.cursor c.step.new.cursor rows (c.in-Ok-Some.row ∷ []) went s.0, subst (λ (r : RowView). Remembers c.after-content.result (rows ++ r ∷ [])) row (c.after-content.ensures rows m), c.in-Ok.ensures rows (g.W.WantedRows.left c.args.wanted.now) k);
+          (rows ++ c.in-Ok-Some.row ∷ [], goes_joined (footer_at bytes) bytes entered.index c.args.cursor.now c.rows.cursor c.step.new.cursor rows (c.in-Ok-Some.row ∷ []) went s.0, subst (λ (r : RowView). Remembers c.after-content.result (rows ++ r ∷ [])) row (c.after-content.ensures rows m), c.in-Ok.ensures rows (rows_left c.args.wanted.now) k);
     }

@@ -1,3 +1,4 @@
+use Rattle.st_index.specs.RowList.{rows_left}
 use Rattle.std.proofs.Common.{◌≡◌, ℕ, List, Some, option_map}
 use Rattle.st_base.specs.Damages.{damage_view}
 use Rattle.st_base.specs.PlacedReads.{IsSameFile}
@@ -16,5 +17,5 @@ invariant-rows g l = record {
       faults : g.R.Reader.faults l.table.file.now ≡ g.R.Reader.faults l.fn.table.file.now;
       same : IsSameFile (g.R.Reader.content l.fn.table.file.now) (g.R.Reader.content l.table.file.now) (g.R.Reader.extent l.fn.table.file.now) (g.R.Reader.extent l.table.file.now) (g.R.Reader.beside l.fn.table.file.now) (g.R.Reader.beside l.table.file.now);
       walked : (bytes : List ℕ) → g.R.Reader.content l.fn.table.file.now ≡ Some bytes → (entered : Entered bytes l.fn.table.kept.entries.items)
-          → (rows : List RowView) × Goes (footer_at bytes) bytes entered.index l.fn.cursor l.cursor rows × Remembers l.content rows × Compares l.number (option_map damage_view l.differs) rows (g.W.WantedRows.left l.wanted) (g.W.WantedRows.left l.fn.wanted);
+          → (rows : List RowView) × Goes (footer_at bytes) bytes entered.index l.fn.cursor l.cursor rows × Remembers l.content rows × Compares l.number (option_map damage_view l.differs) rows (rows_left l.wanted) (rows_left l.fn.wanted);
     }
