@@ -14,5 +14,6 @@ pub mod RowsStand
 pub mod PairStands
 pub mod OneDamage
 pub mod OneFailure
+pub mod Deciding
 pub mod KeyOrders
 pub mod RowsOf
