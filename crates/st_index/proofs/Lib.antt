@@ -17,3 +17,4 @@ pub mod OneFailure
 pub mod Deciding
 pub mod KeyOrders
 pub mod RowsOf
+pub mod Writing

@@ -1,5 +1,5 @@
 -- The rows of a maker are those of its packets, and have room in a table.
-use Rattle.std.proofs.Common.{◌≡◌, ℕ, zero, suc, ◌+◌, ◌*◌, ◌<◌, ◌≤◌, ◌^◌, ◌↔◌, Bool, true, false, List, [], ◌∷◌, ◌++◌, length, length-append, map, IsTrue, All, AllPairs, Contains, slice_index_or, ◌⊎◌, inl, inr, refl, sym, ap, ◌∙◌, subst, arith, true≢false, ⊎_elim, Option, Some, None, is_lt, nat_cmp, Ordering}
+use Rattle.std.proofs.Common.{◌≡◌, ℕ, zero, suc, ◌+◌, ◌*◌, ◌<◌, ◌≤◌, ◌^◌, ◌↔◌, Bool, true, false, List, [], ◌∷◌, ◌++◌, length, length-append, map, IsTrue, All, AllPairs, Contains, slice_index_or, ◌⊎◌, inl, inr, refl, sym, ap, ◌∙◌, subst, arith, true≢false, ⊎_elim, Option, Some, None, IsSome, is_lt, nat_cmp, Ordering}
 use Rattle.std.proofs.lemmas.Bool.Decides.{nat_tests}
 use Rattle.std.specs.Ordering.{ordering_then}
 use Rattle.std.specs.Int.{bytes_high_first}
@@ -23,7 +23,7 @@ use Rattle.st_index.specs.Summaries.{summary_view}
 use Rattle.st_index.specs.EntryLists.{KeyList}
 use Rattle.st_index.specs.KeyLists.{Ascend, AreLists, count_of}
 use Rattle.st_index.specs.Maker.{ArePositions, HasPackets}
-use Rattle.st_index.specs.RowList.{summary_row, key_row}
+use Rattle.st_index.specs.RowList.{summary_row, key_row, rows_from}
 use Rattle.st_index.specs.declared.lists.PositionLists.{PositionLists}
 use Rattle.st_index.specs.declared.summary.Summary.{Summary}
 
@@ -179,3 +179,8 @@ text_size (Second n) = let h = length-bytes_high_first 4 n in omega (arith, h)
 -- the room of a row with positions: 53 bytes for each at most
 pub row_room : (x : KeyList) → 0 < length x.1 → room_of (key_row x) ≤ 53 * length x.1
 row_room x some = let key = text_size x.0 in let value = value_size x.1 in omega (arith, key, value, some)
+
+pub rows_of_some : (l : PositionLists) (summary : Option Summary) (end : ℕ) (given : List PositionedRecord) (xs : List KeyList) → IsSome summary → AreLists l xs → HasPackets l summary end given
+    → AreRowsOf given (rows_from summary xs)
+rows_of_some l None end given xs some are h = absurd (true≢false (sym some))
+rows_of_some l (Some s) end given xs some are h = rows_of_records l s end given xs are h

@@ -12,3 +12,4 @@ pub mod EntryLists
 pub mod KeyLists
 pub mod Maker
 pub mod RowList
+pub mod Write

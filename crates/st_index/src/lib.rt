@@ -8,6 +8,7 @@ mod lists;
 mod maker;
 mod row_list;
 mod summary;
+mod write;
 
 pub use checker::{CheckErr, Part, Verdict, check, one_failure, whole_unhurt};
 pub use maker::IndexMaker;
