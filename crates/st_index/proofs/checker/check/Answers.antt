@@ -1,0 +1,14 @@
+use Rattle.std.proofs.Common.{List, sym, subst}
+use Rattle.st_tblock.specs.Block.{RowView}
+use Rattle.st_rows.specs.Rows.{AreRowsOf}
+use Rattle.st_index.specs.RowList.{rows_left}
+use Rattle.st_index.proofs.Deciding.{some_summary, judged}
+use Rattle.st_index.proofs.checker.check.Goals as goal
+
+pub returns-clause-judges : goal.returns-clause-judges
+returns-clause-judges g c blocks bytes told known =
+    let (given, file, records) = c.in-Ok.ensures.makes blocks told c.new-maker.ensures.none in
+    let m = c.make_index.new.maker in
+    let some = some_summary blocks given m.summary file records.summed in
+    let are = subst (λ (rows : List RowView). AreRowsOf given rows) (sym c.new-wanted.ensures.left) (c.new-wanted.ensures.records some given records) in
+    judged blocks bytes given (rows_left c.new-wanted.result) c.packets_of-packets.result c.judge_index.result file are (c.packets_of-packets.ensures given records) (c.judge_index.ensures.judges bytes known)
