@@ -1,2 +1,4 @@
 pub mod Refusals
 pub mod Selection
+pub mod Ranges
+pub mod Selecting
