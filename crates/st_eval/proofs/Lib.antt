@@ -1,0 +1,3 @@
+pub mod NetRanges
+pub mod PrimitiveRanges
+pub mod Joining

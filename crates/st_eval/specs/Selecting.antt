@@ -1,14 +1,13 @@
 -- Which positions the rows of an index select for a query. Nothing here speaks of packets, but the
 -- last law.
-use Rattle.std.specs.Prelude.{◌≡◌, ℕ, ◌↔◌, List, Bool, false, ◌&&◌, ◌||◌, Option, Some, None, IsTrue}
+use Rattle.std.specs.Prelude.{ℕ, ◌↔◌, List, Bool, false, ◌&&◌, ◌||◌, Option, Some, None, IsTrue}
 use Rattle.std.specs.List.{list_any}
 use Rattle.st_walk.specs.declared.text.Key.{Key}
 use Rattle.st_walk.specs.KeyText.{key_text}
 use Rattle.st_query.specs.declared.nodes.Node.{Node}
 use Rattle.st_query.specs.Trees.{Tree, both, either, one, tree, InRange}
 use Rattle.st_tblock.specs.Block.{RowView}
-use Rattle.st_tblock.specs.Lookup.{lookup}
-use Rattle.st_table.specs.RowOrder.{in_range, KeysRise}
+use Rattle.st_table.specs.RowOrder.{in_range}
 use Rattle.st_block.specs.Scan.{PositionedRecord}
 use Rattle.st_rows.specs.Positions.{has, positions_in}
 use Rattle.st_eval.specs.Ranges.{range_of}
@@ -22,11 +21,6 @@ row_has p row = has (positions_in row.1) p
 abbrev pub any_has : List ℕ → List ℕ → List RowView → ℕ → Bool
 any_has low high rows p = list_any (row_has p) (in_range low high rows)
 
--- what a lookup found says the position
-abbrev pub found_has : Option (List ℕ) → ℕ → Bool
-found_has None p = false
-found_has (Some value) p = has (positions_in value) p
-
 -- the rows of a range of keys say the position
 abbrev pub picks : List RowView → Option (Key × Key) → ℕ → Bool
 picks rows None p = false
@@ -37,12 +31,6 @@ abbrev pub selects : List RowView → Tree → ℕ → ℕ → Bool
 selects rows (both a b) now p = selects rows a now p && selects rows b now p
 selects rows (either a b) now p = selects rows a now p || selects rows b now p
 selects rows (one q) now p = picks rows (range_of q now) p
-
--- a lookup of one key is the range from it to itself
-abbrev pub LookupIsRange : Type 0
-LookupIsRange =
-    (k : List ℕ) (rows : List RowView) (p : ℕ) → KeysRise rows
-    → any_has k k rows p ≡ found_has (lookup k rows) p
 
 -- the rows of packets select the positions of exactly those that match
 abbrev pub SelectsMatching : Type 0

@@ -2,7 +2,10 @@
 #![tactic(auto)]
 
 mod errors;
+mod laws;
+mod ranges;
 mod summaries;
 
 pub use errors::EvalErr;
+pub use laws::{matches_by_range, net_is_range, ranges_fit, selects_matching};
 pub use summaries::Summary;
