@@ -1,3 +1,4 @@
 pub mod NetRanges
 pub mod PrimitiveRanges
 pub mod Joining
+pub mod Risings

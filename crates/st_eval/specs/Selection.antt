@@ -5,8 +5,8 @@ use Rattle.st_tblock.specs.Block.{RowView}
 use Rattle.st_block.specs.Scan.{PositionedRecord}
 use Rattle.st_query.specs.declared.nodes.Node.{Node}
 use Rattle.st_query.specs.Meaning.{Matches}
-use Rattle.st_table.specs.TableFile.{IsTable, footer_at}
-use Rattle.st_table.specs.Index.{Entered}
+use Rattle.st_table.specs.TableFile.{IsTable, HasIndex, footer_at}
+use Rattle.st_table.specs.Index.{Decodes}
 use Rattle.st_table.specs.Marks.{Checked}
 use Rattle.st_table.specs.declared.index.IndexEntry.{IndexEntry}
 use Rattle.st_rows.specs.Positions.{has, Rising}
@@ -25,19 +25,21 @@ pub record AreMatching (q : Node) (now : ℕ) (given : List PositionedRecord) (p
   pub rising : Rising ps
   pub exact : (p : ℕ) → IsTrue (has ps p) ↔ MatchesAt q now given p
 
--- the content is known, a table with these index entries was entered over it, and the data blocks
--- that count as checked hold all their checks
+-- the content is known, it has this index block, a table was entered over it with these entries, and
+-- the data blocks that count as checked hold all their checks
 pub record IsEntered (content : Option (List ℕ)) (entries : List IndexEntry) (checked : List Bool)
-    (bytes : List ℕ) : Type 0 where
+    (bytes : List ℕ) (index : List RowView) : Type 0 where
   pub known : content ≡ Some bytes
-  pub entered : Entered bytes entries
+  pub has : HasIndex bytes index
+  pub decoded : Decodes index entries
   pub marks : Checked (footer_at bytes) bytes None entries checked
 
 -- such a content is a table of these rows
 pub record IsOver (content : Option (List ℕ)) (entries : List IndexEntry) (checked : List Bool)
     (rows : List RowView) : Type 0 where
   pub bytes : List ℕ
-  pub is : IsEntered content entries checked bytes
+  pub index : List RowView
+  pub is : IsEntered content entries checked bytes index
   pub table : IsTable bytes rows
 
 -- these are the rows of the index of these packets, whose positions rise and whose numbers fit

@@ -3,9 +3,11 @@
 
 mod errors;
 mod laws;
+mod positions;
 mod ranges;
 mod summaries;
 
 pub use errors::EvalErr;
 pub use laws::{matches_by_range, net_is_range, ranges_fit, selects_matching};
+pub use positions::Positions;
 pub use summaries::Summary;
