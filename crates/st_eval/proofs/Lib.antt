@@ -2,3 +2,4 @@ pub mod NetRanges
 pub mod PrimitiveRanges
 pub mod Joining
 pub mod Risings
+pub mod ValueTexts

@@ -2,3 +2,4 @@ pub mod Refusals
 pub mod Selection
 pub mod Ranges
 pub mod Selecting
+pub mod Lookups

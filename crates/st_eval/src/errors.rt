@@ -1,6 +1,11 @@
 //! Why an index can't be evaluated.
 
+ghost use Rattle.std.specs.Prelude.{◌≡◌};
+ghost use Rattle.st_eval.specs.Refusals.{Repeats};
+
 use st_base::Damage;
+use st_table::TableErr;
+use st_tblock::{PLAIN, SNAPPY};
 use thiserror::Error;
 
 /// Why an index can't be evaluated.
@@ -15,4 +20,21 @@ pub enum EvalErr {
     /// Out of memory.
     #[error("out of memory")]
     NoMemory,
+}
+
+/// An error of a table as one of an evaluation: a compressed block is damage at its type byte.
+pub fn refused_by(error: TableErr) -> EvalErr
+    ensures says { Repeats error result }
+    ensures fault { result ≡ EvalErr.ReadFault → error ≡ TableErr.ReadFault }
+{
+    match error {
+        TableErr::ReadFault => EvalErr::ReadFault,
+        TableErr::Damaged(damage) => EvalErr::Damaged(damage),
+        TableErr::Compressed { place } => EvalErr::Damaged(Damage {
+            place,
+            found: u64::from(SNAPPY),
+            want: u64::from(PLAIN),
+        }),
+        TableErr::NoMemory => EvalErr::NoMemory,
+    }
 }

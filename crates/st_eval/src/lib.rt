@@ -6,6 +6,7 @@ mod laws;
 mod positions;
 mod ranges;
 mod summaries;
+mod values;
 
 pub use errors::EvalErr;
 pub use laws::{matches_by_range, net_is_range, ranges_fit, selects_matching};
