@@ -3,3 +3,4 @@ pub mod PrimitiveRanges
 pub mod Joining
 pub mod Risings
 pub mod ValueTexts
+pub mod Gathering

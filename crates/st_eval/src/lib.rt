@@ -3,6 +3,7 @@
 
 mod errors;
 mod laws;
+mod lookups;
 mod positions;
 mod ranges;
 mod summaries;
