@@ -100,3 +100,7 @@ pub appends_none : (key : List ℕ) (rows : List RowView) (old : List ℕ) → K
 appends_none key rows old rise e p =
     let none : in_range key key rows ≡ [] = one_row key rows None rise e in
     sym (or_false (has old p)) ∙ ap (λ (rs : List RowView). has old p || list_any (row_has p) rs) (sym none)
+
+-- a row of the table whose value is refused
+pub refuses_row : (bytes : List ℕ) (index : List RowView) (key value read : List ℕ) (e : EvalErr) → read ≡ value → Answers bytes index key (Some value) → RefusesValue read e → RefusesEval bytes index e
+refuses_row bytes index key value read e same a h = ⊎_elim (λ n. inl n) (λ w. inr (inr (key, value, a, w ∙ ap value_wrong same))) h

@@ -4,3 +4,4 @@ pub mod Joining
 pub mod Risings
 pub mod ValueTexts
 pub mod Gathering
+pub mod Reading

@@ -55,3 +55,54 @@ fn append_found<R: Reader>(
         Err(error) => Err(refused_by(error)),
     }
 }
+
+/// Appends the positions of the rows whose keys lie from `low` to `high`, both included.
+fn append_range<R: Reader>(
+    alloc: Global,
+    table: &mut Table<'_, R>,
+    low: &[u8],
+    high: &[u8],
+    all: &mut Vec<u32>,
+) -> Result<(), EvalErr>
+    // What is appended, and what is refused.
+    ensures appends { (rows : List RowView)
+        → IsOver (R.content table.old.file.now) table.old.kept.entries.items
+        table.old.kept.checked.items rows
+        → Appends (any_has low.now high.now rows) (SoundBetween low.now high.now rows)
+        all.old.items all.new.items result }
+    ensures refuses { (bytes : List ℕ) (index : List RowView)
+        → IsEntered (R.content table.old.file.now) table.old.kept.entries.items
+        table.old.kept.checked.items bytes index
+        → IfErr result (RefusesEval bytes index) }
+
+    // What becomes of the table.
+    ensures entries { table.new.kept.entries ≡ table.old.kept.entries }
+    ensures stays { (bytes : List ℕ) (index : List RowView)
+        → IsEntered (R.content table.old.file.now) table.old.kept.entries.items
+        table.old.kept.checked.items bytes index
+        → IsEntered (R.content table.new.file.now) table.new.kept.entries.items
+        table.new.kept.checked.items bytes index }
+
+    // What becomes of the file.
+    ensures same_reference { table.new.file.ghost_name ≡ table.old.file.ghost_name }
+    ensures cause { HasCauseOf EvalErr.ReadFault (R.faults table.old.file.now)
+        (R.faults table.new.file.now) result }
+    ensures same { IsSameFile (R.content table.old.file.now) (R.content table.new.file.now)
+        (R.extent table.old.file.now) (R.extent table.new.file.now) (R.beside table.old.file.now)
+        (R.beside table.new.file.now) }
+{
+    let mut cursor = match table.range(alloc, low, high) {
+        Ok(cursor) => cursor,
+        Err(NoMemory) => return Err(EvalErr::NoMemory),
+    };
+    'rows: loop {
+        match table.step(alloc, &mut cursor) {
+            Ok(Some(row)) => match append_positions(row.value.bytes(), all) {
+                Ok(()) => {}
+                Err(error) => return Err(error),
+            },
+            Ok(None) => return Ok(()),
+            Err(error) => return Err(refused_by(error)),
+        }
+    }
+}
