@@ -20,8 +20,12 @@ use Rattle.st_rows.proofs.Lookups.{lookup_range}
 use Rattle.st_eval.specs.declared.errors.EvalErr.{EvalErr}
 use Rattle.st_eval.specs.Refusals.{NoDamage, Repeats, RefusesEval, Answers, damage_in, value_wrong}
 use Rattle.st_eval.specs.Selection.{IsEntered, IsOver}
-use Rattle.st_eval.specs.Selecting.{row_has, any_has}
-use Rattle.st_eval.specs.Lookups.{Appends, Gains, SoundBetween}
+use Rattle.st_walk.specs.declared.text.Key.{Key}
+use Rattle.st_walk.specs.KeyText.{key_text}
+use Rattle.st_query.specs.Trees.{Tree, both, either, one}
+use Rattle.st_eval.specs.Ranges.{range_in}
+use Rattle.st_eval.specs.Selecting.{row_has, any_has, picks, selects}
+use Rattle.st_eval.specs.Lookups.{Appends, Gains, SoundBetween, HasSoundValues}
 
 -- ---- tests of positions
 
@@ -104,3 +108,19 @@ appends_none key rows old rise e p =
 -- a row of the table whose value is refused
 pub refuses_row : (bytes : List ℕ) (index : List RowView) (key value read : List ℕ) (e : EvalErr) → read ≡ value → Answers bytes index key (Some value) → RefusesValue read e → RefusesEval bytes index e
 refuses_row bytes index key value read e same a h = ⊎_elim (λ n. inl n) (λ w. inr (inr (key, value, a, w ∙ ap value_wrong same))) h
+
+-- ---- keys
+
+pub appends_keys : {T : Type 0} (low high : List ℕ) (a b : Key) (rows : List RowView) (old new : List ℕ) (result : Result T EvalErr)
+    → low ≡ key_text a → high ≡ key_text b
+    → Appends (any_has low high rows) (SoundBetween low high rows) old new result → Appends (picks rows (Some (a, b))) (HasSoundValues rows) old new result
+appends_keys low high a b rows old new (Ok x) e f h = λ p. h p ∙ (ap (λ (l : List ℕ). has old p || any_has l high rows p) e ∙ ap (λ (l : List ℕ). has old p || any_has (key_text a) l rows p) f)
+appends_keys low high a b rows old new (Err x) e f h = λ sound. h (subst (λ (l : List ℕ). SoundBetween l high rows) (sym e) (subst (λ (l : List ℕ). SoundBetween (key_text a) l rows) (sym f) (sound a b)))
+
+pub appends_selected : {T : Type 0} (rows : List RowView) (q : Tree) (now : ℕ) (x : Key × Key) (old new : List ℕ) (result : Result T EvalErr)
+    → Some x ≡ range_in q now
+    → Appends (picks rows (Some x)) (HasSoundValues rows) old new result → Appends (selects rows q now) (HasSoundValues rows) old new result
+appends_selected rows (both a b) now x old new result e h = cc
+appends_selected rows (either a b) now x old new result e h = cc
+appends_selected rows (one q) now x old new (Ok y) e h = λ p. h p ∙ ap (λ (o : Option (Key × Key)). has old p || picks rows o p) e
+appends_selected rows (one q) now x old new (Err y) e h = h

@@ -25,3 +25,8 @@ abbrev pub Appends : {T : Type 0} → (ℕ → Bool) → Type 0 → List ℕ →
     → Type 0
 Appends test Sound old new (Ok x) = Gains test old new
 Appends test Sound old new (Err e) = Sound → NoDamage e
+
+-- positions were found by a test, or an error came, which is no damage where values are sound
+abbrev pub Finds : (ℕ → Bool) → Type 0 → Result (List ℕ) EvalErr → Type 0
+Finds test Sound (Ok ps) = (p : ℕ) → has ps p ≡ test p
+Finds test Sound (Err e) = Sound → NoDamage e

@@ -2,6 +2,7 @@
 #![tactic(auto)]
 
 mod errors;
+mod evaluate;
 mod laws;
 mod lookups;
 mod positions;

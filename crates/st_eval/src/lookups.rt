@@ -13,6 +13,7 @@ use crate::errors::{EvalErr, refused_by};
 use crate::values::append_positions;
 use st_base::{NoMemory, Reader};
 use st_table::Table;
+use st_walk::{Key, key_text};
 use std::alloc::Global;
 
 /// Appends the positions of the row of one key, by one read at most.
@@ -105,4 +106,48 @@ fn append_range<R: Reader>(
             Err(error) => return Err(refused_by(error)),
         }
     }
+}
+
+/// Appends the positions of the rows of the keys from `low` to `high`, both included; by one read
+/// at most if they are equal.
+pub fn append_between<R: Reader>(
+    alloc: Global,
+    table: &mut Table<'_, R>,
+    low: &Key,
+    high: &Key,
+    all: &mut Vec<u32>,
+) -> Result<(), EvalErr>
+    // What is appended, and what is refused.
+    ensures appends { (rows : List RowView)
+        → IsOver (R.content table.old.file.now) table.old.kept.entries.items
+        table.old.kept.checked.items rows
+        → Appends (picks rows (Some (low.now, high.now))) (HasSoundValues rows)
+        all.old.items all.new.items result }
+    ensures refuses { (bytes : List ℕ) (index : List RowView)
+        → IsEntered (R.content table.old.file.now) table.old.kept.entries.items
+        table.old.kept.checked.items bytes index
+        → IfErr result (RefusesEval bytes index) }
+
+    // What becomes of the table.
+    ensures entries { table.new.kept.entries ≡ table.old.kept.entries }
+    ensures stays { (bytes : List ℕ) (index : List RowView)
+        → IsEntered (R.content table.old.file.now) table.old.kept.entries.items
+        table.old.kept.checked.items bytes index
+        → IsEntered (R.content table.new.file.now) table.new.kept.entries.items
+        table.new.kept.checked.items bytes index }
+
+    // What becomes of the file.
+    ensures same_reference { table.new.file.ghost_name ≡ table.old.file.ghost_name }
+    ensures cause { HasCauseOf EvalErr.ReadFault (R.faults table.old.file.now)
+        (R.faults table.new.file.now) result }
+    ensures same { IsSameFile (R.content table.old.file.now) (R.content table.new.file.now)
+        (R.extent table.old.file.now) (R.extent table.new.file.now) (R.beside table.old.file.now)
+        (R.beside table.new.file.now) }
+{
+    let first = key_text(low);
+    if *low == *high {
+        return append_found(alloc, table, first.as_slice(), all);
+    }
+    let last = key_text(high);
+    append_range(alloc, table, first.as_slice(), last.as_slice(), all)
 }
