@@ -71,7 +71,7 @@ any_to t low high (x ∷ rows) row c l i = elim (lies_text low high x.0) as (λ 
 ] refl
 
 -- the summary row is in no range of keys
-no_summary : (low high : Key) → IsTrue (lies_text (key_text low) (key_text high) summary_key) → ⊥
+pub no_summary : (low high : Key) → IsTrue (lies_text (key_text low) (key_text high) summary_key) → ⊥
 no_summary (key.Proto n) b h = and_false _ h
 no_summary (key.Port n) b h = and_false _ h
 no_summary (key.Vlan n) b h = and_false _ h

@@ -5,3 +5,6 @@ pub mod Risings
 pub mod ValueTexts
 pub mod Gathering
 pub mod Reading
+pub mod SoundValues
+pub mod Evaluating
+pub mod NodeSizes

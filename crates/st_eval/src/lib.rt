@@ -11,6 +11,7 @@ mod summaries;
 mod values;
 
 pub use errors::EvalErr;
+pub use evaluate::eval;
 pub use laws::{matches_by_range, net_is_range, ranges_fit, selects_matching};
 pub use positions::Positions;
 pub use summaries::Summary;

@@ -39,7 +39,8 @@ pub fn rises(items: &[u32]) -> bool
 
 /// The same positions in rising order and each once. It takes no memory.
 pub fn sorted(mut items: Vec<u32>) -> Positions
-    ensures { (p : ℕ) → has result p ≡ has items.items p }
+    ensures same { (p : ℕ) → has result p ≡ has items.items p }
+    ensures rising { Rising result }
 {
     if rises(&items) {
         return Positions { items };

@@ -13,7 +13,15 @@ invariant_of-result-2 c =
     let is = dedup_is eqb c.sort_unstable.new.self.items c.dedup.new.self.items c.dedup.ensures.filtered in
     subst (λ (xs : List ℕ). Rising xs) (sym is) (sorted_rises c.sort_unstable.new.self.items c.sort_unstable.ensures.sorted)
 
-pub returns : goal.returns
-returns c p =
+pub returns-clause-same : goal.returns-clause-same
+returns-clause-same c p =
     let is = dedup_is eqb c.sort_unstable.new.self.items c.dedup.new.self.items c.dedup.ensures.filtered in
     ap (λ (xs : List ℕ). has xs p) is ∙ sorted_has c.args.items.items c.sort_unstable.new.self.items p c.sort_unstable.ensures.permutation
+
+pub returns-clause-rising : goal.returns-clause-rising
+returns-clause-rising c =
+    let is = dedup_is eqb c.sort_unstable.new.self.items c.dedup.new.self.items c.dedup.ensures.filtered in
+    subst (λ (xs : List ℕ). Rising xs) (sym is) (sorted_rises c.sort_unstable.new.self.items c.sort_unstable.ensures.sorted)
+
+pub returns-then-rises-clause-rising : goal.returns-then-rises-clause-rising
+returns-then-rises-clause-rising c = rising_from c.args.items.items (ap rises (sym c.deref.ensures.value) ∙ (sym c.rises.ensures ∙ c.if-rises.true))
