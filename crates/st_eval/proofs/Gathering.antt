@@ -8,7 +8,7 @@ use Rattle.st_table.specs.Index.{Entered}
 use Rattle.st_table.specs.IndexLookup.{entry_for}
 use Rattle.st_table.specs.Marks.{Checked}
 use Rattle.st_table.specs.RowOrder.{in_range, KeysRise}
-use Rattle.st_table.specs.Table.{GetsRow, Gets, RefusesNamed}
+use Rattle.st_table.specs.Table.{GetsRow, RefusesNamed}
 use Rattle.st_table.specs.TableFile.{IsTable, footer_at}
 use Rattle.st_table.specs.declared.errors.TableErr.{TableErr}
 use Rattle.st_table.specs.declared.errors.TableErr.TheVariants as table

@@ -1,12 +1,11 @@
 -- The rows of packets select the positions of exactly those that match.
-use Rattle.std.proofs.Common.{◌≡◌, ℕ, ◌<◌, ◌≤◌, ◌^◌, ◌↔◌, Bool, true, false, ◌&&◌, ◌||◌, if◌then◌else◌, Option, Some, None, List, [], ◌∷◌, IsTrue, All, Contains, ◌⊎◌, inl, inr, refl, sym, ap, ◌∙◌, subst, arith, true≢false, ⊎_elim}
+use Rattle.std.proofs.Common.{◌≡◌, ℕ, ◌<◌, ◌≤◌, ◌^◌, ◌↔◌, Bool, true, false, ◌&&◌, ◌||◌, if◌then◌else◌, Option, Some, None, List, [], ◌∷◌, IsTrue, Contains, ◌⊎◌, inl, inr, refl, sym, ap, ◌∙◌, subst, arith, true≢false, ⊎_elim}
 use Rattle.std.proofs.lemmas.List.Elements.{All-contains}
 use Rattle.std.specs.List.{list_any}
 use Rattle.st_base.specs.Records.{Rec}
 use Rattle.st_walk.specs.declared.text.Key.{Key}
 use Rattle.st_walk.specs.declared.text.Key.TheVariants as key
 use Rattle.st_walk.specs.KeyText.{key_text, Fits}
-use Rattle.st_walk.specs.Walk.{HasKey}
 use Rattle.st_walk.proofs.Texts.{same_key}
 use Rattle.st_query.specs.Trees.{Tree, both, either, one, tree, InRange}
 use Rattle.st_query.specs.Meaning.{MatchesTree}
@@ -14,8 +13,7 @@ use Rattle.st_tblock.specs.Block.{RowView}
 use Rattle.st_table.specs.RowOrder.{in_range}
 use Rattle.st_block.specs.Scan.{PositionedRecord}
 use Rattle.st_block.specs.BlockText.{HasBytes}
-use Rattle.st_rows.specs.KeyOrder.{lies, lies_text}
-use Rattle.st_rows.specs.Positions.{has}
+use Rattle.st_rows.specs.KeyOrder.{lies_text}
 use Rattle.st_rows.specs.Rows.{summary_key, summary_value, HasAt, IsKeyRow, AllFit}
 use Rattle.st_rows.proofs.KeyTexts.{texts_between}
 use Rattle.st_rows.proofs.OneList.{here, there, here_or}
@@ -23,8 +21,8 @@ use Rattle.st_rows.proofs.Packets.{one_packet_at, packet_keys_fit}
 use Rattle.st_rows.proofs.Values.{rows_say}
 use Rattle.st_eval.specs.declared.ranges.TheConstants.{LAST_SECOND}
 use Rattle.st_eval.specs.Ranges.{range_of, HasIn, EndsFit}
-use Rattle.st_eval.specs.Selection.{MatchesAt, IsIndexOf}
-use Rattle.st_eval.specs.Selecting.{row_has, any_has, picks, selects, SelectsMatching}
+use Rattle.st_eval.specs.Selection.{IsIndexOf}
+use Rattle.st_eval.specs.Selecting.{row_has, picks, selects, SelectsMatching}
 use Rattle.st_eval.proofs.PrimitiveRanges.{matches_by_range, ranges_fit}
 
 -- ---- tests

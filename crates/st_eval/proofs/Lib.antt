@@ -6,5 +6,6 @@ pub mod ValueTexts
 pub mod Gathering
 pub mod Reading
 pub mod SoundValues
+pub mod SummaryRows
 pub mod Evaluating
 pub mod NodeSizes

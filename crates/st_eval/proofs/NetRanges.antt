@@ -12,7 +12,6 @@ use Rattle.st_query.specs.Words.{cleared}
 use Rattle.st_query.specs.Meaning.{IsInNet}
 use Rattle.st_rows.specs.KeyOrder.{lies}
 use Rattle.st_walk.specs.KeyText.{Fits}
-use Rattle.st_query.specs.declared.limits.TheConstants.{V4_BITS, V6_BITS}
 use Rattle.st_query.specs.Words.{FitsAddr}
 use Rattle.st_eval.specs.Ranges.{net_low, net_high, NetIsRange}
 

@@ -1,20 +1,18 @@
 -- Reading the rows between two keys, one after the other.
-use Rattle.std.proofs.Common.{◌≡◌, ℕ, zero, suc, ◌<◌, Bool, true, false, ◌||◌, List, [], ◌∷◌, ◌++◌, length, Option, Some, None, Result, Ok, Err, All, IfErr, OnOk, refl, sym, ap, ◌∙◌, subst, ◌⊎◌, inl, inr, ⊎_elim, arith}
+use Rattle.std.proofs.Common.{◌≡◌, ℕ, suc, Bool, ◌||◌, List, ◌∷◌, ◌++◌, Option, Some, None, Result, Ok, Err, All, sym, ap, ◌∙◌, subst, inl, inr, arith}
 use Rattle.std.specs.List.{list_any}
 use Rattle.st_tblock.specs.Block.{RowView}
 use Rattle.st_table.specs.Cursor.{CursorView, unread, Coming, StepsRow, Steps, GivesNamed, HoldsNamed}
 use Rattle.st_table.specs.Index.{Entered, Decodes}
-use Rattle.st_table.specs.RowOrder.{in_range}
-use Rattle.st_table.specs.TableFile.{IsTable, HasIndex, footer_at}
+use Rattle.st_table.specs.TableFile.{HasIndex, footer_at}
 use Rattle.st_table.specs.declared.errors.TableErr.{TableErr}
 use Rattle.st_table.specs.declared.index.IndexEntry.{IndexEntry}
 use Rattle.st_rows.specs.Positions.{has, positions_in}
 use Rattle.st_eval.specs.declared.errors.EvalErr.{EvalErr}
-use Rattle.st_eval.specs.Refusals.{NoDamage, Repeats, RefusesEval, Answers, damage_in, value_wrong}
-use Rattle.st_eval.specs.Selection.{IsEntered, IsOver}
-use Rattle.st_eval.specs.Selecting.{row_has, any_has}
-use Rattle.st_eval.specs.Lookups.{Appends, SoundBetween}
-use Rattle.st_eval.proofs.Gathering.{or_assoc, or_false, has_append, no_damage, RefusesValue, refuses_value}
+use Rattle.st_eval.specs.Refusals.{Repeats, RefusesEval, value_wrong}
+use Rattle.st_eval.specs.Selection.{IsEntered}
+use Rattle.st_eval.specs.Selecting.{row_has}
+use Rattle.st_eval.proofs.Gathering.{or_assoc, or_false, has_append}
 
 -- the entries of an index that stay are those of the same index block
 abbrev pub entered_later : (entries next : List IndexEntry) (bytes : List ℕ) (index : List RowView) → next ≡ entries → HasIndex bytes index → Decodes index entries → Entered bytes next

@@ -1,11 +1,11 @@
 -- Lists that rise, and what sorting and searching them gives.
-use Rattle.std.proofs.Common.{◌≡◌, ℕ, zero, suc, ◌+◌, ◌-◌, ◌<◌, ◌≤◌, Bool, true, false, ◌&&◌, ◌||◌, nat_eq, nat_lt, eqb, nat_cmp, List, [], ◌∷◌, ◌++◌, length, drop, slice_index, slice_index_or, filter, Result, Ok, Err, is_ok, IsTrue, Contains, refl, sym, ap, ◌∙◌, subst, arith, true≢false, if◌then◌else◌, MatchResult, ◌⊎◌, inl, inr, ⊎_elim}
-use Rattle.std.specs.List.{AllPairs, dedup}
-use Rattle.std.specs.List.Sorted.{IsPermutation, IsSorted, IsStrictlyIncreasing, IsBinarySearchResult}
+use Rattle.std.proofs.Common.{◌≡◌, ℕ, zero, suc, ◌+◌, ◌-◌, ◌<◌, ◌≤◌, Bool, true, false, ◌&&◌, ◌||◌, nat_eq, nat_lt, eqb, nat_cmp, List, [], ◌∷◌, length, drop, slice_index, slice_index_or, filter, Result, Ok, Err, is_ok, IsTrue, refl, sym, ap, ◌∙◌, subst, arith, true≢false, if◌then◌else◌, MatchResult, ◌⊎◌, inl, inr, ⊎_elim}
+use Rattle.std.specs.List.{dedup}
+use Rattle.std.specs.List.Sorted.{IsPermutation, IsSorted, IsBinarySearchResult}
 use Rattle.std.proofs.lemmas.Bool.{cases_order}
 use Rattle.std.proofs.lemmas.Bool.Decides.{nat_tests}
 use Rattle.std.proofs.lemmas.List.{get_or_default}
-use Rattle.std.proofs.lemmas.List.Kept.{AllPairs-from_increasing, AllPairs-filter, Contains-dedup_nat, Contains-from_dedup}
+use Rattle.std.proofs.lemmas.List.Kept.{AllPairs-from_increasing, Contains-dedup_nat, Contains-from_dedup}
 use Rattle.std.proofs.lemmas.List.Sorted.{Contains-permutation, IsPermutation-sym, searched}
 use Rattle.std.proofs.lemmas.Map.Keys.{IsStrictlyIncreasing-dedup}
 use Rattle.st_rows.specs.Positions.{has, Rising}

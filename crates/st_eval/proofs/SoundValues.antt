@@ -1,5 +1,5 @@
 -- Nothing is wrong with the values of the rows of packets.
-use Rattle.std.proofs.Common.{◌≡◌, ℕ, zero, suc, ◌+◌, ◌*◌, ◌%◌, ◌<◌, ◌^◌, Bool, true, false, ◌||◌, nat_eq, if◌then◌else◌, Option, Some, None, List, [], ◌∷◌, length, IsTrue, All, Contains, slice_index_or, refl, sym, ap, ◌∙◌, subst, arith, true≢false, eq-eqb, ⊎_elim}
+use Rattle.std.proofs.Common.{◌≡◌, ℕ, zero, suc, ◌*◌, ◌%◌, ◌<◌, ◌^◌, Bool, true, false, ◌||◌, nat_eq, if◌then◌else◌, Option, None, List, [], ◌∷◌, length, IsTrue, All, Contains, slice_index_or, refl, sym, ap, ◌∙◌, subst, arith, true≢false, eq-eqb, ⊎_elim}
 use Rattle.std.specs.Option.{option_or}
 use Rattle.std.proofs.Math.Nat.{mul-mod_right}
 use Rattle.std.proofs.lemmas.List.Elements.{All-contains, All-cons}

@@ -3,3 +3,4 @@ pub mod Selection
 pub mod Ranges
 pub mod Selecting
 pub mod Lookups
+pub mod SummaryRow

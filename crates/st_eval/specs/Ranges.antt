@@ -1,5 +1,5 @@
 -- The keys that a primitive of a query asks for: those from one key to another, or none.
-use Rattle.std.specs.Prelude.{ℕ, ◌+◌, ◌-◌, ◌<◌, ◌≤◌, ◌^◌, ◌↔◌, min, nat_eq, nat_le, if◌then◌else◌, Option, Some, None, ℤ, pos, negsuc, IsTrue}
+use Rattle.std.specs.Prelude.{ℕ, ◌+◌, ◌-◌, ◌≤◌, ◌^◌, ◌↔◌, min, nat_eq, nat_le, if◌then◌else◌, Option, Some, None, ℤ, pos, negsuc, IsTrue}
 use Rattle.st_base.specs.Records.{Rec}
 use Rattle.st_walk.specs.declared.text.Key.{Key}
 use Rattle.st_walk.specs.declared.text.Key.TheVariants as key
@@ -10,7 +10,7 @@ use Rattle.st_query.specs.declared.addrs.Addr.TheVariants.{V4, V6}
 use Rattle.st_query.specs.declared.limits.TheConstants.{V4_BITS, V6_BITS}
 use Rattle.st_query.specs.declared.nodes.Primitive.{Primitive}
 use Rattle.st_query.specs.declared.nodes.Primitive.TheVariants as prim
-use Rattle.st_query.specs.Words.{cleared, network, FitsAddr}
+use Rattle.st_query.specs.Words.{cleared}
 use Rattle.st_query.specs.Trees.{Tree, both, either, one, FitsPrimitive}
 use Rattle.st_query.specs.Meaning.{addr_key, second_of, IsInNet, MatchesPrimitive}
 use Rattle.st_rows.specs.KeyOrder.{lies}

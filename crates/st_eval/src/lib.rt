@@ -8,6 +8,7 @@ mod lookups;
 mod positions;
 mod ranges;
 mod summaries;
+mod summary_row;
 mod values;
 
 pub use errors::EvalErr;
@@ -15,3 +16,4 @@ pub use evaluate::eval;
 pub use laws::{matches_by_range, net_is_range, ranges_fit, selects_matching};
 pub use positions::Positions;
 pub use summaries::Summary;
+pub use summary_row::summary;

@@ -1,4 +1,4 @@
-//! The summary row of an index.
+//! What the summary row of an index says.
 
 /// What the summary row of an index says: the number of packets, and the times of the first and of
 /// the last one, each in seconds since 1970 and nanoseconds.

@@ -1,6 +1,5 @@
-use Rattle.std.proofs.Common.{◌≡◌, ◌&&◌, ◌||◌, ◌≤◌, ℕ, List, [], refl, sym, ap, ◌∙◌, subst}
-use Rattle.st_tblock.specs.Block.{RowView}
-use Rattle.st_query.specs.declared.nodes.Node.{Node, size-Node}
+use Rattle.std.proofs.Common.{◌≡◌, ◌&&◌, ◌||◌, ℕ, List, [], refl, ap, ◌∙◌}
+use Rattle.st_query.specs.declared.nodes.Node.{size-Node}
 use Rattle.st_query.specs.Trees.{tree, both, either}
 use Rattle.st_query.proofs.NodeTrees.{and_tree, or_tree}
 use Rattle.st_rows.specs.Positions.{has}

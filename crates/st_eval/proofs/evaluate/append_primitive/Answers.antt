@@ -1,4 +1,4 @@
-use Rattle.std.proofs.Common.{◌≡◌, ◌∙◌, sym, ap, List, ℕ, Some}
+use Rattle.std.proofs.Common.{◌≡◌, Some}
 use Rattle.st_query.specs.Trees.{tree}
 use Rattle.st_eval.specs.Ranges.{range_in}
 use Rattle.st_eval.proofs.Gathering.{appends_selected}

@@ -1,6 +1,6 @@
-use Rattle.std.proofs.Common.{◌≡◌, ap, subst, sym}
+use Rattle.std.proofs.Common.{subst}
 use Rattle.st_query.specs.declared.nodes.Node.{Node}
-use Rattle.st_query.specs.Trees.{tree, InRange}
+use Rattle.st_query.specs.Trees.{tree}
 use Rattle.st_eval.specs.Selecting.{selects}
 use Rattle.st_eval.specs.Lookups.{Finds, HasSoundValues}
 use Rattle.st_eval.proofs.Evaluating.{selects_found}

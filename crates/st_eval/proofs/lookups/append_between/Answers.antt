@@ -1,5 +1,4 @@
-use Rattle.std.proofs.Common.{◌≡◌, ◌∙◌, sym, ap, List, ℕ, rules}
-use Rattle.st_walk.specs.declared.text.Key.{Key}
+use Rattle.std.proofs.Common.{◌≡◌, ◌∙◌, ap, rules}
 use Rattle.st_walk.specs.KeyText.{key_text}
 use Rattle.st_eval.proofs.Gathering.{appends_keys}
 use Rattle.st_eval.proofs.lookups.append_between.Goals as goal

@@ -1,4 +1,4 @@
-use Rattle.std.proofs.Common.{◌≡◌, ◌∙◌, sym, ap, subst, List, ℕ, Option, Some, None, Ok, Err}
+use Rattle.std.proofs.Common.{◌≡◌, ◌∙◌, subst, List, ℕ, Option, Some, None, Ok, Err}
 use Rattle.st_eval.specs.Refusals.{Answers}
 use Rattle.st_eval.proofs.Gathering.{entered, gets_row, rows_rise, appends_one, appends_none, refuses_value, refuses_named, no_damage}
 use Rattle.st_eval.proofs.lookups.append_found.Goals as goal

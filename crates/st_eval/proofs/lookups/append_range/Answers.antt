@@ -1,13 +1,12 @@
-use Rattle.std.proofs.Common.{◌≡◌, ◌∙◌, refl, sym, ap, subst, List, ℕ, Option, Some, None, Ok, Err, ⊎_elim, ◌||◌, ◌++◌}
-use Rattle.std.specs.List.{list_any}
+use Rattle.std.proofs.Common.{◌≡◌, ◌∙◌, refl, ap, subst, List, ℕ, Option, Some, None, Ok, Err, ⊎_elim, ◌++◌}
 use Rattle.st_tblock.specs.Block.{RowView}
 use Rattle.st_table.specs.Cursor.{StepsRow, GivesNamed}
 use Rattle.st_table.specs.RowOrder.{in_range}
 use Rattle.st_table.specs.TableFile.{footer_at}
 use Rattle.st_rows.specs.Positions.{positions_in}
-use Rattle.st_eval.specs.Refusals.{Answers, value_wrong, NoDamage}
+use Rattle.st_eval.specs.Refusals.{Answers, value_wrong}
 use Rattle.st_eval.proofs.Gathering.{entered, no_damage, refuses_row}
-use Rattle.st_eval.proofs.Reading.{Collects, collects_more, collects_all, next_sound, holds_unread, step_says, step_named, step_refused}
+use Rattle.st_eval.proofs.Reading.{collects_more, collects_all, next_sound, holds_unread, step_says, step_named, step_refused}
 use Rattle.st_eval.proofs.lookups.append_range.Goals as goal
 
 pub rows-init : goal.rows-init

@@ -4,7 +4,7 @@ use Rattle.st_tblock.specs.Block.{RowView}
 use Rattle.st_table.specs.Cursor.{HoldsNamed, most_left}
 use Rattle.st_table.specs.RowOrder.{in_range}
 use Rattle.st_table.specs.TableFile.{footer_at, IsTable}
-use Rattle.st_eval.specs.Selection.{IsEntered, IsOver}
+use Rattle.st_eval.specs.Selection.{IsEntered}
 use Rattle.st_eval.proofs.Reading.{Collects}
 use Rattle.st_eval.proofs.lookups.append_range.Given as goal
 

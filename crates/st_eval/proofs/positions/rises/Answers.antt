@@ -1,4 +1,4 @@
-use Rattle.std.proofs.Common.{◌≡◌, ◌-◌, ◌∙◌, sym, arith}
+use Rattle.std.proofs.Common.{◌-◌, ◌∙◌, sym, arith}
 use Rattle.st_eval.proofs.Risings.{rises_next, rises_not, rises_end}
 use Rattle.st_eval.proofs.positions.rises.Goals as goal
 

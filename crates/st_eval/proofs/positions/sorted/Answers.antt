@@ -1,4 +1,4 @@
-use Rattle.std.proofs.Common.{◌≡◌, ◌∙◌, sym, ap, subst, eqb, List, ℕ, IsTrue}
+use Rattle.std.proofs.Common.{◌∙◌, sym, ap, subst, eqb, List, ℕ}
 use Rattle.std.proofs.lemmas.List.Filters.{dedup_is}
 use Rattle.st_rows.specs.Positions.{has, Rising}
 use Rattle.st_eval.specs.Refusals.{rises}

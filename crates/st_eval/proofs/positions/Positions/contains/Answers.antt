@@ -1,4 +1,4 @@
-use Rattle.std.proofs.Common.{◌≡◌, ◌∙◌, sym, ap, subst, List, ℕ}
+use Rattle.std.proofs.Common.{◌∙◌, sym, ap, subst, List, ℕ}
 use Rattle.st_rows.specs.Positions.{has, Rising}
 use Rattle.st_eval.proofs.Risings.{found}
 use Rattle.st_eval.proofs.positions.Positions.contains.Goals as goal
