@@ -9,6 +9,8 @@ mod positions;
 mod ranges;
 mod summaries;
 mod summary_row;
+#[cfg(test)]
+mod tests;
 mod values;
 
 pub use errors::EvalErr;
