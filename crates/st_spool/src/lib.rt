@@ -4,3 +4,12 @@
 //! removals, in order. `specs/History.antt` says which histories there may be, and which file set
 //! is there after one.
 #![tactic(auto)]
+
+mod pair_rule;
+mod settling;
+mod spool;
+mod state;
+
+pub use pair_rule::PairRule;
+pub use spool::Spool;
+pub use state::{Doubt, Span};

@@ -1,0 +1,94 @@
+-- What an opening makes of a shelf.
+use Rattle.std.specs.Prelude.{◌≡◌, ◌≤◌, ◌⊎◌, ℕ, List, [], ◌∷◌, length, Option, None, Some, IsSome, ⊤}
+use Rattle.st_disk.specs.declared.naming.Kind.TheVariants as kind
+use Rattle.st_disk.specs.declared.naming.Name.{Name}
+use Rattle.st_disk.specs.declared.naming.Name.TheVariants.{Block, Index, Parked, Draft}
+use Rattle.st_disk.specs.declared.changes.Call.TheVariants.{Flush}
+use Rattle.st_disk.specs.Names.{number_of}
+use Rattle.st_disk.specs.Folders.{Folder}
+use Rattle.st_disk.specs.Disks.{Log, reads, Leaves, and_then}
+use Rattle.st_disk.specs.Runs.{Ran}
+use Rattle.st_disk.specs.Pairs.{Entry, Files, PairsIn, both}
+use Rattle.st_disk.specs.Events.{Event, Found, events}
+use Rattle.st_spool.specs.Rows.{Row, Past, Lone, Found as FoundRow}
+use Rattle.st_spool.specs.States.{SpoolState}
+use Rattle.st_spool.specs.Standing.{StandsFor}
+use Rattle.st_spool.specs.declared.state.Doubt.TheVariants as doubt
+
+-- the second where the first is there
+abbrev pub beside : Option (List ℕ) → Option (List ℕ) → Option (List ℕ)
+beside None own = None
+beside (Some other) own = own
+
+-- a folder without its drafts, parked indexes and halves of pairs
+abbrev pub pairs_alone : Folder → Folder
+pairs_alone f (Block s) = beside (f (Index s)) (f (Block s))
+pairs_alone f (Index s) = beside (f (Block s)) (f (Index s))
+pairs_alone f (Parked s) = None
+pairs_alone f (Draft k d) = None
+
+-- the second folder is the first
+abbrev pub Is : Folder → Folder → Type 0
+Is f c = (n : Name) → c n ≡ f n
+
+-- both folders have the same pairs
+abbrev pub SamePairs : Folder → Folder → Type 0
+SamePairs f c = (s : ℕ) → both (c (Block s)) (c (Index s)) ≡ both (f (Block s)) (f (Index s))
+
+-- the row of what was found, whatever was removed since that is no part of a pair
+abbrev pub found_row : Option (List ℕ) → Option (List ℕ) → Row
+found_row None index = Lone
+found_row (Some block) None = Past
+found_row (Some block) (Some index) = FoundRow (record { block = block; index = index })
+
+abbrev pub found_rows : Folder → ℕ → Row
+found_rows f s = found_row (f (Block s)) (f (Index s))
+
+-- the name is no part of a pair, of these names
+abbrev pub IsStray : (Name → Type 0) → Name → Type 0
+IsStray P (Block s) = P (Index s) → ⊥
+IsStray P (Index s) = P (Block s) → ⊥
+IsStray P (Parked s) = ⊤
+IsStray P (Draft k d) = ⊤
+
+-- the name has a stamp
+abbrev pub IsStamped : Name → Type 0
+IsStamped (Block s) = ⊤
+IsStamped (Index s) = ⊤
+IsStamped (Parked s) = ⊤
+IsStamped (Draft k d) = ⊥
+
+-- the greatest stamp of the names for which P holds, or 0 if there is none
+pub record IsLastStamp (P : Name → Type 0) (last : ℕ) : Type 0 where
+  pub above : (n : Name) → IsStamped n → P n → number_of n ≤ last
+  pub some : (last ≡ 0) ⊎ ((n : Name) × IsStamped n × P n × (number_of n ≡ last))
+
+-- the log with both folders flushed
+abbrev pub flushed_log : Log → Log
+flushed_log log = and_then (and_then log (Flush kind.Block)) (Flush kind.Index)
+
+-- Until both folders were flushed each crash leaves an image that the shelf had at first, and from
+-- then on the pairs that are read; a crash now leaves what has Q. No event happened.
+pub record Clears (first : Log) (known : Option Log) (Q : Folder → Type 0) : Type 0 where
+  pub flushed : Ran first (Some (flushed_log first)) [] (Leaves first) (Is (reads first))
+  pub cleared : Ran (flushed_log first) known [] (SamePairs (reads first)) Q
+
+-- an opening that failed: before both folders were flushed, or after
+abbrev pub FailsToEnter : Log → Option Log → Type 0
+FailsToEnter first known = Ran first known [] (Leaves first) (Leaves first) ⊎ Clears first known (SamePairs (reads first))
+
+-- the state of a spool that was opened just now
+abbrev pub opened : ℕ → List ℕ → ℕ → SpoolState
+opened limit stamps last = record {
+  limit = limit; stamps = stamps; removed = 0; last = last; holds = []; doubt = doubt.Nothing; halted = None; halts = 0; asks = 0;
+  asked = record { from = 0; to = length stamps };
+}
+
+-- An opening: the spool stands for the pairs that were read, and every crash leaves just these, and
+-- no draft, parked index or half of a pair.
+pub record Enters (IsWhole : List ℕ → List ℕ → Type 0) (first : Log) (known : Option Log) (st : SpoolState) : Type 0 where
+  pub pairs : List Entry
+  pub found : PairsIn (reads first) pairs
+  pub stands : (f : Files) → StandsFor IsWhole known st (events first) (Found pairs ∷ []) f
+  pub last : IsLastStamp (λ n. IsSome (reads first n)) st.last
+  pub images : Clears first known (Is (pairs_alone (reads first)))

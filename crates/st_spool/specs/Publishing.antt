@@ -1,0 +1,47 @@
+-- What a publication makes of a spool.
+use Rattle.std.specs.Prelude.{◌≡◌, ◌<◌, ◌+◌, ◌-◌, ◌^◌, ◌⊎◌, ℕ, List, [], ◌∷◌, ◌++◌, Option, None, Some, max}
+use Rattle.st_base.specs.Faults.{next_count}
+use Rattle.st_disk.specs.Disks.{Log}
+use Rattle.st_disk.specs.Runs.{Ran}
+use Rattle.st_disk.specs.Pairs.{Entry, Files, PairsIn}
+use Rattle.st_disk.specs.Events.{Event, Publish}
+use Rattle.st_spool.specs.History.{set_of}
+use Rattle.st_spool.specs.States.{SpoolState}
+use Rattle.st_spool.specs.Standing.{Gives, begun}
+use Rattle.st_spool.specs.declared.state.Doubt.{Doubt}
+use Rattle.st_spool.specs.declared.state.Doubt.TheVariants.{Unsettled, Settled}
+
+-- the stamp of the next publication
+abbrev pub next_stamp : ℕ → ℕ → ℕ
+next_stamp last floor = max floor (last + 1)
+
+-- a publication is not refused: no call has failed, and a stamp is left
+abbrev pub MayPublish : SpoolState → Type 0
+MayPublish st = (st.halted ≡ None) × (st.last < 2 ^ 64 - 1)
+
+-- the state after a publication
+abbrev pub published : SpoolState → ℕ → SpoolState
+published st s = record st { stamps = st.stamps ++ s ∷ []; last = s }
+
+-- the state after a publication or an ageing that failed, with the shelf's count of faults then
+abbrev pub failed : SpoolState → Doubt → ℕ → SpoolState
+failed st doubt since = record st { doubt = doubt; halted = Some since; halts = next_count st.halts }
+
+-- the same of a publication under this stamp: its block was settled, or not
+abbrev pub FailsToPublish : SpoolState → SpoolState → ℕ → ℕ → Type 0
+FailsToPublish old new t since = (new ≡ failed old (Unsettled t) since) ⊎ (new ≡ failed old (Settled t) since)
+
+-- every crash since the first log leaves the set of the history, or that with the further event, and
+-- a crash now leaves the second; the event happened once
+abbrev pub RanTo : Log → Option Log → List Event → Event → Type 0
+RanTo first known h e = Ran first known (e ∷ []) (Gives h (e ∷ [])) (λ c. PairsIn c (set_of (h ++ e ∷ [])))
+
+-- every crash since the first log leaves the set of the history; or that with the event in doubt, but
+-- only if it began
+abbrev pub RanInDoubt : Log → Option Log → List Event → List Event → Type 0
+RanInDoubt first known h es = Ran first known es (Gives h es) (Gives h es)
+
+-- every crash since the first log leaves what one might have left then by the event in doubt, and no
+-- event happened
+abbrev pub RanAsBefore : Log → Option Log → List Event → List Event → Type 0
+RanAsBefore first known h es = Ran first known [] (Gives h es) (Gives h es)
