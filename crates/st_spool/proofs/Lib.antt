@@ -1,0 +1,4 @@
+pub mod Keeping
+pub mod Setting
+pub mod Stages
+pub mod Histories

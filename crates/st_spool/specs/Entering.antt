@@ -10,7 +10,7 @@ use Rattle.st_disk.specs.Disks.{Log, reads, Leaves, and_then}
 use Rattle.st_disk.specs.Runs.{Ran}
 use Rattle.st_disk.specs.Pairs.{Entry, Files, PairsIn, both}
 use Rattle.st_disk.specs.Events.{Event, Found, events}
-use Rattle.st_spool.specs.Rows.{Row, Past, Lone, Found as FoundRow}
+use Rattle.st_spool.specs.Rows.{Row, Past, Lone, Both}
 use Rattle.st_spool.specs.States.{SpoolState}
 use Rattle.st_spool.specs.Standing.{StandsFor}
 use Rattle.st_spool.specs.declared.state.Doubt.TheVariants as doubt
@@ -39,7 +39,7 @@ SamePairs f c = (s : ℕ) → both (c (Block s)) (c (Index s)) ≡ both (f (Bloc
 abbrev pub found_row : Option (List ℕ) → Option (List ℕ) → Row
 found_row None index = Lone
 found_row (Some block) None = Past
-found_row (Some block) (Some index) = FoundRow (record { block = block; index = index })
+found_row (Some block) (Some index) = Both (record { block = block; index = index })
 
 abbrev pub found_rows : Folder → ℕ → Row
 found_rows f s = found_row (f (Block s)) (f (Index s))

@@ -9,7 +9,7 @@ use Rattle.st_disk.specs.Pairs.{Entry, Files, IsFileSet, files_at, PairsIn}
 
 -- Free: nothing is there. Half: the block isn't, the index may be. Coming: each of the two files may
 -- be there. Pair: both are. Going: the block is, and the index under either of its names. Held: the
--- block is, and the index is parked. Past: the index isn't there. Lone: the block isn't. Found: both
+-- block is, and the index is parked. Past: the index isn't there. Lone: the block isn't. Both: both
 -- files are there.
 pub data Row : Type 0 where
   Free : Row
@@ -20,7 +20,7 @@ pub data Row : Type 0 where
   Held : Files → Row
   Past : Row
   Lone : Row
-  Found : Files → Row
+  Both : Files → Row
 
 -- these may be the block, the index and the parked index of a stamp with this row
 abbrev pub Fits : Row → Option (List ℕ) → Option (List ℕ) → Option (List ℕ) → Type 0
@@ -32,7 +32,7 @@ Fits (Going f) b i p = (b ≡ Some f.block) × (((i ≡ Some f.index) × (p ≡ 
 Fits (Held f) b i p = (b ≡ Some f.block) × (i ≡ None) × (p ≡ Some f.index)
 Fits Past b i p = i ≡ None
 Fits Lone b i p = b ≡ None
-Fits (Found f) b i p = (b ≡ Some f.block) × (i ≡ Some f.index)
+Fits (Both f) b i p = (b ≡ Some f.block) × (i ≡ Some f.index)
 
 -- under the names of each stamp a folder has what its row allows
 abbrev pub Has : (ℕ → Row) → Folder → Type 0
@@ -52,7 +52,7 @@ pair_before (Going f) = Some f
 pair_before (Held f) = None
 pair_before Past = None
 pair_before Lone = None
-pair_before (Found f) = Some f
+pair_before (Both f) = Some f
 
 -- the pair of a row, as if an event in doubt had happened
 abbrev pub pair_after : Row → Option Files
@@ -64,7 +64,7 @@ pair_after (Going f) = None
 pair_after (Held f) = None
 pair_after Past = None
 pair_after Lone = None
-pair_after (Found f) = Some f
+pair_after (Both f) = Some f
 
 -- no row is in doubt
 abbrev pub AreSure : (ℕ → Row) → Type 0
