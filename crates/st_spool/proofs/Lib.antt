@@ -1,4 +1,5 @@
 pub mod Keeping
 pub mod Setting
 pub mod Stages
+pub mod Sparing
 pub mod Histories
