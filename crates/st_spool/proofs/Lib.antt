@@ -3,3 +3,5 @@ pub mod Setting
 pub mod Stages
 pub mod Sparing
 pub mod Histories
+pub mod Places
+pub mod Published
