@@ -1,7 +1,6 @@
 -- What a publication makes of the state and of the history.
 use Rattle.std.proofs.Common.{◌≡◌, ◌<◌, ◌≤◌, ◌+◌, ◌⊎◌, ℕ, List, [], ◌∷◌, ◌++◌, length, drop, map, Option, None, Some, IsSome, Bool, true, false, cond, nat_eq, refl, sym, ◌∙◌, ap, subst, inl, inr, ⊎_elim, arith, length-append, append_assoc}
 use Rattle.std.proofs.lemmas.List.{append-nil}
-use Rattle.st_base.specs.Faults.{next_count}
 use Rattle.st_disk.specs.Folders.{Folder}
 use Rattle.st_disk.specs.declared.naming.Name.TheVariants.{Block, Index, Parked}
 use Rattle.st_disk.specs.Disks.{Log, reads}
@@ -18,7 +17,7 @@ use Rattle.st_spool.specs.Placing.{entry}
 use Rattle.st_spool.specs.History.{set_of, entries_of, Legal}
 use Rattle.st_spool.specs.States.{SpoolState, rows_of, rows_by, with_doubt, MayBe, AreUpTo, IsWithin}
 use Rattle.st_spool.specs.Standing.{StandsFor, OnDisk, IsCalm, IsHidden, Gives, begun, in_doubt, after_found, PublishWhole, stamp_of}
-use Rattle.st_spool.specs.Publishing.{RanTo, RanInDoubt, failed}
+use Rattle.st_spool.specs.Publishing.{RanTo, RanInDoubt}
 use Rattle.st_spool.specs.declared.state.Doubt.{Doubt}
 use Rattle.st_spool.specs.declared.state.Doubt.TheVariants as doubt
 use Rattle.st_spool.proofs.Setting.{sure_set, either_set}
@@ -150,15 +149,12 @@ module _ (W : List ℕ → List ℕ → Type 0) (old new : Option Log) (st : Spo
       ran_widen l new (Publish (entry t f) ∷ []) (Has (set_row (rows_of st.removed st.holds st.last (entries_of h)) t (Coming f))) (Has (set_row (rows_of st.removed st.holds st.last (entries_of h)) t (Pair f))) (Gives h (Publish (entry t f) ∷ [])) (λ c. PairsIn c (set_of (h ++ Publish (entry t f) ∷ []))) coming_sets done_sets
       (placed l (rows_of st.removed st.holds st.last (entries_of h)) known (each_row l known) free)
 
-  counted : (n : ℕ) → 0 < next_count n
-  counted n = omega arith
-
   -- a publication that failed leaves the history
-  failed_stands : (d : Doubt) (r : Row) (es : List Event) (since : ℕ) → with_doubt d f (rows_of st.removed st.holds st.last (entries_of h)) ≡ set_row (rows_of st.removed st.holds st.last (entries_of h)) t r → begun d f ≡ es
+  failed_stands : (d : Doubt) (r : Row) (es : List Event) (since halts : ℕ) → 0 < halts → with_doubt d f (rows_of st.removed st.holds st.last (entries_of h)) ≡ set_row (rows_of st.removed st.holds st.last (entries_of h)) t r → begun d f ≡ es
       → ((l : Log) → old ≡ Some l → PublishWhole W (in_doubt d f)) → ((c : Folder) → IsHidden d c) → MayBe d f st.removed st.last (entries_of h) → KnownBefore old new
       → ((l : Log) (rows : ℕ → Row) → old ≡ Some l → Each l (Has rows) → rows t ≡ Free → RanBy l new es (set_row rows t r) (set_row rows t r))
-      → StandsFor W new (record st { doubt = d; halted = Some since; halts = next_count st.halts }) earlier h f
-  failed_stands d r es since rows_are begun_is whole hidden may before placed = record {
+      → StandsFor W new (record st { doubt = d; halted = Some since; halts = halts }) earlier h f
+  failed_stands d r es since halts some rows_are begun_is whole hidden may before placed = record {
     legal = stands.legal;
     stamps = stands.stamps;
     set = stands.set;
@@ -167,7 +163,7 @@ module _ (W : List ℕ → List ℕ → Type 0) (old new : Option Log) (st : Spo
     last = stands.last;
     holds = stands.holds;
     asked = stands.asked;
-    calm = counted st.halts;
+    calm = some;
     doubt = may;
     disk = λ m known.
       let was = before m known in
@@ -181,13 +177,13 @@ module _ (W : List ℕ → List ℕ → Type 0) (old new : Option Log) (st : Spo
       };
   }
 
-  pub unsettled_stands : (since : ℕ) → ((l : Log) → old ≡ Some l → W f.block f.index) → KnownBefore old new → ((l : Log) (rows : ℕ → Row) → old ≡ Some l → Each l (Has rows) → rows t ≡ Free → RanBy l new [] (set_row rows t (Half f)) (set_row rows t (Half f)))
-      → StandsFor W new (failed st (doubt.Unsettled t) since) earlier h f
-  unsettled_stands since whole before placed = failed_stands (doubt.Unsettled t) (Half f) [] since refl refl (λ l known. (whole l known, tt)) (λ c. tt) more before placed
+  pub unsettled_stands : (since halts : ℕ) → 0 < halts → ((l : Log) → old ≡ Some l → W f.block f.index) → KnownBefore old new → ((l : Log) (rows : ℕ → Row) → old ≡ Some l → Each l (Has rows) → rows t ≡ Free → RanBy l new [] (set_row rows t (Half f)) (set_row rows t (Half f)))
+      → StandsFor W new (record st { doubt = doubt.Unsettled t; halted = Some since; halts = halts }) earlier h f
+  unsettled_stands since halts some whole before placed = failed_stands (doubt.Unsettled t) (Half f) [] since halts some refl refl (λ l known. (whole l known, tt)) (λ c. tt) more before placed
 
-  pub settled_stands : (since : ℕ) → ((l : Log) → old ≡ Some l → W f.block f.index) → KnownBefore old new → ((l : Log) (rows : ℕ → Row) → old ≡ Some l → Each l (Has rows) → rows t ≡ Free → RanBy l new (Publish (entry t f) ∷ []) (set_row rows t (Coming f)) (set_row rows t (Coming f)))
-      → StandsFor W new (failed st (doubt.Settled t) since) earlier h f
-  settled_stands since whole before placed = failed_stands (doubt.Settled t) (Coming f) (Publish (entry t f) ∷ []) since refl refl (λ l known. (whole l known, tt)) (λ c. tt) more before placed
+  pub settled_stands : (since halts : ℕ) → 0 < halts → ((l : Log) → old ≡ Some l → W f.block f.index) → KnownBefore old new → ((l : Log) (rows : ℕ → Row) → old ≡ Some l → Each l (Has rows) → rows t ≡ Free → RanBy l new (Publish (entry t f) ∷ []) (set_row rows t (Coming f)) (set_row rows t (Coming f)))
+      → StandsFor W new (record st { doubt = doubt.Settled t; halted = Some since; halts = halts }) earlier h f
+  settled_stands since halts some whole before placed = failed_stands (doubt.Settled t) (Coming f) (Publish (entry t f) ∷ []) since halts some refl refl (λ l known. (whole l known, tt)) (λ c. tt) more before placed
 
   pub unsettled_images : (l : Log) → old ≡ Some l → ((l : Log) (rows : ℕ → Row) → old ≡ Some l → Each l (Has rows) → rows t ≡ Free → RanBy l new [] (set_row rows t (Half f)) (set_row rows t (Half f))) → RanInDoubt l new h []
   unsettled_images l known placed =

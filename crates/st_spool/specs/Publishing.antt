@@ -7,7 +7,9 @@ use Rattle.st_disk.specs.Pairs.{Entry, Files, PairsIn}
 use Rattle.st_disk.specs.Events.{Event, Publish}
 use Rattle.st_spool.specs.History.{set_of}
 use Rattle.st_spool.specs.States.{SpoolState}
-use Rattle.st_spool.specs.Standing.{Gives, begun}
+use Rattle.st_shelf.specs.Origins.{DraftOrigin}
+use Rattle.st_disk.specs.declared.naming.Kind.TheVariants as kind
+use Rattle.st_spool.specs.Standing.{StandsFor, Gives, begun}
 use Rattle.st_spool.specs.declared.state.Doubt.{Doubt}
 use Rattle.st_spool.specs.declared.state.Doubt.TheVariants.{Unsettled, Settled}
 
@@ -45,3 +47,25 @@ RanInDoubt first known h es = Ran first known es (Gives h es) (Gives h es)
 -- event happened
 abbrev pub RanAsBefore : Log → Option Log → List Event → List Event → Type 0
 RanAsBefore first known h es = Ran first known [] (Gives h es) (Gives h es)
+
+-- a publication of this entry: the spool stands for the history with it, and each crash leaves it
+pub record Publishes (IsWhole : List ℕ → List ℕ → Type 0) (old new : Option Log) (st : SpoolState) (earlier h : List Event) (e : Entry) (f : Files) : Type 0 where
+  pub stands : StandsFor IsWhole new st earlier (h ++ Publish e ∷ []) f
+  pub images : (first : Log) → old ≡ Some first → RanTo first new h (Publish e)
+
+-- a call that failed on a pair with these files: the spool stands for the history as before
+pub record Fails (IsWhole : List ℕ → List ℕ → Type 0) (old new : Option Log) (st : SpoolState) (earlier h : List Event) (f : Files) : Type 0 where
+  pub stands : StandsFor IsWhole new st earlier h f
+  pub images : (first : Log) → old ≡ Some first → RanInDoubt first new h (begun st.doubt f)
+
+-- a call with no event: the spool stands for the history as before, with the same event in doubt
+pub record Keeps (IsWhole : List ℕ → List ℕ → Type 0) (old new : Option Log) (st : SpoolState) (earlier h : List Event) (f : Files) : Type 0 where
+  pub stands : StandsFor IsWhole new st earlier h f
+  pub images : (first : Log) → old ≡ Some first → RanAsBefore first new h (begun st.doubt f)
+
+-- a sealed block and a sealed index, both of this shelf
+pub record IsPairOf (home : ℕ) (block index : DraftOrigin) : Type 0 where
+  pub block_kind : block.kind ≡ kind.Block
+  pub index_kind : index.kind ≡ kind.Index
+  pub block_home : block.home ≡ home
+  pub index_home : index.home ≡ home

@@ -11,5 +11,5 @@ mod spool;
 mod state;
 
 pub use pair_rule::PairRule;
-pub use spool::Spool;
+pub use spool::{PublishErr, Spool};
 pub use state::{Doubt, Span};

@@ -1,9 +1,28 @@
-ghost use Rattle.std.specs.Prelude.{◌≡◌};
+ghost use Rattle.std.specs.Prelude.{Option, ◌≡◌, ◌≤◌, ◌<◌, ◌+◌, ◌-◌, ◌∷◌, [], ◌++◌, ℕ, List, None, Some, MatchResult};
+ghost use Rattle.st_base.specs.Faults.{HasCauseOf};
+ghost use Rattle.st_disk.specs.Disks.{Log};
+ghost use Rattle.st_disk.specs.Folders.{given};
+ghost use Rattle.st_disk.specs.Pairs.{Files};
+ghost use Rattle.st_disk.specs.Events.{Event};
+ghost use Rattle.st_spool.specs.Placing.{files, entry};
+ghost use Rattle.st_spool.specs.Standing.{StandsFor};
+ghost use Rattle.st_spool.specs.Publishing.{next_stamp, MayPublish, published, FailsToPublish, Publishes, Fails, IsPairOf};
 
 use crate::pair_rule::PairRule;
+use crate::settling::{Stopped, place};
 use crate::state::{Doubt, Span};
-use st_shelf::Shelf;
+use st_shelf::{Draft, SealedPair, Shelf};
 use std::marker::{Model, PhantomData};
+
+/// Why a pair was not published.
+pub enum PublishErr<T: Draft> {
+    /// The disk failed in this call. The spool refuses from now on.
+    DiskFault,
+    /// An earlier call failed, when the shelf's count of faults was `since`.
+    Halted { since: u64, pair: SealedPair<T> },
+    /// No stamp is left above `last`.
+    StampsSpent { last: u64, pair: SealedPair<T> },
+}
 
 pub struct Spool<D: Shelf, W: PairRule> {
     shelf: D,
@@ -48,10 +67,71 @@ impl<D: Shelf, W: PairRule> Model for Spool<D, W> {
 }
 
 impl<D: Shelf, W: PairRule> Spool<D, W> {
-    /// The limit, in pairs.
-    pub fn limit(&self) -> u32
-        ensures { result ≡ self.now.state.limit }
+    pub fn publish(
+        &mut self,
+        pair: SealedPair<D::Draft>,
+        floor: u64,
+    ) -> Result<u64, PublishErr<D::Draft>>
+        requires spare { 0 < self.old.spare }
+        requires pair { IsPairOf (D.id self.old.shelf)
+            (D.Draft.sealed_origin pair.block) (D.Draft.sealed_origin pair.index) }
+        requires whole { (log : Log) → D.log self.old.shelf ≡ Some log
+            → W.is_whole (given (D.Draft.sealed_bytes pair.block))
+            (given (D.Draft.sealed_bytes pair.index)) }
+        // what it does, if it is not refused
+        ensures published { (earlier h : List Event) (f : Files) → MayPublish self.old.state
+            → StandsFor W.is_whole (D.log self.old.shelf) self.old.state earlier h f
+            → let p = files (given (D.Draft.sealed_bytes pair.block))
+            (given (D.Draft.sealed_bytes pair.index)) in MatchResult result
+            (λ s. Publishes W.is_whole (D.log self.old.shelf) (D.log self.new.shelf)
+            self.new.state earlier h (entry s p) f)
+            (λ _. Fails W.is_whole (D.log self.old.shelf) (D.log self.new.shelf)
+            self.new.state earlier h p) }
+        ensures state { MayPublish self.old.state → MatchResult result
+            (λ s. (s ≡ next_stamp self.old.state.last floor)
+            × (self.new.state ≡ published self.old.state s))
+            (λ e. (e ≡ PublishErr.DiskFault) × FailsToPublish self.old.state self.new.state
+            (next_stamp self.old.state.last floor) (D.faults self.new.shelf)) }
+        // the refusals
+        ensures halted { (since : ℕ) → self.old.state.halted ≡ Some since
+            → (self.new ≡ self.old) × (result ≡ Err (PublishErr.Halted since pair)) }
+        ensures spent { self.old.state.halted ≡ None → self.old.state.last ≡ u64.MAX
+            → (self.new ≡ self.old)
+            × (result ≡ Err (PublishErr.StampsSpent self.old.state.last pair)) }
+        // the counts
+        ensures cause { HasCauseOf PublishErr.DiskFault (D.faults self.old.shelf)
+            (D.faults self.new.shelf) result }
+        ensures rest { (D.id self.new.shelf ≡ D.id self.old.shelf)
+            × (D.loans self.new.shelf ≡ D.loans self.old.shelf) }
     {
-        self.limit
+        if let Some(since) = self.halted {
+            return Err(PublishErr::Halted { since, pair });
+        }
+        if self.last == u64::MAX {
+            return Err(PublishErr::StampsSpent {
+                last: self.last,
+                pair,
+            });
+        }
+        let stamp = floor.max(self.last + 1);
+        match place(&mut self.shelf, pair, stamp) {
+            Ok(()) => {
+                self.last = stamp;
+                let _ = self.stamps.push(stamp);
+                Ok(stamp)
+            }
+            Err(Stopped::Before) => {
+                self.halted = Some(self.shelf.fault_count());
+                self.halts = self.halts.saturating_add(1);
+                self.doubt = Doubt::Unsettled(stamp);
+                Err(PublishErr::DiskFault)
+            }
+            Err(Stopped::After) => {
+                self.halted = Some(self.shelf.fault_count());
+                self.halts = self.halts.saturating_add(1);
+                self.doubt = Doubt::Settled(stamp);
+                Err(PublishErr::DiskFault)
+            }
+        }
     }
 }
