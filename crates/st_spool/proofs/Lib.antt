@@ -5,3 +5,5 @@ pub mod Sparing
 pub mod Histories
 pub mod Places
 pub mod Published
+pub mod Entering
+pub mod Gathered

@@ -1,5 +1,5 @@
 -- What an opening makes of a shelf.
-use Rattle.std.specs.Prelude.{◌≡◌, ◌≤◌, ◌⊎◌, ℕ, List, [], ◌∷◌, length, Option, None, Some, IsSome, ⊤}
+use Rattle.std.specs.Prelude.{◌≡◌, ◌<◌, ◌≤◌, ◌⊎◌, ◌↔◌, ℕ, List, [], ◌∷◌, length, Option, None, Some, IsSome, Contains, AllPairs, ⊤}
 use Rattle.st_disk.specs.declared.naming.Kind.TheVariants as kind
 use Rattle.st_disk.specs.declared.naming.Name.{Name}
 use Rattle.st_disk.specs.declared.naming.Name.TheVariants.{Block, Index, Parked, Draft}
@@ -44,12 +44,22 @@ found_row (Some block) (Some index) = Both (record { block = block; index = inde
 abbrev pub found_rows : Folder → ℕ → Row
 found_rows f s = found_row (f (Block s)) (f (Index s))
 
--- the name is no part of a pair, of these names
-abbrev pub IsStray : (Name → Type 0) → Name → Type 0
-IsStray P (Block s) = P (Index s) → ⊥
-IsStray P (Index s) = P (Block s) → ⊥
-IsStray P (Parked s) = ⊤
-IsStray P (Draft k d) = ⊤
+-- the name is that of one file of a pair, and the other one is among these names
+abbrev pub IsPart : (Name → Type 0) → Name → Type 0
+IsPart P (Block s) = P (Index s)
+IsPart P (Index s) = P (Block s)
+IsPart P (Parked s) = ⊥
+IsPart P (Draft k d) = ⊥
+
+-- these are just the names that are there
+abbrev pub AreThere : List Name → Folder → Type 0
+AreThere names f = (n : Name) → Contains names n ↔ IsSome (f n)
+
+-- the stamps, in order, of which both names hold P
+pub record ArePaired (P : Name → Type 0) (stamps : List ℕ) : Type 0 where
+  pub rises : AllPairs (λ s t. s < t) stamps
+  pub each : (s : ℕ) → Contains stamps s → P (Block s) × P (Index s)
+  pub all : (s : ℕ) → P (Block s) → P (Index s) → Contains stamps s
 
 -- the name has a stamp
 abbrev pub IsStamped : Name → Type 0
@@ -76,6 +86,12 @@ pub record Clears (first : Log) (known : Option Log) (Q : Folder → Type 0) : T
 -- an opening that failed: before both folders were flushed, or after
 abbrev pub FailsToEnter : Log → Option Log → Type 0
 FailsToEnter first known = Ran first known [] (Leaves first) (Leaves first) ⊎ Clears first known (SamePairs (reads first))
+
+-- an opening found the pairs of these stamps and this greatest stamp, and cleared the folders
+pub record Opens (first : Log) (known : Option Log) (stamps : List ℕ) (last : ℕ) : Type 0 where
+  pub paired : ArePaired (λ n. IsSome (reads first n)) stamps
+  pub greatest : IsLastStamp (λ n. IsSome (reads first n)) last
+  pub images : Clears first known (Is (pairs_alone (reads first)))
 
 -- the state of a spool that was opened just now
 abbrev pub opened : ℕ → List ℕ → ℕ → SpoolState

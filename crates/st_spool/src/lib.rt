@@ -5,11 +5,13 @@
 //! is there after one.
 #![tactic(auto)]
 
+mod opening;
 mod pair_rule;
 mod settling;
 mod spool;
 mod state;
 
+pub use opening::EnterErr;
 pub use pair_rule::PairRule;
 pub use spool::{PublishErr, Spool};
 pub use state::{Doubt, Span};
