@@ -7,3 +7,5 @@ pub mod Places
 pub mod Published
 pub mod Entering
 pub mod Gathered
+pub mod Clearing
+pub mod Finding

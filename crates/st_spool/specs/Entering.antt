@@ -7,6 +7,7 @@ use Rattle.st_disk.specs.declared.changes.Call.TheVariants.{Flush}
 use Rattle.st_disk.specs.Names.{number_of}
 use Rattle.st_disk.specs.Folders.{Folder}
 use Rattle.st_disk.specs.Disks.{Log, reads, Leaves, and_then}
+use Rattle.st_disk.specs.LoggedCalls.{Reads}
 use Rattle.st_disk.specs.Runs.{Ran}
 use Rattle.st_disk.specs.Pairs.{Entry, Files, PairsIn, both}
 use Rattle.st_disk.specs.Events.{Event, Found, events}
@@ -72,6 +73,11 @@ IsStamped (Draft k d) = ⊥
 pub record IsLastStamp (P : Name → Type 0) (last : ℕ) : Type 0 where
   pub above : (n : Name) → IsStamped n → P n → number_of n ≤ last
   pub some : (last ≡ 0) ⊎ ((n : Name) × IsStamped n × P n × (number_of n ≡ last))
+
+-- after a clearing there are just the pairs of what was read before
+abbrev pub ReadsCleared : Option Log → Option Log → List Name → Type 0
+ReadsCleared old new names =
+    (f : Folder) → AreThere names f → ((n : Name) → Reads old n (λ v. v ≡ f n)) → (n : Name) → Reads new n (λ v. v ≡ pairs_alone f n)
 
 -- the log with both folders flushed
 abbrev pub flushed_log : Log → Log

@@ -1,5 +1,5 @@
 // The calls of an opening: what is found, and the removal of what is no part of a pair.
-ghost use Rattle.std.specs.Prelude.{Option, ◌≡◌, ◌≤◌, ◌<◌, ◌↔◌, ℕ, List, [], None, Some, IsSome, IsTrue, IfOk, OnOk, OnErr, MatchOption, MatchResult, Contains, AllPairs};
+ghost use Rattle.std.specs.Prelude.{Option, ◌≡◌, ◌≤◌, ◌<◌, ◌↔◌, ℕ, List, [], None, Some, IsSome, IsTrue, false, IfOk, OnOk, OnErr, MatchOption, MatchResult, Contains, AllPairs};
 ghost use Rattle.st_base.specs.Faults.{HasCause, HasCauseOf};
 ghost use Rattle.st_disk.specs.declared.naming.Name.{Name};
 ghost use Rattle.st_disk.specs.declared.naming.Name.TheVariants.{Block, Index};
@@ -9,7 +9,7 @@ ghost use Rattle.st_disk.specs.Disks.{Log, Leaves};
 ghost use Rattle.st_disk.specs.Runs.{Each, Ran};
 ghost use Rattle.st_disk.specs.LoggedCalls.{Reads, KnownBefore};
 ghost use Rattle.st_spool.specs.Rows.{RanBy};
-ghost use Rattle.st_spool.specs.Entering.{pairs_alone, Is, SamePairs, found_rows, IsPart, AreThere, ArePaired, IsLastStamp, IsStamped, flushed_log, FailsToEnter, Opens};
+ghost use Rattle.st_spool.specs.Entering.{pairs_alone, Is, SamePairs, found_rows, IsPart, AreThere, ReadsCleared, ArePaired, IsLastStamp, IsStamped, flushed_log, FailsToEnter, Opens};
 
 use st_base::{Failed, NoMemory};
 use st_disk::number_of_name;
@@ -111,4 +111,99 @@ fn last_stamp(names: &[Name]) -> u64
         last = stamp.max(last);
     }
     last
+}
+
+// Some name is no part of a pair.
+fn has_strays(names: &[Name]) -> bool
+    ensures { result ≡ false → (n : Name) → Contains names.now n → IsPart (Contains names.now) n }
+{
+    'names: for i in 0..names.len() {
+        if !is_part(names, names[i]) {
+            return true;
+        }
+    }
+    false
+}
+
+// Removes each of these names, all that are there, that is no part of a pair.
+fn clear<D: Shelf>(shelf: &mut D, names: &[Name]) -> Result<(), Failed>
+    ensures cleared { (first : Log) (f : Folder) → AreThere names.now f
+        → RanBy first (D.log shelf.old) [] (found_rows f) (found_rows f)
+        → RanBy first (D.log shelf.new) [] (found_rows f) (found_rows f) }
+    ensures reads { OnOk result
+        (ReadsCleared (D.log shelf.old) (D.log shelf.new) names.now) }
+    ensures known { KnownBefore (D.log shelf.old) (D.log shelf.new) }
+    ensures cause { HasCause (D.faults shelf.old) (D.faults shelf.new) result }
+    ensures rest { (D.id shelf.new ≡ D.id shelf.old) × (D.loans shelf.new ≡ D.loans shelf.old) }
+{
+    'names: for i in 0..names.len() {
+        let name = names[i];
+        if is_part(names, name) {
+            continue;
+        }
+        if let Err(error) = shelf.remove(name) {
+            return Err(error);
+        }
+    }
+    Ok(())
+}
+
+// Clears the folders of what is no part of a pair, and makes that durable.
+fn tidy<D: Shelf>(shelf: &mut D, names: &[Name]) -> Result<(), Failed>
+    ensures tidied { (first : Log) (f : Folder) → AreThere names.now f
+        → D.log shelf.old ≡ Some first → Each first (Is f) → MatchResult result
+        (λ _. Ran first (D.log shelf.new) [] (SamePairs f) (Is (pairs_alone f)))
+        (λ _. Ran first (D.log shelf.new) [] (SamePairs f) (SamePairs f)) }
+    ensures known { KnownBefore (D.log shelf.old) (D.log shelf.new) }
+    ensures cause { HasCause (D.faults shelf.old) (D.faults shelf.new) result }
+    ensures rest { (D.id shelf.new ≡ D.id shelf.old) × (D.loans shelf.new ≡ D.loans shelf.old) }
+{
+    if !has_strays(names) {
+        return Ok(());
+    }
+    if let Err(error) = clear(shelf, names) {
+        return Err(error);
+    }
+    if let Err(error) = flush_both(shelf) {
+        return Err(error);
+    }
+    Ok(())
+}
+
+/// What an opening found: the stamps of all pairs, in order, and the greatest stamp of any file.
+#[derive(Drop)]
+pub(crate) struct Opening {
+    pub(crate) stamps: Vec<u64>,
+    pub(crate) last: u64,
+}
+
+// Makes durable what is there, and clears the folders of what is no part of a pair.
+pub(crate) fn open<D: Shelf>(alloc: Global, shelf: &mut D) -> Result<Opening, EnterErr>
+    ensures opened { (first : Log) → D.log shelf.old ≡ Some first → MatchResult result
+        (λ o. Opens first (D.log shelf.new) o.stamps.items o.last)
+        (λ _. FailsToEnter first (D.log shelf.new)) }
+    ensures stamps { IfOk result (λ o. AllPairs (λ s t. s < t) o.stamps.items
+        × ((s : ℕ) → Contains o.stamps.items s → s ≤ o.last)) }
+    ensures known { KnownBefore (D.log shelf.old) (D.log shelf.new) }
+    ensures cause { HasCauseOf EnterErr.DiskFault (D.faults shelf.old) (D.faults shelf.new) result }
+    ensures rest { (D.id shelf.new ≡ D.id shelf.old) × (D.loans shelf.new ≡ D.loans shelf.old) }
+{
+    if let Err(_) = flush_both(shelf) {
+        return Err(EnterErr::DiskFault);
+    }
+    let names = match shelf.list(alloc) {
+        Ok(names) => names,
+        Err(ListErr::DiskFault) => return Err(EnterErr::DiskFault),
+        Err(ListErr::NoMemory) => return Err(EnterErr::NoMemory),
+    };
+    let items = names.items();
+    let stamps = match pair_stamps(alloc, items) {
+        Ok(stamps) => stamps,
+        Err(_) => return Err(EnterErr::NoMemory),
+    };
+    let last = last_stamp(items);
+    if let Err(_) = tidy(shelf, items) {
+        return Err(EnterErr::DiskFault);
+    }
+    Ok(Opening { stamps, last })
 }
