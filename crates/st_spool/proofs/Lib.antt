@@ -9,3 +9,4 @@ pub mod Entering
 pub mod Gathered
 pub mod Clearing
 pub mod Finding
+pub mod Opened
