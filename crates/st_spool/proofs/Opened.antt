@@ -217,3 +217,10 @@ opened_stands W old known limit ss last before opens sorted = go known refl
         let was = before log is in
         let e = enters W was.0 known limit ss last (opens was.0 was.1) in
         (events was.0, Found e.pairs ∷ [], files [] [], e.stands (files [] []))
+
+-- the state of the new spool, by its parts
+pub opened_at : (P : SpoolState → Type 0) (limit last to : ℕ) (ss : List ℕ) (holds : List Span) → holds ≡ [] → to ≡ length ss → P (opened limit ss last)
+    → P (record (opened limit ss last) { holds = holds; asked = record { from = 0; to = to } })
+opened_at P limit last to ss holds none long has =
+    subst (λ (n : ℕ). P (record (opened limit ss last) { holds = holds; asked = record { from = 0; to = n } })) (sym long)
+    (subst (λ (hs : List Span). P (record (opened limit ss last) { holds = hs })) (sym none) has)

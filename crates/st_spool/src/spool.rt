@@ -1,17 +1,20 @@
-ghost use Rattle.std.specs.Prelude.{Option, ◌≡◌, ◌≤◌, ◌<◌, ◌+◌, ◌-◌, ◌∷◌, [], ◌++◌, ℕ, List, None, Some, MatchResult};
-ghost use Rattle.st_base.specs.Faults.{HasCauseOf};
+ghost use Rattle.std.specs.Prelude.{Option, ◌≡◌, ◌≤◌, ◌<◌, ◌+◌, ◌-◌, ◌∷◌, [], ◌++◌, ℕ, List, None, Some, IfOk, MatchResult};
+ghost use Rattle.st_base.specs.Faults.{Rose, HasCauseOf};
 ghost use Rattle.st_disk.specs.Disks.{Log};
 ghost use Rattle.st_disk.specs.Folders.{given};
 ghost use Rattle.st_disk.specs.Pairs.{Files};
 ghost use Rattle.st_disk.specs.Events.{Event};
 ghost use Rattle.st_spool.specs.Placing.{files, entry};
 ghost use Rattle.st_spool.specs.Standing.{StandsFor};
+ghost use Rattle.st_spool.specs.Entering.{opened, Enters, FailsToEnter};
 ghost use Rattle.st_spool.specs.Publishing.{next_stamp, MayPublish, published, FailsToPublish, Publishes, Fails, IsPairOf};
 
+use crate::opening::{EnterErr, Opening, open};
 use crate::pair_rule::PairRule;
 use crate::settling::{Stopped, place};
 use crate::state::{Doubt, Span};
 use st_shelf::{Draft, SealedPair, Shelf};
+use std::alloc::Global;
 use std::marker::{Model, PhantomData};
 
 /// Why a pair was not published.
@@ -22,6 +25,12 @@ pub enum PublishErr<T: Draft> {
     Halted { since: u64, pair: SealedPair<T> },
     /// No stamp is left above `last`.
     StampsSpent { last: u64, pair: SealedPair<T> },
+}
+
+/// A shelf over which no spool was opened, and why.
+pub struct NotEntered<D> {
+    pub cause: EnterErr,
+    pub shelf: D,
 }
 
 pub struct Spool<D: Shelf, W: PairRule> {
@@ -67,6 +76,52 @@ impl<D: Shelf, W: PairRule> Model for Spool<D, W> {
 }
 
 impl<D: Shelf, W: PairRule> Spool<D, W> {
+    /// Opens a spool over a shelf, whose pairs it takes as they are, without a look at a file. What
+    /// is no part of a pair is removed: drafts, parked indexes, a block or an index alone.
+    ///
+    /// The shelf comes back if memory runs out, or if its count of faults rose; then a crash leaves
+    /// the pairs that one might have left before the call.
+    pub fn enter(alloc: Global, shelf: D, limit: u32) -> Result<Spool<D, W>, NotEntered<D>>
+        requires { 1 ≤ limit }
+        ensures entered { (log : Log) → D.log shelf ≡ Some log → MatchResult result
+            (λ s. Enters W.is_whole log (D.log s.shelf) s.state)
+            (λ n. FailsToEnter log (D.log n.shelf)) }
+        ensures state { IfOk result
+            (λ s. s.state ≡ opened limit s.state.stamps s.state.last) }
+        // the counts
+        ensures cause { MatchResult result (λ s. D.faults s.shelf ≡ D.faults shelf)
+            (λ n. (D.faults shelf ≤ D.faults n.shelf) × (n.cause ≡ EnterErr.DiskFault
+            → Rose (D.faults shelf) (D.faults n.shelf))) }
+        ensures rest { MatchResult result
+            (λ s. (D.id s.shelf ≡ D.id shelf) × (D.loans s.shelf ≡ D.loans shelf))
+            (λ n. (D.id n.shelf ≡ D.id shelf) × (D.loans n.shelf ≡ D.loans shelf)) }
+    {
+        let mut shelf = shelf;
+        match open(alloc, &mut shelf) {
+            Ok(Opening { stamps, last }) => {
+                let asked = Span {
+                    from: 0,
+                    to: stamps.len(),
+                };
+                Ok(Spool {
+                    shelf,
+                    limit,
+                    stamps,
+                    removed: 0,
+                    last,
+                    holds: Vec::new(alloc),
+                    doubt: Doubt::Nothing,
+                    halted: None,
+                    halts: 0,
+                    asks: 0,
+                    asked,
+                    rule: PhantomData,
+                })
+            }
+            Err(cause) => Err(NotEntered { cause, shelf }),
+        }
+    }
+
     pub fn publish(
         &mut self,
         pair: SealedPair<D::Draft>,
