@@ -4,6 +4,8 @@ pub mod Stages
 pub mod Sparing
 pub mod Histories
 pub mod Places
+pub mod Aged
+pub mod Giving
 pub mod Published
 pub mod Entering
 pub mod Gathered

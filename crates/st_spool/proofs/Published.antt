@@ -20,7 +20,8 @@ use Rattle.st_spool.specs.Standing.{StandsFor, OnDisk, IsCalm, IsHidden, Gives, 
 use Rattle.st_spool.specs.Publishing.{RanTo, RanInDoubt}
 use Rattle.st_spool.specs.declared.state.Doubt.{Doubt}
 use Rattle.st_spool.specs.declared.state.Doubt.TheVariants as doubt
-use Rattle.st_spool.proofs.Setting.{sure_set, either_set}
+use Rattle.st_spool.proofs.Giving.{free as free_row, set_more_is, coming_sets, half_sets}
+use Rattle.st_spool.proofs.Setting.{sure_set}
 use Rattle.st_spool.proofs.Stages.{at_least}
 use Rattle.st_spool.proofs.Histories.{set_more, entries_more, legal_more, after_more, whole_more, whole_first}
 use Rattle.st_spool.proofs.Places.{rows_free, rows_published, rows_sure, rows_set, file_set_more, file_set_drop, up_to_drop, up_to_more, drop_more}
@@ -53,19 +54,10 @@ module _ (W : List ℕ → List ℕ → Type 0) (old new : Option Log) (st : Spo
   none = calm_doubt st.halted st.doubt st.halts running stands.calm
 
   free : rows_of st.removed st.holds st.last (entries_of h) t ≡ Free
-  free = rows_free st.removed st.last st.holds (entries_of h) t stands.last more
+  free = free_row W old st earlier h k stands t f more
 
   entries : entries_of (h ++ Publish (entry t f) ∷ []) ≡ entries_of h ++ entry t f ∷ []
   entries = entries_more [] h (Publish (entry t f))
-
-  set : set_of (h ++ Publish (entry t f) ∷ []) ≡ drop st.removed (entries_of h) ++ entry t f ∷ []
-  set = set_more [] h (Publish (entry t f)) ∙ ap (λ (s : List Entry). s ++ entry t f ∷ []) stands.set
-
-  is_set : IsSetOf (rows_of st.removed st.holds st.last (entries_of h)) (drop st.removed (entries_of h))
-  is_set = rows_set st.removed st.last st.holds (entries_of h) stands.rises
-
-  rises_set : IsFileSet (drop st.removed (entries_of h) ++ entry t f ∷ [])
-  rises_set = file_set_more st.last (drop st.removed (entries_of h)) (entry t f) (up_to_drop st.last st.removed (entries_of h) stands.last) more (file_set_drop st.removed (entries_of h) stands.rises)
 
   rises_all : IsFileSet (entries_of h ++ entry t f ∷ [])
   rises_all = file_set_more st.last (entries_of h) (entry t f) stands.last more stands.rises
@@ -80,20 +72,6 @@ module _ (W : List ℕ → List ℕ → Type 0) (old new : Option Log) (st : Spo
   whole_calm : (l : Log) → old ≡ Some l → PublishWhole W h
   whole_calm l known = whole_first W h (in_doubt st.doubt k) (stands.disk l known).whole
 
-  coming_sets : (c : Folder) → Has (set_row (rows_of st.removed st.holds st.last (entries_of h)) t (Coming f)) c → Either (set_of h) (set_of (h ++ Publish (entry t f) ∷ [])) c
-  coming_sets c has =
-      subst (λ (s : List Entry). Either (set_of h) s c) (sym set)
-      (subst (λ (s : List Entry). Either s (drop st.removed (entries_of h) ++ entry t f ∷ []) c) (sym stands.set)
-        (either_set (rows_of st.removed st.holds st.last (entries_of h)) t (Coming f) (drop st.removed (entries_of h)) (drop st.removed (entries_of h) ++ entry t f ∷ []) c (rows_sure st.removed st.last st.holds (entries_of h)) is_set (sym (ap pair_before free)) rises_set
-          (λ s. files_more (entry t f) (drop st.removed (entries_of h)) s (is_set.each t ∙ ap pair_before free)) has))
-
-  half_sets : (c : Folder) → Has (set_row (rows_of st.removed st.holds st.last (entries_of h)) t (Half f)) c → PairsIn c (set_of h)
-  half_sets c has =
-      subst (λ (s : List Entry). PairsIn c s) (sym stands.set)
-      (⊎_elim (λ (p : PairsIn c (drop st.removed (entries_of h))). p) (λ (p : PairsIn c (drop st.removed (entries_of h))). p)
-        (either_set (rows_of st.removed st.holds st.last (entries_of h)) t (Half f) (drop st.removed (entries_of h)) (drop st.removed (entries_of h)) c (rows_sure st.removed st.last st.holds (entries_of h)) is_set (sym (ap pair_before free)) is_set.rises
-          (at_least (rows_of st.removed st.holds st.last (entries_of h)) t (drop st.removed (entries_of h)) (Half f) is_set (sym (ap pair_before free))) has))
-
   done_rows : (c : Folder) → Has (set_row (rows_of st.removed st.holds st.last (entries_of h)) t (Pair f)) c → Has (rows_of st.removed st.holds t (entries_of (h ++ Publish (entry t f) ∷ []))) c
   done_rows c has =
       subst (λ (es : List Entry). Has (rows_of st.removed st.holds t es) c) (sym entries) (rows_published st.removed st.last st.holds (entries_of h) (entry t f) stands.last more stands.within c has)
@@ -102,7 +80,7 @@ module _ (W : List ℕ → List ℕ → Type 0) (old new : Option Log) (st : Spo
   rises_new = subst IsFileSet (sym entries) rises_all
 
   set_new : set_of (h ++ Publish (entry t f) ∷ []) ≡ drop st.removed (entries_of (h ++ Publish (entry t f) ∷ []))
-  set_new = set ∙ sym (drop_more st.removed (entries_of h) (entry t f) stands.within) ∙ ap (drop st.removed) (sym entries)
+  set_new = set_more_is W old st earlier h k stands t f more ∙ sym (drop_more st.removed (entries_of h) (entry t f) stands.within) ∙ ap (drop st.removed) (sym entries)
 
   done_sets : (c : Folder) → Has (set_row (rows_of st.removed st.holds st.last (entries_of h)) t (Pair f)) c → PairsIn c (set_of (h ++ Publish (entry t f) ∷ []))
   done_sets c has =
@@ -146,7 +124,7 @@ module _ (W : List ℕ → List ℕ → Type 0) (old new : Option Log) (st : Spo
   pub published_images : (l : Log) → old ≡ Some l → ((l : Log) (rows : ℕ → Row) → old ≡ Some l → Each l (Has rows) → rows t ≡ Free → RanBy l new (Publish (entry t f) ∷ []) (set_row rows t (Coming f)) (set_row rows t (Pair f)))
       → RanTo l new h (Publish (entry t f))
   published_images l known placed =
-      ran_widen l new (Publish (entry t f) ∷ []) (Has (set_row (rows_of st.removed st.holds st.last (entries_of h)) t (Coming f))) (Has (set_row (rows_of st.removed st.holds st.last (entries_of h)) t (Pair f))) (Gives h (Publish (entry t f) ∷ [])) (λ c. PairsIn c (set_of (h ++ Publish (entry t f) ∷ []))) coming_sets done_sets
+      ran_widen l new (Publish (entry t f) ∷ []) (Has (set_row (rows_of st.removed st.holds st.last (entries_of h)) t (Coming f))) (Has (set_row (rows_of st.removed st.holds st.last (entries_of h)) t (Pair f))) (Gives h (Publish (entry t f) ∷ [])) (λ c. PairsIn c (set_of (h ++ Publish (entry t f) ∷ []))) (coming_sets W old st earlier h k stands t f more) done_sets
       (placed l (rows_of st.removed st.holds st.last (entries_of h)) known (each_row l known) free)
 
   -- a publication that failed leaves the history
@@ -187,13 +165,13 @@ module _ (W : List ℕ → List ℕ → Type 0) (old new : Option Log) (st : Spo
 
   pub unsettled_images : (l : Log) → old ≡ Some l → ((l : Log) (rows : ℕ → Row) → old ≡ Some l → Each l (Has rows) → rows t ≡ Free → RanBy l new [] (set_row rows t (Half f)) (set_row rows t (Half f))) → RanInDoubt l new h []
   unsettled_images l known placed =
-      ran_widen l new [] (Has (set_row (rows_of st.removed st.holds st.last (entries_of h)) t (Half f))) (Has (set_row (rows_of st.removed st.holds st.last (entries_of h)) t (Half f))) (Gives h []) (Gives h []) half_sets half_sets
+      ran_widen l new [] (Has (set_row (rows_of st.removed st.holds st.last (entries_of h)) t (Half f))) (Has (set_row (rows_of st.removed st.holds st.last (entries_of h)) t (Half f))) (Gives h []) (Gives h []) (half_sets W old st earlier h k stands t f more) (half_sets W old st earlier h k stands t f more)
       (placed l (rows_of st.removed st.holds st.last (entries_of h)) known (each_row l known) free)
 
   pub settled_images : (l : Log) → old ≡ Some l → ((l : Log) (rows : ℕ → Row) → old ≡ Some l → Each l (Has rows) → rows t ≡ Free → RanBy l new (Publish (entry t f) ∷ []) (set_row rows t (Coming f)) (set_row rows t (Coming f)))
       → RanInDoubt l new h (Publish (entry t f) ∷ [])
   settled_images l known placed =
-      ran_widen l new (Publish (entry t f) ∷ []) (Has (set_row (rows_of st.removed st.holds st.last (entries_of h)) t (Coming f))) (Has (set_row (rows_of st.removed st.holds st.last (entries_of h)) t (Coming f))) (Gives h (Publish (entry t f) ∷ [])) (Gives h (Publish (entry t f) ∷ [])) coming_sets coming_sets
+      ran_widen l new (Publish (entry t f) ∷ []) (Has (set_row (rows_of st.removed st.holds st.last (entries_of h)) t (Coming f))) (Has (set_row (rows_of st.removed st.holds st.last (entries_of h)) t (Coming f))) (Gives h (Publish (entry t f) ∷ [])) (Gives h (Publish (entry t f) ∷ [])) (coming_sets W old st earlier h k stands t f more) (coming_sets W old st earlier h k stands t f more)
       (placed l (rows_of st.removed st.holds st.last (entries_of h)) known (each_row l known) free)
 
   free_fits : (l : Log) → old ≡ Some l → Fits Free (reads l (Block t)) (reads l (Index t)) (reads l (Parked t))
