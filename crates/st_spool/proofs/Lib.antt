@@ -12,3 +12,5 @@ pub mod Gathered
 pub mod Clearing
 pub mod Finding
 pub mod Opened
+pub mod Kept
+pub mod Holds

@@ -4,6 +4,8 @@ pub mod Placing
 pub mod States
 pub mod Standing
 pub mod Publishing
+pub mod Holding
+pub mod Lending
 pub mod Entering
 pub use Rattle.st_disk.specs.Events
 pub use Rattle.st_disk.specs.Pairs

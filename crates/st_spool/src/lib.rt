@@ -13,5 +13,5 @@ mod state;
 
 pub use opening::EnterErr;
 pub use pair_rule::PairRule;
-pub use spool::{NotEntered, PublishErr, Spool};
+pub use spool::{DiskFault, Hold, NotEntered, PublishErr, Spool};
 pub use state::{Doubt, Span};
