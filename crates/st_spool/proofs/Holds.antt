@@ -1,5 +1,5 @@
 -- Holds: the rows under them, and the bytes that they keep.
-use Rattle.std.proofs.Common.{◌≡◌, ◌<◌, ◌≤◌, ◌+◌, ◌-◌, ◌⊎◌, ℕ, zero, suc, List, [], ◌∷◌, ◌++◌, length, drop, take, map, Option, None, Some, IsSome, Result, Bool, true, false, ◌&&◌, ◌||◌, cond, nat_eq, nat_lt, nat_le, Contains, refl, sym, ◌∙◌, ap, subst, inl, inr, ⊎_elim, arith, length-drop}
+use Rattle.std.proofs.Common.{◌≡◌, ◌<◌, ◌≤◌, ◌+◌, ◌-◌, ◌⊎◌, ℕ, zero, suc, List, [], ◌∷◌, ◌++◌, length, get_or, drop, take, map, Option, None, Some, IsSome, Result, Bool, true, false, ◌&&◌, ◌||◌, cond, nat_eq, nat_lt, nat_le, Contains, refl, sym, ◌∙◌, ap, subst, inl, inr, ⊎_elim, arith, length-drop}
 use Rattle.std.specs.List.{list_any}
 use Rattle.std.proofs.lemmas.Bool.Decides.{nat_tests}
 use Rattle.std.proofs.lemmas.List.Elements.{Contains-push_cases, at_from_Contains}
@@ -14,7 +14,7 @@ use Rattle.st_disk.specs.Pairs.{Entry, Files, files_of, IsFileSet}
 use Rattle.st_disk.proofs.Images.{leaves_now}
 use Rattle.st_spool.specs.Rows.{Row, Free, Half, Coming, Pair, Going, Held, Past, Fits, Has, set_row}
 use Rattle.st_spool.specs.History.{set_of, entries_of}
-use Rattle.st_spool.specs.States.{SpoolState, rows_of, rows_by, row_at, with_doubt, MayBe, AreUpTo, IsWithin, AreWithin, place_in, Placement, covers, held}
+use Rattle.st_spool.specs.States.{SpoolState, SpoolView, rows_of, rows_by, row_at, with_doubt, MayBe, AreUpTo, IsWithin, AreWithin, place_in, Placement, covers, held}
 use Rattle.st_spool.specs.Standing.{StandsFor, OnDisk, IsHidden, stamp_of}
 use Rattle.st_spool.specs.Holding.{is_parked, index_name}
 use Rattle.st_spool.specs.declared.state.Span.{Span}
@@ -227,3 +227,47 @@ held_published span h e within =
 
 pub held_removed : (span : Span) (h : List Event) (s : ℕ) → held span (h ++ Remove s ∷ []) ≡ held span h
 held_removed span h s = ap (λ (es : List Entry). take (span.to - span.from) (drop span.from es)) (entries_more [] h (Remove s))
+
+-- what is required of a hold, of the spool and the hold that were opened
+pub held_here : {D : Type 0} (seen old : SpoolView D) (a b : Span) → seen ≡ old → a ≡ b → Contains old.state.holds b → Contains seen.state.holds a
+held_here {D} seen old a b same is has = subst (λ (s : Span). Contains seen.state.holds s) (sym is) (subst (λ (s : SpoolView D). Contains s.state.holds b) (sym same) has)
+
+pub size_here : (a b : Span) (i : ℕ) → a ≡ b → i < b.to - b.from → i < a.to - a.from
+size_here a b i is lt = subst (λ (s : Span). i < s.to - s.from) (sym is) lt
+
+length_taken : (n : ℕ) (es : List Entry) → n ≤ length es → length (take n es) ≡ n
+length_taken zero es le = refl
+length_taken (suc n) [] le = absurd (omega arith)
+length_taken (suc n) (e ∷ es) le = let more = length_taken n es (omega arith) in omega arith
+
+pub length_held : (span : Span) (h : List Event) → IsWithin (length (entries_of h)) span → span.to - span.from ≡ length (held span h)
+length_held span h within =
+    let le : span.from ≤ span.to = within.0 in
+    let to : span.to ≤ length (entries_of h) = within.1 in
+    let room : length (drop span.from (entries_of h)) ≡ length (entries_of h) - span.from = length-drop span.from (entries_of h) in
+    sym (length_taken (span.to - span.from) (drop span.from (entries_of h)) (omega arith))
+
+some_first : (a b : List Entry) (d e : Entry) → ◌≡◌ {A = List Entry} (d ∷ a) (e ∷ b) → d ≡ e
+some_first a b d e h = cc
+
+-- the entry that a hold has at a place, in the list of all
+pub held_entry : (span : Span) (h : List Event) (i : ℕ) (e : Entry) (after : List Entry) → drop i (held span h) ≡ e ∷ after → (rest : List Entry) × (drop (span.from + i) (entries_of h) ≡ e ∷ rest)
+held_entry span h i e after at =
+    let taken = taken_at i (span.to - span.from) (drop span.from (entries_of h)) e after at in
+    (taken.0, sym (drop-drop i span.from (entries_of h)) ∙ taken.1)
+
+pub stamp_at : (W : List ℕ → List ℕ → Type 0) (known : Option Log) (st : SpoolState) (earlier h : List Event) (k : Files) (n stamp : ℕ) (e : Entry) (rest : List Entry) → StandsFor W known st earlier h k → n < length (entries_of h) → drop n (entries_of h) ≡ e ∷ rest → stamp ≡ get_or st.stamps n 0 → stamp ≡ e.stamp
+stamp_at W known st earlier h k n stamp e rest stands lt is at =
+    let r = split_at n (entries_of h) lt in
+    at ∙ ap (λ (xs : List ℕ). get_or xs n 0) (sym stands.stamps) ∙ r.3 ∙ ap stamp_of (some_first r.1 rest r.0 e (sym r.2 ∙ is))
+
+-- some entry is there
+pub entry_at : (W : List ℕ → List ℕ → Type 0) (known : Option Log) (st : SpoolState) (earlier h : List Event) (k : Files) (n stamp : ℕ) → StandsFor W known st earlier h k → n < length (entries_of h) → stamp ≡ get_or st.stamps n 0 → (e : Entry) × (rest : List Entry) × (drop n (entries_of h) ≡ e ∷ rest) × (stamp ≡ e.stamp)
+entry_at W known st earlier h k n stamp stands lt at =
+    let r = split_at n (entries_of h) lt in (r.0, r.1, r.2, stamp_at W known st earlier h k n stamp r.0 r.1 stands lt r.2 at)
+
+pub is_there : (o : Option (List ℕ)) (x : List ℕ) → o ≡ Some x → IsSome o
+is_there o x e = subst (λ (v : Option (List ℕ)). IsSome v) (sym e) refl
+
+pub long_list : (W : List ℕ → List ℕ → Type 0) (known : Option Log) (st : SpoolState) (earlier h : List Event) (k : Files) (n : ℕ) → StandsFor W known st earlier h k → n ≡ length st.stamps → n ≡ length (entries_of h)
+long_list W known st earlier h k n stands is = is ∙ ap length (sym stands.stamps) ∙ length-map (entries_of h) stamp_of

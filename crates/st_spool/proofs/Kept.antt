@@ -17,7 +17,7 @@ use Rattle.st_disk.proofs.Reading.{known_log, reads_still, reads_looked, other_s
 use Rattle.st_disk.proofs.Runs.{ran_widen, ran_looks, ran_other, ran_quiet, ran_abandon, each_did, each_other, known_does, known_looks, known_adds}
 use Rattle.st_spool.specs.Rows.{Row, Has, RanBy}
 use Rattle.st_spool.specs.History.{entries_of}
-use Rattle.st_spool.specs.States.{SpoolState, rows_by}
+use Rattle.st_spool.specs.States.{SpoolState, SpoolView, rows_by}
 use Rattle.st_spool.specs.Standing.{StandsFor, OnDisk, IsHidden, Gives, begun, after_found}
 use Rattle.st_spool.specs.Publishing.{Keeps, RanAsBefore}
 use Rattle.st_spool.specs.declared.state.Doubt.{Doubt}
@@ -97,3 +97,20 @@ abandon_keeps old new kind number own before now abandon = record {
   ran = λ first rows run. abandons first [] rows old new kind number own before now run abandon;
   hidden = λ t none. ⊎_elim (λ adds. reads_removing old new (Draft kind number) (Index t) (λ v. v ≡ None) (λ same. refl) none adds.0) (λ look. reads_looked old new (Index t) (λ v. v ≡ None) none look.0) abandon;
 }
+
+-- a spool that stands for some history stands for it after the call
+pub keeps_some : (W : List ℕ → List ℕ → Type 0) (old new : Option Log) (st : SpoolState) → KeepsRows old new → (earlier : List Event) × (h : List Event) × (k : Files) × StandsFor W old st earlier h k → (earlier : List Event) × (h : List Event) × (k : Files) × StandsFor W new st earlier h k
+keeps_some W old new st keeps was = (was.0, was.1, was.2, (keeps_rows W old new st was.0 was.1 was.2 keeps was.3).stands)
+
+-- a clause speaks of the spool as the call began, which is the one that was opened
+pub keeps_from : {D : Type 0} (W : List ℕ → List ℕ → Type 0) (log : D → Option Log) (seen old : SpoolView D) (new : Option Log) (earlier h : List Event) (k : Files) → seen ≡ old → KeepsRows (log seen.shelf) new → StandsFor W (log old.shelf) old.state earlier h k
+    → Keeps W (log old.shelf) new seen.state earlier h k
+keeps_from {D} W log seen old new earlier h k same keeps stands =
+    subst (λ (s : SpoolView D). Keeps W (log s.shelf) new seen.state earlier h k) same
+    (keeps_rows W (log seen.shelf) new seen.state earlier h k keeps (subst (λ (s : SpoolView D). StandsFor W (log s.shelf) s.state earlier h k) (sym same) stands))
+
+pub stands_from : {D : Type 0} (W : List ℕ → List ℕ → Type 0) (log : D → Option Log) (seen old : SpoolView D) (earlier h : List Event) (k : Files) → seen ≡ old → StandsFor W (log old.shelf) old.state earlier h k → StandsFor W (log seen.shelf) seen.state earlier h k
+stands_from {D} W log seen old earlier h k same stands = subst (λ (s : SpoolView D). StandsFor W (log s.shelf) s.state earlier h k) (sym same) stands
+
+pub known_from : {D : Type 0} (log : D → Option Log) (seen old : SpoolView D) (l : Log) → seen ≡ old → log old.shelf ≡ Some l → log seen.shelf ≡ Some l
+known_from {D} log seen old l same known = ap (λ (s : SpoolView D). log s.shelf) same ∙ known

@@ -51,11 +51,14 @@ pub struct Hold {
 }
 
 impl Model for Hold {
+    ghost use Rattle.std.specs.Prelude.{◌≤◌};
     ghost use Rattle.st_spool.specs.declared.state.Span.{Span};
 
     ghost Value = { Span };
 
     ghost view = { λ a. a.span };
+
+    ghost invariant = { λ a. a.span.from ≤ a.span.to };
 }
 
 pub struct Spool<D: Shelf, W: PairRule> {
