@@ -6,6 +6,8 @@ use Rattle.std.proofs.lemmas.List.Elements.{Contains-push_cases, at_from_Contain
 use Rattle.std.proofs.lemmas.List.Folds.{list_any-append, list_any_at}
 use Rattle.std.proofs.lemmas.List.{drop-drop, take-append-le, length-map}
 use Rattle.st_disk.specs.declared.naming.Name.TheVariants.{Block, Index, Parked}
+use Rattle.st_disk.specs.declared.naming.Name.{Name}
+use Rattle.st_disk.specs.LoggedCalls.{Shows}
 use Rattle.st_disk.specs.Folders.{Folder}
 use Rattle.st_disk.specs.Disks.{Log, reads}
 use Rattle.st_disk.specs.Events.{Event, Publish, Remove}
@@ -271,3 +273,8 @@ is_there o x e = subst (λ (v : Option (List ℕ)). IsSome v) (sym e) refl
 
 pub long_list : (W : List ℕ → List ℕ → Type 0) (known : Option Log) (st : SpoolState) (earlier h : List Event) (k : Files) (n : ℕ) → StandsFor W known st earlier h k → n ≡ length st.stamps → n ≡ length (entries_of h)
 long_list W known st earlier h k n stands is = is ∙ ap length (sym stands.stamps) ∙ length-map (entries_of h) stamp_of
+
+-- a file that is lent under the name of an index shows it
+pub shown : (b : Bool) (s : ℕ) (name : Name) (content : Option (List ℕ)) (f : Folder) → name ≡ index_name b s → Shows name content (f name) → content ≡ f (index_name b s)
+shown true s name content f is shows = subst (λ (n : Name). Shows n content (f n)) is shows
+shown false s name content f is shows = subst (λ (n : Name). Shows n content (f n)) is shows

@@ -347,10 +347,10 @@ impl<D: Shelf, W: PairRule> Spool<D, W> {
         ensures id { D.id self.new.shelf ≡ D.id self.old.shelf }
     {
         let stamp = self.stamps[hold.span.from + i];
-        match self.shelf.reader(Name::Block(stamp)) {
-            Ok(file) => Ok(file),
-            Err(_) => Err(DiskFault),
-        }
+        let Ok(file) = self.shelf.reader(Name::Block(stamp)) else {
+            return Err(DiskFault);
+        };
+        Ok(file)
     }
 
     /// Lends the index file of the pair with this index in a hold of this spool, from 0 on, by
@@ -378,13 +378,14 @@ impl<D: Shelf, W: PairRule> Spool<D, W> {
         ensures cause { HasCause (D.faults self.old.shelf) (D.faults self.new.shelf) result }
         ensures id { D.id self.new.shelf ≡ D.id self.old.shelf }
     {
+        let doubt = self.doubt;
         let place = hold.span.from + i;
         let stamp = self.stamps[place];
-        let name = index_file(self.doubt, self.removed, place, stamp);
-        match self.shelf.reader(name) {
-            Ok(file) => Ok(file),
-            Err(_) => Err(DiskFault),
-        }
+        let name = index_file(doubt, self.removed, place, stamp);
+        let Ok(file) = self.shelf.reader(name) else {
+            return Err(DiskFault);
+        };
+        Ok(file)
     }
 
     /// Takes a file back that this spool's shelf lent. If the file's count of faults had risen, the
