@@ -1,0 +1,16 @@
+pub mod Keeping
+pub mod Setting
+pub mod Stages
+pub mod Sparing
+pub mod Histories
+pub mod Places
+pub mod Aged
+pub mod Giving
+pub mod Published
+pub mod Entering
+pub mod Gathered
+pub mod Clearing
+pub mod Finding
+pub mod Opened
+pub mod Kept
+pub mod Holds

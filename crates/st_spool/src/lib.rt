@@ -4,3 +4,14 @@
 //! removals, in order. `specs/History.antt` says which histories there may be, and which file set
 //! is there after one.
 #![tactic(auto)]
+
+mod opening;
+mod pair_rule;
+mod settling;
+mod spool;
+mod state;
+
+pub use opening::EnterErr;
+pub use pair_rule::PairRule;
+pub use spool::{DiskFault, Hold, NotEntered, PublishErr, Spool};
+pub use state::{Doubt, Span};
