@@ -57,7 +57,7 @@ all_alone names f there part n =
     (λ no. ⊎_elim (λ none. none ∙ sym no.1) (λ some. absurd (no.0 (part_more (Contains names) (λ m. IsSome (f m)) n (λ m has. (there m).0 has) (part n ((there n).1 some))))) (nothing_or (f n))) (alone_cases f n)
 
 -- a name that was removed is not read
-removed_here : (old new : Option Log) (m : Name) → Adds old new (removal old m) → Reads new m (λ v. v ≡ None)
+pub removed_here : (old new : Option Log) (m : Name) → Adds old new (removal old m) → Reads new m (λ v. v ≡ None)
 removed_here old new m adds log is =
     let prior = known_before old new (removal old m) log is adds in
     let now : log ≡ and_then prior.0 (removal (Some prior.0) m) = prior.2 ∙ ap (λ (o : Option Log). and_then prior.0 (removal o m)) prior.1 in

@@ -14,3 +14,4 @@ pub mod Finding
 pub mod Opened
 pub mod Kept
 pub mod Holds
+pub mod Swept

@@ -10,13 +10,14 @@ use Rattle.st_spool.specs.declared.state.Doubt.{Doubt}
 use Rattle.st_spool.specs.declared.state.Doubt.TheVariants.{Nothing, Unsettled, Settled, Unhidden, Hidden}
 
 -- The limit in pairs; the stamps of all pairs that were found or published, in order, of which so
--- many, the first ones, were removed; the greatest stamp so far; the sets that are held; the event
+-- many, the first ones, were removed, and of these so many have no file left; the greatest stamp; the sets that are held; the event
 -- in doubt; where a call failed, the shelf's count of faults then, and how many calls failed so; how
 -- many holds were given, and the set of the last one.
 pub record SpoolState : Type 0 where
   pub limit : ℕ
   pub stamps : List ℕ
   pub removed : ℕ
+  pub swept : ℕ
   pub last : ℕ
   pub holds : List Span
   pub doubt : Doubt

@@ -10,6 +10,7 @@ mod pair_rule;
 mod settling;
 mod spool;
 mod state;
+mod sweeping;
 
 pub use opening::EnterErr;
 pub use pair_rule::PairRule;

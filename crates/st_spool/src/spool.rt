@@ -66,6 +66,7 @@ pub struct Spool<D: Shelf, W: PairRule> {
     limit: u32,
     stamps: Vec<u64>,
     removed: usize,
+    swept: usize,
     last: u64,
     holds: Vec<Span>,
     doubt: Doubt,
@@ -88,7 +89,8 @@ impl<D: Shelf, W: PairRule> Model for Spool<D, W> {
     ghost view = { λ a. record {
       shelf = a.shelf;
       state = record {
-        limit = a.limit; stamps = a.stamps.items; removed = a.removed; last = a.last;
+        limit = a.limit; stamps = a.stamps.items; removed = a.removed;
+        swept = a.swept; last = a.last;
         holds = a.holds.items; doubt = a.doubt; halted = a.halted; halts = a.halts;
         asks = a.asks; asked = a.asked;
       };
@@ -97,7 +99,8 @@ impl<D: Shelf, W: PairRule> Model for Spool<D, W> {
 
     ghost invariant = { λ a. (earlier : List Event) × (h : List Event) × (f : Files)
         × StandsFor W.is_whole (D.log a.shelf) (record {
-        limit = a.limit; stamps = a.stamps.items; removed = a.removed; last = a.last;
+        limit = a.limit; stamps = a.stamps.items; removed = a.removed;
+        swept = a.swept; last = a.last;
         holds = a.holds.items; doubt = a.doubt; halted = a.halted; halts = a.halts;
         asks = a.asks; asked = a.asked;
       }) earlier h f };
@@ -136,6 +139,7 @@ impl<D: Shelf, W: PairRule> Spool<D, W> {
                     limit,
                     stamps,
                     removed: 0,
+                    swept: 0,
                     last,
                     holds: Vec::new(alloc),
                     doubt: Doubt::Nothing,
@@ -418,6 +422,7 @@ impl<D: Shelf, W: PairRule> Spool<D, W> {
             limit: _limit,
             stamps: _stamps,
             removed: _removed,
+            swept: _swept,
             last: _last,
             holds: _holds,
             doubt: _doubt,
