@@ -21,8 +21,8 @@ pub record GivesAllBack (before now : LoansView) : Type 0 where
   pub exact : before.lent + 2 < 2 ^ 64 → now.lent ≡ before.lent
   pub peak : now.peak ≤ max before.peak (before.lent + 2)
 
--- calls on a spool changed no pair, left its state and gave back what they were lent
-pub record Stays {D : Type 0} (log : D → Option Log) (id faults : D → ℕ) (loans : D → LoansView)
+-- calls on a spool changed no pair, and left its state and its shelf's number
+pub record KeepsSpool {D : Type 0} (log : D → Option Log) (id faults : D → ℕ)
     (old new : SpoolView D) : Type 0 where
   pub keeps : (earlier h : List Event) (f : Files)
       → StandsFor IsWholePair (log old.shelf) old.state earlier h f
@@ -30,6 +30,11 @@ pub record Stays {D : Type 0} (log : D → Option Log) (id faults : D → ℕ) (
   pub state : new ≡ record old { shelf = new.shelf }
   pub id_is : id new.shelf ≡ id old.shelf
   pub later : faults old.shelf ≤ faults new.shelf
+
+-- and all files that they were lent came back
+pub record Stays {D : Type 0} (log : D → Option Log) (id faults : D → ℕ) (loans : D → LoansView)
+    (old new : SpoolView D) : Type 0 where
+  pub kept : KeepsSpool log id faults old new
   pub back : GivesAllBack (loans old.shelf) (loans new.shelf)
 
 -- An output's count never falls. It rose where writing failed, and stayed where the command ended in

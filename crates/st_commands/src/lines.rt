@@ -1,6 +1,6 @@
 //! The text of the lines. Source: docs/FORMAT.md, "Output of commands".
 
-ghost use Rattle.std.specs.Prelude.{◌≡◌, ◌/◌, ◌%◌, IfOk, string_bytes};
+ghost use Rattle.std.specs.Prelude.{◌≡◌, ◌≢◌, ◌/◌, ◌%◌, IfOk, string_bytes};
 ghost use Rattle.st_eval.specs.Selection.{summary_view};
 ghost use Rattle.st_commands.specs.Lines.{digit_text, nine_digits, moment_text, part_text, summary_line, verdict_line};
 
