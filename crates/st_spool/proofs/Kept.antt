@@ -37,7 +37,7 @@ pub record KeepsRows (old new : Option Log) : Type 0 where
 hidden_read : (l : Log) (old : Option Log) (t : ℕ) → old ≡ Some l → reads l (Index t) ≡ None → Reads old (Index t) (λ v. v ≡ None)
 hidden_read l old t is none g known = ap (λ (x : Log). reads x (Index t)) (known_log g l (sym known ∙ is)) ∙ none
 
-still_hidden : (d : Doubt) (old new : Option Log) (l m : Log) → old ≡ Some l → new ≡ Some m → ((t : ℕ) → Reads old (Index t) (λ v. v ≡ None) → Reads new (Index t) (λ v. v ≡ None)) → IsHidden d (reads l) → IsHidden d (reads m)
+pub still_hidden : (d : Doubt) (old new : Option Log) (l m : Log) → old ≡ Some l → new ≡ Some m → ((t : ℕ) → Reads old (Index t) (λ v. v ≡ None) → Reads new (Index t) (λ v. v ≡ None)) → IsHidden d (reads l) → IsHidden d (reads m)
 still_hidden doubt.Nothing old new l m is now keeps h = h
 still_hidden (doubt.Unsettled t) old new l m is now keeps h = h
 still_hidden (doubt.Settled t) old new l m is now keeps h = h
@@ -114,3 +114,6 @@ stands_from {D} W log seen old earlier h k same stands = subst (λ (s : SpoolVie
 
 pub known_from : {D : Type 0} (log : D → Option Log) (seen old : SpoolView D) (l : Log) → seen ≡ old → log old.shelf ≡ Some l → log seen.shelf ≡ Some l
 known_from {D} log seen old l same known = ap (λ (s : SpoolView D). log s.shelf) same ∙ known
+
+pub keeps_moved : {D : Type 0} (W : List ℕ → List ℕ → Type 0) (log : D → Option Log) (seen old : SpoolView D) (new : Option Log) (st : SpoolState) (earlier h : List Event) (k : Files) → seen ≡ old → Keeps W (log seen.shelf) new st earlier h k → Keeps W (log old.shelf) new st earlier h k
+keeps_moved {D} W log seen old new st earlier h k same keeps = subst (λ (s : SpoolView D). Keeps W (log s.shelf) new st earlier h k) same keeps

@@ -4,6 +4,7 @@ pub mod Placing
 pub mod States
 pub mod Standing
 pub mod Publishing
+pub mod Aging
 pub mod Holding
 pub mod Lending
 pub mod Entering

@@ -14,5 +14,5 @@ mod sweeping;
 
 pub use opening::EnterErr;
 pub use pair_rule::PairRule;
-pub use spool::{DiskFault, Hold, NotEntered, PublishErr, Spool};
+pub use spool::{AgeErr, DiskFault, Hold, NotEntered, PublishErr, Spool};
 pub use state::{Doubt, Span};
