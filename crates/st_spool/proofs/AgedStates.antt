@@ -172,3 +172,14 @@ module _ (W : List ℕ → List ℕ → Type 0) (old : Option Log) (st : SpoolSt
           };
           images = λ first known. ran_widen first new (Remove t ∷ []) (Has going) (Has going) (Gives h (Remove t ∷ [])) (Gives h (Remove t ∷ [])) (going_sets W old st earlier h k stands t e rest is same) (going_sets W old st earlier h k stands t e rest is same) (hides first rows (files_of e) known (each_row first known) pair_row).0;
         }
+
+some_first : (a b : List Entry) (d e : Entry) → ◌≡◌ {A = List Entry} (d ∷ a) (e ∷ b) → d ≡ e
+some_first a b d e h = cc
+
+-- the first entry of the set is the one that leaves
+pub leaving_as : (W : List ℕ → List ℕ → Type 0) (known : Option Log) (st : SpoolState) (earlier h : List Event) (k : Files) (t : ℕ) (e : Entry) (rest : List Entry) → StandsFor W known st earlier h k → st.limit < length st.stamps - st.removed → t ≡ slice_index st.stamps st.removed → set_of h ≡ e ∷ rest
+    → (drop st.removed (entries_of h) ≡ e ∷ rest) × (t ≡ e.stamp) × (st.limit < length (e ∷ rest)) × (st.removed < length (entries_of h))
+leaving_as W known st earlier h k t e rest stands over at first =
+    let r = leaving W known st earlier h k t stands over at in
+    let same = sym r.2 ∙ sym stands.set ∙ first in
+    (sym stands.set ∙ first, r.3 ∙ ap stamp_of (some_first r.1 rest r.0 e same), subst (λ (es : List Entry). st.limit < length es) same r.4, r.5)
