@@ -11,6 +11,8 @@ mod settling;
 mod spool;
 mod state;
 mod sweeping;
+#[cfg(test)]
+mod tests;
 
 pub use opening::EnterErr;
 pub use pair_rule::PairRule;

@@ -11,6 +11,7 @@ ghost use Rattle.st_spool.specs.History.{set_of};
 ghost use Rattle.st_spool.specs.States.{held};
 ghost use Rattle.st_spool.specs.Holding.{size_of, whole_set, with_hold, IsWithout, Sweeps};
 ghost use Rattle.st_spool.specs.Aging.{pair_count, MayAge, Ages, AgesTo};
+ghost use Rattle.st_spool.specs.Refusing.{RefusesPair, RefusesAge};
 ghost use Rattle.st_spool.specs.Lending.{IsLent};
 ghost use Rattle.st_spool.specs.Placing.{files, entry};
 ghost use Rattle.st_spool.specs.Standing.{StandsFor};
@@ -72,6 +73,11 @@ impl Model for Hold {
     ghost invariant = { λ a. a.span.from ≤ a.span.to };
 }
 
+/// A spool: the pairs of block files and indexes on a shelf, which are published and removed one at
+/// a time, so that every crash leaves each of them whole or not at all.
+///
+/// Contracts see it as `SpoolView`: its shelf, what it keeps, and for how many publications it has
+/// room. It stands for a history (`specs/Standing.antt`). It must be spent, by `close`.
 pub struct Spool<D: Shelf, W: PairRule> {
     shelf: D,
     limit: u32,
@@ -165,6 +171,12 @@ impl<D: Shelf, W: PairRule> Spool<D, W> {
         }
     }
 
+    /// Publishes a pair of sealed files of this spool's shelf, under a stamp above all so far that
+    /// is `floor` or greater. At Ok no crash leaves less than the pair.
+    ///
+    /// `DiskFault` comes only if the shelf's count of faults rose: each file that was not settled is
+    /// abandoned, the pair is in doubt, and the spool refuses from then on. `Halted` comes only if an
+    /// earlier call failed, and `StampsSpent` only if no stamp is left; both change nothing.
     pub fn publish(
         &mut self,
         pair: SealedPair<D::Draft>,
@@ -190,17 +202,15 @@ impl<D: Shelf, W: PairRule> Spool<D, W> {
             × (self.new.state ≡ published self.old.state s))
             (λ e. (e ≡ PublishErr.DiskFault) × FailsToPublish self.old.state self.new.state
             (next_stamp self.old.state.last floor) (D.faults self.new.shelf)) }
-        // the refusals
-        ensures halted { (since : ℕ) → self.old.state.halted ≡ Some since
-            → (self.new ≡ self.old) × (result ≡ Err (PublishErr.Halted since pair)) }
-        ensures spent { self.old.state.halted ≡ None → self.old.state.last ≡ u64.MAX
-            → (self.new ≡ self.old)
-            × (result ≡ Err (PublishErr.StampsSpent self.old.state.last pair)) }
+        // which answer it gives
+        ensures refused { MatchResult result (λ _. MayPublish self.old.state)
+            (λ e. RefusesPair self.old self.new pair e) }
         // the counts
         ensures cause { HasCauseOf PublishErr.DiskFault (D.faults self.old.shelf)
             (D.faults self.new.shelf) result }
         ensures rest { (D.id self.new.shelf ≡ D.id self.old.shelf)
-            × (D.loans self.new.shelf ≡ D.loans self.old.shelf) }
+            × (D.loans self.new.shelf ≡ D.loans self.old.shelf)
+            × (self.new.state.holds ≡ self.old.state.holds) }
     {
         if let Some(since) = self.halted {
             return Err(PublishErr::Halted { since, pair });
@@ -482,15 +492,16 @@ impl<D: Shelf, W: PairRule> Spool<D, W> {
         ensures small { self.old.state.halted ≡ None
             → (result ≡ Ok false) ↔ (pair_count self.old.state ≤ self.old.state.limit) }
         ensures same { result ≡ Ok false → self.new ≡ self.old }
-        ensures halted { (since : ℕ) → self.old.state.halted ≡ Some since
-            → (self.new ≡ self.old) × (result ≡ Err (AgeErr.Halted since)) }
+        ensures refused { MatchResult result (λ _. self.old.state.halted ≡ None)
+            (λ e. RefusesAge self.old self.new e) }
         // the counts
         ensures cause { (D.faults self.old.shelf ≤ D.faults self.new.shelf)
             × (IsErrOf result AgeErr.DiskFault
             → Rose (D.faults self.old.shelf) (D.faults self.new.shelf)) }
         ensures rest { (D.id self.new.shelf ≡ D.id self.old.shelf)
             × (D.loans self.new.shelf ≡ D.loans self.old.shelf)
-            × (self.new.spare ≡ self.old.spare) }
+            × (self.new.spare ≡ self.old.spare)
+            × (self.new.state.holds ≡ self.old.state.holds) }
     {
         if let Some(since) = self.halted {
             return Err(AgeErr::Halted { since });
