@@ -12,14 +12,16 @@ use Rattle.st_disk.specs.Disks.{Log, reads}
 use Rattle.st_disk.specs.Events.{Event, events}
 use Rattle.st_disk.specs.LoggedCalls.{Adds, Looks, Does, Reads, Abandons, KnownBefore, removal}
 use Rattle.st_disk.specs.Runs.{Each, Ran}
-use Rattle.st_disk.specs.Pairs.{Files}
+use Rattle.st_disk.specs.Pairs.{Entry, Files}
 use Rattle.st_disk.proofs.Reading.{known_log, reads_still, reads_looked, other_spares, make_spares}
 use Rattle.st_disk.proofs.Runs.{ran_widen, ran_looks, ran_other, ran_quiet, ran_abandon, each_did, each_other, known_does, known_looks, known_adds}
 use Rattle.st_spool.specs.Rows.{Row, Has, RanBy}
 use Rattle.st_spool.specs.History.{entries_of}
 use Rattle.st_spool.specs.States.{SpoolState, SpoolView, rows_by}
 use Rattle.st_spool.specs.Standing.{StandsFor, OnDisk, IsHidden, Gives, begun, after_found}
-use Rattle.st_spool.specs.Publishing.{Keeps, RanAsBefore}
+use Rattle.st_spool.specs.Publishing.{Keeps, Fails, RanTo, RanAsBefore}
+use Rattle.st_spool.specs.Aging.{Removes}
+use Rattle.st_disk.specs.Events as event
 use Rattle.st_spool.specs.declared.state.Doubt.{Doubt}
 use Rattle.st_spool.specs.declared.state.Doubt.TheVariants as doubt
 use Rattle.st_spool.proofs.Keeping.{make_keeps, draft_keeps}
@@ -37,7 +39,7 @@ pub record KeepsRows (old new : Option Log) : Type 0 where
 hidden_read : (l : Log) (old : Option Log) (t : ℕ) → old ≡ Some l → reads l (Index t) ≡ None → Reads old (Index t) (λ v. v ≡ None)
 hidden_read l old t is none g known = ap (λ (x : Log). reads x (Index t)) (known_log g l (sym known ∙ is)) ∙ none
 
-still_hidden : (d : Doubt) (old new : Option Log) (l m : Log) → old ≡ Some l → new ≡ Some m → ((t : ℕ) → Reads old (Index t) (λ v. v ≡ None) → Reads new (Index t) (λ v. v ≡ None)) → IsHidden d (reads l) → IsHidden d (reads m)
+pub still_hidden : (d : Doubt) (old new : Option Log) (l m : Log) → old ≡ Some l → new ≡ Some m → ((t : ℕ) → Reads old (Index t) (λ v. v ≡ None) → Reads new (Index t) (λ v. v ≡ None)) → IsHidden d (reads l) → IsHidden d (reads m)
 still_hidden doubt.Nothing old new l m is now keeps h = h
 still_hidden (doubt.Unsettled t) old new l m is now keeps h = h
 still_hidden (doubt.Settled t) old new l m is now keeps h = h
@@ -114,3 +116,16 @@ stands_from {D} W log seen old earlier h k same stands = subst (λ (s : SpoolVie
 
 pub known_from : {D : Type 0} (log : D → Option Log) (seen old : SpoolView D) (l : Log) → seen ≡ old → log old.shelf ≡ Some l → log seen.shelf ≡ Some l
 known_from {D} log seen old l same known = ap (λ (s : SpoolView D). log s.shelf) same ∙ known
+
+pub keeps_moved : {D : Type 0} (W : List ℕ → List ℕ → Type 0) (log : D → Option Log) (seen old : SpoolView D) (new : Option Log) (st : SpoolState) (earlier h : List Event) (k : Files) → seen ≡ old → Keeps W (log seen.shelf) new st earlier h k → Keeps W (log old.shelf) new st earlier h k
+keeps_moved {D} W log seen old new st earlier h k same keeps = subst (λ (s : SpoolView D). Keeps W (log s.shelf) new st earlier h k) same keeps
+
+pub fails_moved : {D : Type 0} (W : List ℕ → List ℕ → Type 0) (log : D → Option Log) (seen old : SpoolView D) (new : Option Log) (st : SpoolState) (earlier h : List Event) (k : Files) → seen ≡ old → Fails W (log seen.shelf) new st earlier h k → Fails W (log old.shelf) new st earlier h k
+fails_moved {D} W log seen old new st earlier h k same fails = subst (λ (s : SpoolView D). Fails W (log s.shelf) new st earlier h k) same fails
+
+pub removes_moved : {D : Type 0} (W : List ℕ → List ℕ → Type 0) (log : D → Option Log) (seen old : SpoolView D) (new : Option Log) (st : SpoolState) (earlier h : List Event) (k : Files) (e : Entry) (t : ℕ) → seen ≡ old → t ≡ e.stamp
+    → StandsFor W new st earlier (h ++ event.Remove t ∷ []) k → ((l : Log) → log seen.shelf ≡ Some l → RanTo l new h (event.Remove t)) → Removes W (log old.shelf) new st earlier h e k
+removes_moved {D} W log seen old new st earlier h k e t same is stands images = record {
+  stands = subst (λ (s : ℕ). StandsFor W new st earlier (h ++ event.Remove s ∷ []) k) is stands;
+  images = λ l known. subst (λ (s : ℕ). RanTo l new h (event.Remove s)) is (images l (known_from log seen old l same known));
+}

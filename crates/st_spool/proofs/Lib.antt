@@ -15,3 +15,5 @@ pub mod Opened
 pub mod Kept
 pub mod Holds
 pub mod Swept
+pub mod Released
+pub mod AgedStates

@@ -4,6 +4,8 @@ pub mod Placing
 pub mod States
 pub mod Standing
 pub mod Publishing
+pub mod Aging
+pub mod Refusing
 pub mod Holding
 pub mod Lending
 pub mod Entering

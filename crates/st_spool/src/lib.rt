@@ -11,8 +11,10 @@ mod settling;
 mod spool;
 mod state;
 mod sweeping;
+#[cfg(test)]
+mod tests;
 
 pub use opening::EnterErr;
 pub use pair_rule::PairRule;
-pub use spool::{DiskFault, Hold, NotEntered, PublishErr, Spool};
+pub use spool::{AgeErr, DiskFault, Hold, NotEntered, PublishErr, Spool};
 pub use state::{Doubt, Span};

@@ -1,4 +1,4 @@
-ghost use Rattle.std.specs.Prelude.{Option, ◌≡◌, ◌≤◌, ◌<◌, ◌+◌, ◌-◌, ◌∷◌, [], ◌++◌, ℕ, List, None, Some, IfOk, OnOk, MatchResult, Contains, length, drop};
+ghost use Rattle.std.specs.Prelude.{Option, ◌≡◌, ◌≤◌, ◌<◌, ◌+◌, ◌-◌, ◌∷◌, [], ◌++◌, ◌↔◌, ℕ, List, None, Some, true, false, IsErrOf, IfOk, OnOk, MatchResult, Contains, length, drop};
 ghost use Rattle.st_base.specs.Faults.{Rose, HasCause, HasCauseOf};
 ghost use Rattle.st_disk.specs.declared.naming.Kind.TheVariants as kind;
 ghost use Rattle.st_shelf.specs.Ends.{end_origin, end_faults, TakesFaults};
@@ -9,7 +9,9 @@ ghost use Rattle.st_disk.specs.Pairs.{Entry, Files};
 ghost use Rattle.st_disk.specs.Events.{Event};
 ghost use Rattle.st_spool.specs.History.{set_of};
 ghost use Rattle.st_spool.specs.States.{held};
-ghost use Rattle.st_spool.specs.Holding.{size_of, whole_set, with_hold};
+ghost use Rattle.st_spool.specs.Holding.{size_of, whole_set, with_hold, IsWithout, Sweeps};
+ghost use Rattle.st_spool.specs.Aging.{pair_count, MayAge, Ages, AgesTo};
+ghost use Rattle.st_spool.specs.Refusing.{RefusesPair, RefusesAge};
 ghost use Rattle.st_spool.specs.Lending.{IsLent};
 ghost use Rattle.st_spool.specs.Placing.{files, entry};
 ghost use Rattle.st_spool.specs.Standing.{StandsFor};
@@ -18,8 +20,9 @@ ghost use Rattle.st_spool.specs.Publishing.{next_stamp, MayPublish, published, F
 
 use crate::opening::{EnterErr, Opening, open};
 use crate::pair_rule::PairRule;
-use crate::settling::{Stopped, place};
+use crate::settling::{Stopped, hide_out, place};
 use crate::state::{Doubt, Span, index_file};
+use crate::sweeping::{sweep, take_out};
 use st_base::NoMemory;
 use st_shelf::{Draft, End, Kind, Name, SealedPair, Shelf};
 use std::alloc::Global;
@@ -33,6 +36,15 @@ pub enum PublishErr<T: Draft> {
     Halted { since: u64, pair: SealedPair<T> },
     /// No stamp is left above `last`.
     StampsSpent { last: u64, pair: SealedPair<T> },
+}
+
+/// Why no pair was removed.
+#[derive(Clone, Copy, Debug, PartialEq, Eq)]
+pub enum AgeErr {
+    /// The disk failed in this call. The spool refuses from now on.
+    DiskFault,
+    /// An earlier call failed, when the shelf's count of faults was `since`.
+    Halted { since: u64 },
 }
 
 /// A shelf over which no spool was opened, and why.
@@ -61,6 +73,11 @@ impl Model for Hold {
     ghost invariant = { λ a. a.span.from ≤ a.span.to };
 }
 
+/// A spool: the pairs of block files and indexes on a shelf, which are published and removed one at
+/// a time, so that every crash leaves each of them whole or not at all.
+///
+/// Contracts see it as `SpoolView`: its shelf, what it keeps, and for how many publications it has
+/// room. It stands for a history (`specs/Standing.antt`). It must be spent, by `close`.
 pub struct Spool<D: Shelf, W: PairRule> {
     shelf: D,
     limit: u32,
@@ -154,6 +171,12 @@ impl<D: Shelf, W: PairRule> Spool<D, W> {
         }
     }
 
+    /// Publishes a pair of sealed files of this spool's shelf, under a stamp above all so far that
+    /// is `floor` or greater. At Ok no crash leaves less than the pair.
+    ///
+    /// `DiskFault` comes only if the shelf's count of faults rose: each file that was not settled is
+    /// abandoned, the pair is in doubt, and the spool refuses from then on. `Halted` comes only if an
+    /// earlier call failed, and `StampsSpent` only if no stamp is left; both change nothing.
     pub fn publish(
         &mut self,
         pair: SealedPair<D::Draft>,
@@ -179,17 +202,15 @@ impl<D: Shelf, W: PairRule> Spool<D, W> {
             × (self.new.state ≡ published self.old.state s))
             (λ e. (e ≡ PublishErr.DiskFault) × FailsToPublish self.old.state self.new.state
             (next_stamp self.old.state.last floor) (D.faults self.new.shelf)) }
-        // the refusals
-        ensures halted { (since : ℕ) → self.old.state.halted ≡ Some since
-            → (self.new ≡ self.old) × (result ≡ Err (PublishErr.Halted since pair)) }
-        ensures spent { self.old.state.halted ≡ None → self.old.state.last ≡ u64.MAX
-            → (self.new ≡ self.old)
-            × (result ≡ Err (PublishErr.StampsSpent self.old.state.last pair)) }
+        // which answer it gives
+        ensures refused { MatchResult result (λ _. MayPublish self.old.state)
+            (λ e. RefusesPair self.old self.new pair e) }
         // the counts
         ensures cause { HasCauseOf PublishErr.DiskFault (D.faults self.old.shelf)
             (D.faults self.new.shelf) result }
         ensures rest { (D.id self.new.shelf ≡ D.id self.old.shelf)
-            × (D.loans self.new.shelf ≡ D.loans self.old.shelf) }
+            × (D.loans self.new.shelf ≡ D.loans self.old.shelf)
+            × (self.new.state.holds ≡ self.old.state.holds) }
     {
         if let Some(since) = self.halted {
             return Err(PublishErr::Halted { since, pair });
@@ -410,6 +431,111 @@ impl<D: Shelf, W: PairRule> Spool<D, W> {
             (D.File.reads file) (D.File.asked file) (D.loans self.old.shelf) }
     {
         self.shelf.close(file);
+    }
+
+    /// Ends a hold of this spool, and removes the files of removed pairs that no hold has any more,
+    /// but those of a removal in doubt.
+    ///
+    /// A removal of a file that fails raises the shelf's count of faults, and is tried again by each
+    /// later `release` and `age`.
+    pub fn release(&mut self, hold: Hold)
+        requires { Contains self.old.state.holds hold }
+        // the spool
+        ensures keeps { (earlier h : List Event) (f : Files)
+            → StandsFor W.is_whole (D.log self.old.shelf) self.old.state earlier h f
+            → Keeps W.is_whole (D.log self.old.shelf) (D.log self.new.shelf)
+            self.new.state earlier h f }
+        ensures without { IsWithout hold self.old.state.holds self.new.state.holds }
+        ensures state { self.new ≡ record self.old { shelf = self.new.shelf;
+            state = record self.old.state {
+            holds = self.new.state.holds; swept = self.new.state.swept } } }
+        // the files
+        ensures sweeps { Sweeps (D.log self.new.shelf) self.old.state.stamps
+            self.new.state.holds self.old.state.swept self.new.state.swept
+            self.old.state.removed (D.faults self.old.shelf) (D.faults self.new.shelf) }
+        // the counts
+        ensures cause { D.faults self.old.shelf ≤ D.faults self.new.shelf }
+        ensures rest { (D.id self.new.shelf ≡ D.id self.old.shelf)
+            × (D.loans self.new.shelf ≡ D.loans self.old.shelf) }
+    {
+        let Hold { span } = hold;
+        take_out(&mut self.holds, span);
+        self.swept = sweep(
+            &mut self.shelf,
+            self.stamps.as_slice(),
+            self.swept,
+            self.removed,
+            self.holds.as_slice(),
+        );
+    }
+
+    /// Removes the oldest pair, if more are published than the limit, and answers whether it did.
+    /// Files of removed pairs that no hold has are removed too; the others stay until their release.
+    ///
+    /// A removal of a file that fails raises the shelf's count of faults, and is tried again by each
+    /// later `age` and `release`. `DiskFault` comes only if that count rose; the spool refuses from
+    /// then on. `Halted` comes only if an earlier call failed, and changes nothing.
+    pub fn age(&mut self) -> Result<bool, AgeErr>
+        // what it does, if there is something to remove
+        ensures aged { (earlier h : List Event) (f : Files) (e : Entry) (after : List Entry)
+            → MayAge self.old.state
+            → StandsFor W.is_whole (D.log self.old.shelf) self.old.state earlier h f
+            → set_of h ≡ e ∷ after
+            → Ages W.is_whole (D.log self.old.shelf) (D.log self.new.shelf)
+            self.new.state earlier h e f result }
+        ensures state { MayAge self.old.state → AgesTo self.old.state self.new.state
+            (D.faults self.new.shelf) result }
+        ensures sweeps { result ≡ Ok true → Sweeps (D.log self.new.shelf) self.old.state.stamps
+            self.old.state.holds self.old.state.swept self.new.state.swept
+            (self.old.state.removed + 1) (D.faults self.old.shelf) (D.faults self.new.shelf) }
+        // the other answers
+        ensures small { self.old.state.halted ≡ None
+            → (result ≡ Ok false) ↔ (pair_count self.old.state ≤ self.old.state.limit) }
+        ensures same { result ≡ Ok false → self.new ≡ self.old }
+        ensures refused { MatchResult result (λ _. self.old.state.halted ≡ None)
+            (λ e. RefusesAge self.old self.new e) }
+        // the counts
+        ensures cause { (D.faults self.old.shelf ≤ D.faults self.new.shelf)
+            × (IsErrOf result AgeErr.DiskFault
+            → Rose (D.faults self.old.shelf) (D.faults self.new.shelf)) }
+        ensures rest { (D.id self.new.shelf ≡ D.id self.old.shelf)
+            × (D.loans self.new.shelf ≡ D.loans self.old.shelf)
+            × (self.new.spare ≡ self.old.spare)
+            × (self.new.state.holds ≡ self.old.state.holds) }
+    {
+        if let Some(since) = self.halted {
+            return Err(AgeErr::Halted { since });
+        }
+        let count = self.stamps.len();
+        if count - self.removed <= self.limit as usize {
+            return Ok(false);
+        }
+        let stamp = self.stamps[self.removed];
+        match hide_out(&mut self.shelf, stamp) {
+            Ok(()) => {
+                self.removed += 1;
+                self.swept = sweep(
+                    &mut self.shelf,
+                    self.stamps.as_slice(),
+                    self.swept,
+                    self.removed,
+                    self.holds.as_slice(),
+                );
+                Ok(true)
+            }
+            Err(Stopped::Before) => {
+                self.halted = Some(self.shelf.fault_count());
+                self.halts = self.halts.saturating_add(1);
+                self.doubt = Doubt::Unhidden(stamp);
+                Err(AgeErr::DiskFault)
+            }
+            Err(Stopped::After) => {
+                self.halted = Some(self.shelf.fault_count());
+                self.halts = self.halts.saturating_add(1);
+                self.doubt = Doubt::Hidden(stamp);
+                Err(AgeErr::DiskFault)
+            }
+        }
     }
 
     /// Gives the shelf back. No hold may be out.
