@@ -67,6 +67,14 @@ AreLines report pairs [] rest = pairs ≡ rest
 AreLines report [] (l ∷ lines) rest = ⊥
 AreLines report (e ∷ pairs) (l ∷ lines) rest = IsLine report e l × AreLines report pairs lines rest
 
+-- what a line says is no fault
+abbrev pub IsSaid : Outcome → Type 0
+IsSaid Done = Unit {0}
+IsSaid WriteFault = ⊥
+IsSaid DiskFault = ⊥
+IsSaid (Damaged stamp d) = Unit {0}
+IsSaid NoMemory = ⊥
+
 -- the text of lines
 abbrev pub text_of : List LineView → List ℕ
 text_of lines = flat_map (λ (l : LineView). l.text) lines

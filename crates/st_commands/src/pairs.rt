@@ -12,7 +12,7 @@ ghost use Rattle.st_spool.specs.Standing.{StandsFor};
 ghost use Rattle.st_spool.specs.States.{held};
 ghost use Rattle.st_commands.specs.Commands.{Stays};
 ghost use Rattle.st_commands.specs.Pairs.{IsWholePair};
-ghost use Rattle.st_commands.specs.Reports.{TellsPair};
+ghost use Rattle.st_commands.specs.Reports.{TellsPair, IsSaid};
 ghost use Rattle.st_commands.specs.Telling.{TellsSummary, TellsVerdict, MakesLine, RefusesTable, line_result};
 
 use crate::lines::{summary_text, verdict_text};
@@ -143,7 +143,8 @@ fn line(text: Result<String, AllocError>, outcome: Outcome) -> Result<Line, Pair
 
 // The line of a pair with this verdict.
 fn verdict_of(alloc: Global, stamp: u64, verdict: Verdict) -> Result<Line, PairErr>
-    ensures { TellsVerdict stamp verdict (line_result result) }
+    ensures tells { TellsVerdict stamp verdict (line_result result) }
+    ensures outcome { IfOk result (λ l. IsSaid l.outcome) }
 {
     let outcome = match verdict {
         Verdict::Whole { .. } => Outcome::Done,
@@ -170,6 +171,7 @@ pub fn line_at<D: Shelf>(
         → StandsFor IsWholePair (D.log spool.old.shelf) spool.old.state earlier h f
         → drop i (held hold.now h) ≡ e ∷ after
         → TellsPair report e (line_result result) }
+    ensures outcome { IfOk result (λ l. IsSaid l.outcome) }
     ensures stays { Stays D.log D.id D.faults D.loans spool.old spool.new }
     ensures fault { IsErrOf result PairErr.DiskFault
         → Rose (D.faults spool.old.shelf) (D.faults spool.new.shelf) }

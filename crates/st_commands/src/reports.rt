@@ -1,6 +1,6 @@
 //! The lines of all pairs of a held set.
 
-ghost use Rattle.std.specs.Prelude.{◌≡◌, List, Some, Contains};
+ghost use Rattle.std.specs.Prelude.{◌≡◌, ◌≢◌, List, Some, Contains};
 ghost use Rattle.st_base.specs.Faults.{Rose};
 ghost use Rattle.st_disk.specs.Disks.{Log};
 ghost use Rattle.st_disk.specs.Events.{Event};
@@ -32,7 +32,9 @@ fn first_of(first: Outcome, next: Outcome) -> Outcome
 
 // How a command ends that has no line of the pair of this stamp.
 fn stopped(stamp: u64, error: PairErr) -> Outcome
-    ensures { Stops stamp error result }
+    ensures stops { Stops stamp error result }
+    ensures disk { result ≡ Outcome.DiskFault → error ≡ PairErr.DiskFault }
+    ensures other { result ≢ Outcome.WriteFault }
 {
     match error {
         PairErr::DiskFault => Outcome::DiskFault,
