@@ -1,5 +1,5 @@
 -- Lines of pairs, one after the other.
-use Rattle.std.proofs.Common.{◌≡◌, ◌≤◌, ◌<◌, ◌+◌, ℕ, suc, List, [], ◌∷◌, ◌++◌, length, drop, refl, sym, ◌∙◌, ap, subst, arith, append-nil, Option, Result, Ok, Err, inl, inr}
+use Rattle.std.proofs.Common.{◌≡◌, ◌≤◌, ◌<◌, ◌+◌, ℕ, List, [], ◌∷◌, ◌++◌, length, length-append, drop, refl, sym, ◌∙◌, ap, subst, arith, append-nil, Option, Result, Ok, Err, inl, inr}
 use Rattle.std.specs.List.{flat_map}
 use Rattle.std.proofs.lemmas.Grind.{flat_map-append}
 use Rattle.std.specs.Io.KnownBytes.{Appends}
@@ -79,7 +79,7 @@ next_line r ps old mid new found i e after l p at is put = record {
   rest = after;
   are = lines_more r ps p.lines e l after (here r ps old mid found i e after p at) is;
   says = says_more p.lines l ∙ ap (λ o. first_of_two o l.outcome) p.says;
-  count = let n = p.count in let m : length (p.lines ++ l ∷ []) ≡ length p.lines + 1 = search rules in omega arith;
+  count = let n = p.count in let m : length (p.lines ++ l ∷ []) ≡ length p.lines + 1 = length-append p.lines (l ∷ []) in omega arith;
   put = subst (Appends old new) (sym (text_more p.lines l)) (Appends-trans old mid new (text_of p.lines) l.text p.put put);
 }
 

@@ -10,6 +10,8 @@ use Rattle.st_spool.specs.Entering.{Clears, SamePairs, FailsToEnter}
 use Rattle.st_spool.specs.Publishing.{Keeps}
 use Rattle.st_spool.specs.Standing.{StandsFor}
 use Rattle.st_spool.specs.States.{SpoolView}
+use Rattle.st_spool.specs.declared.opening.EnterErr.{EnterErr}
+use Rattle.st_spool.specs.declared.opening.EnterErr.TheVariants as enter
 use Rattle.st_commands.specs.Pairs.{IsWholePair}
 use Rattle.st_commands.specs.declared.outcomes.Outcome.{Outcome}
 use Rattle.st_commands.specs.declared.outcomes.Outcome.TheVariants.{Done, WriteFault, DiskFault, Damaged, NoMemory}
@@ -43,6 +45,16 @@ pub record HasWriteFault (before now : ℕ) (outcome : Outcome) : Type 0 where
   pub later : before ≤ now
   pub rose : outcome ≡ WriteFault → Rose before now
   pub still : outcome ≢ WriteFault → now ≡ before
+
+-- a shelf's count never falls, and rose where it failed
+pub record HasDiskFault (before now : ℕ) (outcome : Outcome) : Type 0 where
+  pub later : before ≤ now
+  pub rose : outcome ≡ DiskFault → Rose before now
+
+-- how a command ends that could not open a spool
+abbrev pub EndsUnentered : EnterErr → Outcome → Type 0
+EndsUnentered enter.DiskFault outcome = outcome ≡ DiskFault
+EndsUnentered enter.NoMemory outcome = outcome ≡ NoMemory
 
 -- What a command leaves of a shelf with this first log: after it each crash leaves the pairs that
 -- were read at first, and so did one before, or an image that the shelf had then. Only a command

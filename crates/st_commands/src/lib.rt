@@ -28,6 +28,6 @@ mod pairs;
 mod reports;
 mod rule;
 
-pub use commands::Ended;
-pub use outcomes::Outcome;
+pub use commands::{Ended, check, list};
+pub use outcomes::{Outcome, Report};
 pub use rule::WholePairs;
