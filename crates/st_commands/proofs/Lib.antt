@@ -1,3 +1,4 @@
 pub mod Staying
 pub mod Telling
 pub mod Reporting
+pub mod Commanding

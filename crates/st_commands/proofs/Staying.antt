@@ -11,6 +11,7 @@ use Rattle.st_shelf.specs.Loans.{LoansView, lend, take_back, capped_sum}
 use Rattle.st_spool.specs.Publishing.{Keeps, RanAsBefore}
 use Rattle.st_spool.specs.Standing.{StandsFor, Gives, begun}
 use Rattle.st_spool.specs.States.{SpoolState, SpoolView}
+use Rattle.st_spool.specs.declared.state.Doubt.{Doubt}
 use Rattle.st_spool.proofs.Kept.{KeepsRows, keeps_rows}
 use Rattle.st_commands.specs.Commands.{GivesAllBack, KeepsSpool, Stays}
 use Rattle.st_commands.specs.Pairs.{IsWholePair}
@@ -18,12 +19,12 @@ use Rattle.st_commands.specs.Pairs.{IsWholePair}
 same_log : (a : Option Log) → KeepsRows a a
 same_log a = record { known = λ log is. (log, is); ran = λ first rows run. run; hidden = λ t none. none }
 
-keeps_then : (a b c : Option Log) (st next : SpoolState) (earlier h : List Event) (f : Files) → next ≡ st
+pub keeps_then : (a b c : Option Log) (st next : SpoolState) (earlier h : List Event) (f : Files) → next.doubt ≡ st.doubt
     → Keeps IsWholePair a b st earlier h f → Keeps IsWholePair b c next earlier h f → Keeps IsWholePair a c next earlier h f
 keeps_then a b c st next earlier h f same one two = record {
   stands = two.stands;
   images = λ first known.
-    let run : RanAsBefore first b h (begun next.doubt f) = subst (λ (s : SpoolState). RanAsBefore first b h (begun s.doubt f)) (sym same) (one.images first known) in
+    let run : RanAsBefore first b h (begun next.doubt f) = subst (λ (d : Doubt). RanAsBefore first b h (begun d f)) (sym same) (one.images first known) in
     ran_then first b c [] [] (Gives h (begun next.doubt f)) (Gives h (begun next.doubt f)) (Gives h (begun next.doubt f)) run (two.images run.log run.is);
 }
 
@@ -48,7 +49,7 @@ pub kept_then : {D : Type 0} (log : D → Option Log) (id faults : D → ℕ) (a
 kept_then {D} log id faults a b c one two = record {
   keeps = λ earlier h f stands.
     let first = one.keeps earlier h f stands in
-    keeps_then (log a.shelf) (log b.shelf) (log c.shelf) b.state c.state earlier h f (ap (λ (v : SpoolView D). v.state) two.state) first (two.keeps earlier h f first.stands);
+    keeps_then (log a.shelf) (log b.shelf) (log c.shelf) b.state c.state earlier h f (ap (λ (v : SpoolView D). v.state.doubt) two.state) first (two.keeps earlier h f first.stands);
   state = two.state ∙ ap (λ (v : SpoolView D). record v { shelf = c.shelf }) one.state;
   id_is = two.id_is ∙ one.id_is;
   later = let x = one.later in let y = two.later in omega arith;
