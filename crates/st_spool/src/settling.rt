@@ -50,8 +50,8 @@ pub(crate) fn place<D: Shelf>(
         shelf.abandon(End::Sealed(block));
         return Err(Stopped::Before);
     }
-    if let Err(block) = shelf.settle(block, Name::Block(stamp)) {
-        shelf.abandon(End::Sealed(block));
+    if let Err(unsettled) = shelf.settle(block, Name::Block(stamp)) {
+        shelf.abandon(End::Sealed(unsettled));
         return Err(Stopped::Before);
     }
     if let Err(_) = shelf.flush(Kind::Index) {

@@ -106,21 +106,35 @@ impl<D: Shelf, W: PairRule> Model for Spool<D, W> {
     ghost view = { λ a. record {
       shelf = a.shelf;
       state = record {
-        limit = a.limit; stamps = a.stamps.items; removed = a.removed;
-        swept = a.swept; last = a.last;
-        holds = a.holds.items; doubt = a.doubt; halted = a.halted; halts = a.halts;
-        asks = a.asks; asked = a.asked;
+        limit = a.limit;
+        stamps = a.stamps.items;
+        removed = a.removed;
+        swept = a.swept;
+        last = a.last;
+        holds = a.holds.items;
+        doubt = a.doubt;
+        halted = a.halted;
+        halts = a.halts;
+        asks = a.asks;
+        asked = a.asked;
       };
       spare = vec_capacity a.stamps - vec_len a.stamps;
     } };
 
     ghost invariant = { λ a. (earlier : List Event) × (h : List Event) × (f : Files)
         × StandsFor W.is_whole (D.log a.shelf) (record {
-        limit = a.limit; stamps = a.stamps.items; removed = a.removed;
-        swept = a.swept; last = a.last;
-        holds = a.holds.items; doubt = a.doubt; halted = a.halted; halts = a.halts;
-        asks = a.asks; asked = a.asked;
-      }) earlier h f };
+          limit = a.limit;
+          stamps = a.stamps.items;
+          removed = a.removed;
+          swept = a.swept;
+          last = a.last;
+          holds = a.holds.items;
+          doubt = a.doubt;
+          halted = a.halted;
+          halts = a.halts;
+          asks = a.asks;
+          asked = a.asked;
+        }) earlier h f };
 }
 
 impl<D: Shelf, W: PairRule> Spool<D, W> {
@@ -446,9 +460,13 @@ impl<D: Shelf, W: PairRule> Spool<D, W> {
             → Keeps W.is_whole (D.log self.old.shelf) (D.log self.new.shelf)
             self.new.state earlier h f }
         ensures without { IsWithout hold self.old.state.holds self.new.state.holds }
-        ensures state { self.new ≡ record self.old { shelf = self.new.shelf;
-            state = record self.old.state {
-            holds = self.new.state.holds; swept = self.new.state.swept } } }
+        ensures state { self.new ≡ record self.old {
+          shelf = self.new.shelf;
+          state = record self.old.state {
+            holds = self.new.state.holds;
+            swept = self.new.state.swept;
+          };
+        } }
         // the files
         ensures sweeps { Sweeps (D.log self.new.shelf) self.old.state.stamps
             self.new.state.holds self.old.state.swept self.new.state.swept

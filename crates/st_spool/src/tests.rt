@@ -87,7 +87,11 @@ fn publish<D: Shelf>(spool: &mut Spool<D, AnyPair>, byte: u8, floor: u64) -> Ans
 }
 
 // The stamp of one pair of a hold, and the bytes of its two files.
-fn read_pair<D: Shelf>(spool: &mut Spool<D, AnyPair>, hold: &Hold, i: usize) -> Option<(u64, u8, u8)>
+fn read_pair<D: Shelf>(
+    spool: &mut Spool<D, AnyPair>,
+    hold: &Hold,
+    i: usize,
+) -> Option<(u64, u8, u8)>
     requires { spool.old.state.holds ≡ hold.now ∷ [] }
     ensures { spool.new.state.holds ≡ spool.old.state.holds }
 {
@@ -114,7 +118,12 @@ fn read_pair<D: Shelf>(spool: &mut Spool<D, AnyPair>, hold: &Hold, i: usize) -> 
 fn found(alloc: Global, shelf: MemShelf) -> Option<(usize, [u64; 2])> {
     let mut spool: TestSpool = match Spool::enter(alloc, shelf, 4) {
         Ok(spool) => spool,
-        Err(NotEntered { cause: _cause, shelf: _shelf }) => return None,
+        Err(
+            NotEntered {
+                cause: _cause,
+                shelf: _shelf,
+            },
+        ) => return None,
     };
     let Ok(hold) = spool.hold() else {
         let _shelf = spool.close();
@@ -139,7 +148,12 @@ fn opened(alloc: Global, shelf: MemShelf, limit: u32) -> Option<TestSpool>
 {
     match Spool::enter(alloc, shelf, limit) {
         Ok(spool) => Some(spool),
-        Err(NotEntered { cause: _cause, shelf: _shelf }) => None,
+        Err(
+            NotEntered {
+                cause: _cause,
+                shelf: _shelf,
+            },
+        ) => None,
     }
 }
 
@@ -162,7 +176,7 @@ fn a_crash_leaves_the_second_pair_whole_or_not_at_all(rt: HostRuntime) -> Result
     assert_eq!(rt; (first, second), (Answer::Stamp(1), Answer::Stamp(2)));
     let last = shelf.moments();
     assert_eq!(rt; last, 15);
-    let mut whole = 0;
+    let mut whole = 0_u64;
     for moment in 9..16 {
         for choice in 0..16 {
             let image = shelf.crash(alloc, last.min(moment), choice)?;
@@ -173,7 +187,7 @@ fn a_crash_leaves_the_second_pair_whole_or_not_at_all(rt: HostRuntime) -> Result
             } else {
                 assert!(rt; moment > 12, "{choice} at {moment}");
                 assert_eq!(rt; (count, stamps), (2, [1, 2]), "{choice} at {moment}");
-                whole += 1;
+                whole = whole.saturating_add(1);
             }
         }
     }
