@@ -59,11 +59,11 @@ one_stamp n s t [] p q a b same = cc
 one_stamp n s t (e ∷ es) p q a b same =
     by_test (nat_eq e.stamp s) (λ x. cond x (Some (record { place = n; files = files_of e })) (place_in (n + 1) s es) ≡ Some p → s ≡ t)
     (λ k a. let first : n ≡ p.place = ap (λ (o : Placement). o.place) (some_is _ _ a) in
-      by_test (nat_eq e.stamp t) (λ x. cond x (Some (record { place = n; files = files_of e })) (place_in (n + 1) t es) ≡ Some q → s ≡ t)
-      (λ j b. sym (is_same e.stamp s k) ∙ is_same e.stamp t j) (λ j b. let more : n + 1 ≤ q.place = found_from (n + 1) t es q b in absurd (omega arith)) b)
+    by_test (nat_eq e.stamp t) (λ x. cond x (Some (record { place = n; files = files_of e })) (place_in (n + 1) t es) ≡ Some q → s ≡ t)
+    (λ j b. sym (is_same e.stamp s k) ∙ is_same e.stamp t j) (λ j b. let more : n + 1 ≤ q.place = found_from (n + 1) t es q b in absurd (omega arith)) b)
     (λ k a. let more : n + 1 ≤ p.place = found_from (n + 1) s es p a in
-      by_test (nat_eq e.stamp t) (λ x. cond x (Some (record { place = n; files = files_of e })) (place_in (n + 1) t es) ≡ Some q → s ≡ t)
-      (λ j b. let first : n ≡ q.place = ap (λ (o : Placement). o.place) (some_is _ _ b) in absurd (omega arith)) (λ j b. one_stamp (n + 1) s t es p q a b same) b)
+    by_test (nat_eq e.stamp t) (λ x. cond x (Some (record { place = n; files = files_of e })) (place_in (n + 1) t es) ≡ Some q → s ≡ t)
+    (λ j b. let first : n ≡ q.place = ap (λ (o : Placement). o.place) (some_is _ _ b) in absurd (omega arith)) (λ j b. one_stamp (n + 1) s t es p q a b same) b)
     a
   where
     some_is : (x y : Placement) → ◌≡◌ {A = Option Placement} (Some x) (Some y) → x ≡ y
@@ -100,13 +100,13 @@ pub rows_aged : (g last : ℕ) (sp : List Span) (all : List Entry) (e : Entry) (
 rows_aged g last sp all e rest is rises c h s =
     by_test (nat_eq e.stamp s) (λ z. Fits (rows_of (g + 1) sp last all s) (c (Block s)) (c (Index s)) (c (Parked s)))
     (λ k. subst (λ (q : ℕ). Fits (rows_of (g + 1) sp last all q) (c (Block q)) (c (Index q)) (c (Parked q))) (is_same e.stamp s k)
-      (subst (λ (o : Option Placement). Fits (row_at (g + 1) sp (nat_lt last e.stamp) o) (c (Block e.stamp)) (c (Index e.stamp)) (c (Parked e.stamp))) (sym (at_place 0 g all e rest is rises))
-        (let gone : nat_le (g + 1) (0 + g) ≡ false = grind (arith, nat_tests) in
-        subst (λ (z : Bool). Fits (cond z (Pair (files_of e)) (cond (covers sp (0 + g)) (Held (files_of e)) Past)) (c (Block e.stamp)) (c (Index e.stamp)) (c (Parked e.stamp))) (sym gone)
-          (held_or_past (covers sp (0 + g)) (files_of e) (c (Block e.stamp)) (c (Index e.stamp)) (c (Parked e.stamp)) (has_here (rows_of g sp last all) e.stamp (Held (files_of e)) c h)))))
+    (subst (λ (o : Option Placement). Fits (row_at (g + 1) sp (nat_lt last e.stamp) o) (c (Block e.stamp)) (c (Index e.stamp)) (c (Parked e.stamp))) (sym (at_place 0 g all e rest is rises))
+    (let gone : nat_le (g + 1) (0 + g) ≡ false = grind (arith, nat_tests) in
+    subst (λ (z : Bool). Fits (cond z (Pair (files_of e)) (cond (covers sp (0 + g)) (Held (files_of e)) Past)) (c (Block e.stamp)) (c (Index e.stamp)) (c (Parked e.stamp))) (sym gone)
+    (held_or_past (covers sp (0 + g)) (files_of e) (c (Block e.stamp)) (c (Index e.stamp)) (c (Parked e.stamp)) (has_here (rows_of g sp last all) e.stamp (Held (files_of e)) c h)))))
     (λ k. same_row g sp (nat_lt last s) (place_in 0 s all) (c (Block s)) (c (Index s)) (c (Parked s))
-      (λ q found at. let same : e.stamp ≡ s = one_stamp 0 e.stamp s all (record { place = 0 + g; files = files_of e }) q (at_place 0 g all e rest is rises) found (let z : 0 + g ≡ g = omega arith in z ∙ sym at) in not_both (nat_eq e.stamp s) k (grind (arith, nat_tests)))
-      (has_other (rows_of g sp last all) e.stamp (Held (files_of e)) c h s k))
+    (λ q found at. let same : e.stamp ≡ s = one_stamp 0 e.stamp s all (record { place = 0 + g; files = files_of e }) q (at_place 0 g all e rest is rises) found (let z : 0 + g ≡ g = omega arith in z ∙ sym at) in not_both (nat_eq e.stamp s) k (grind (arith, nat_tests)))
+    (has_other (rows_of g sp last all) e.stamp (Held (files_of e)) c h s k))
   where
     not_both : (b : Bool) → b ≡ false → b ≡ true → ⊥
     not_both b e f = cc

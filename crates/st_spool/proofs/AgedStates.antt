@@ -118,15 +118,15 @@ module _ (W : List ℕ → List ℕ → Type 0) (old : Option Log) (st : SpoolSt
       calm = stands.calm;
       doubt = subst (λ (d : Doubt). MayBe d k (st.removed + 1) st.last (entries_of (h ++ Remove t ∷ []))) (sym none) tt;
       disk = λ m now.
-        let was = before m now in
-        subst (λ (d : Doubt). OnDisk W m (record st { removed = st.removed + 1; swept = to; doubt = d }) earlier (h ++ Remove t ∷ []) k) (sym none) (record {
-          images = subst (λ (es : List Entry). Each m (Has (rows_of (st.removed + 1) st.holds st.last es))) (sym entries) (ran_each was.0 new (Remove t ∷ []) (Gives h (Remove t ∷ [])) (Has (rows_of (st.removed + 1) st.holds st.last (entries_of h))) (run was.0 was.1) m now);
-          past = ran_past was.0 new (Remove t ∷ []) (Gives h (Remove t ∷ [])) (Has (rows_of (st.removed + 1) st.holds st.last (entries_of h))) (run was.0 was.1) m now
-            ∙ past_more (events was.0) earlier (after_found h) (Remove t ∷ []) (past_calm was.0 was.1)
-            ∙ ap (λ (xs : List Event). earlier ++ xs) (sym (append-nil (after_found (h ++ Remove t ∷ [])) ∙ after_more st.limit h (Remove t ∷ []) stands.legal));
-          whole = whole_more W (h ++ Remove t ∷ []) [] (whole_more W h (Remove t ∷ []) (whole_calm was.0 was.1) tt) tt;
-          hidden = tt;
-        });
+          let was = before m now in
+          subst (λ (d : Doubt). OnDisk W m (record st { removed = st.removed + 1; swept = to; doubt = d }) earlier (h ++ Remove t ∷ []) k) (sym none) (record {
+            images = subst (λ (es : List Entry). Each m (Has (rows_of (st.removed + 1) st.holds st.last es))) (sym entries) (ran_each was.0 new (Remove t ∷ []) (Gives h (Remove t ∷ [])) (Has (rows_of (st.removed + 1) st.holds st.last (entries_of h))) (run was.0 was.1) m now);
+            past = ran_past was.0 new (Remove t ∷ []) (Gives h (Remove t ∷ [])) (Has (rows_of (st.removed + 1) st.holds st.last (entries_of h))) (run was.0 was.1) m now
+                ∙ past_more (events was.0) earlier (after_found h) (Remove t ∷ []) (past_calm was.0 was.1)
+                ∙ ap (λ (xs : List Event). earlier ++ xs) (sym (append-nil (after_found (h ++ Remove t ∷ [])) ∙ after_more st.limit h (Remove t ∷ []) stands.legal));
+            whole = whole_more W (h ++ Remove t ∷ []) [] (whole_more W h (Remove t ∷ []) (whole_calm was.0 was.1) tt) tt;
+            hidden = tt;
+          });
     }
 
   found : place_in 0 t (entries_of h) ≡ Some (record { place = st.removed; files = files_of e })
@@ -139,16 +139,25 @@ module _ (W : List ℕ → List ℕ → Type 0) (old : Option Log) (st : SpoolSt
         let rows = rows_of st.removed st.holds st.last (entries_of h) in
         record {
           stands = record {
-            legal = stands.legal; stamps = stands.stamps; set = stands.set; within = stands.within; rises = stands.rises; last = stands.last; holds = stands.holds; asked = stands.asked; calm = some; doubt = found;
+            legal = stands.legal;
+            stamps = stands.stamps;
+            set = stands.set;
+            within = stands.within;
+            rises = stands.rises;
+            last = stands.last;
+            holds = stands.holds;
+            asked = stands.asked;
+            calm = some;
+            doubt = found;
             disk = λ m now.
-              let was = before m now in
-              let run = kept was.0 rows (files_of e) was.1 (each_row was.0 was.1) pair_row in
-              record {
-                images = ran_each was.0 new [] (Has rows) (Has rows) run m now;
-                past = ran_past was.0 new [] (Has rows) (Has rows) run m now ∙ past_more (events was.0) earlier (after_found h) [] (past_calm was.0 was.1);
-                whole = whole_more W h (Remove t ∷ []) (whole_calm was.0 was.1) tt;
-                hidden = tt;
-              };
+                let was = before m now in
+                let run = kept was.0 rows (files_of e) was.1 (each_row was.0 was.1) pair_row in
+                record {
+                  images = ran_each was.0 new [] (Has rows) (Has rows) run m now;
+                  past = ran_past was.0 new [] (Has rows) (Has rows) run m now ∙ past_more (events was.0) earlier (after_found h) [] (past_calm was.0 was.1);
+                  whole = whole_more W h (Remove t ∷ []) (whole_calm was.0 was.1) tt;
+                  hidden = tt;
+                };
           };
           images = λ first known. ran_widen first new [] (Has rows) (Has rows) (Gives h []) (Gives h []) (sure_sets W old st earlier h k stands) (sure_sets W old st earlier h k stands) (kept first rows (files_of e) known (each_row first known) pair_row);
         }
@@ -159,16 +168,25 @@ module _ (W : List ℕ → List ℕ → Type 0) (old : Option Log) (st : SpoolSt
         let going = set_row (rows_of st.removed st.holds st.last (entries_of h)) t (Going (files_of e)) in
         record {
           stands = record {
-            legal = stands.legal; stamps = stands.stamps; set = stands.set; within = stands.within; rises = stands.rises; last = stands.last; holds = stands.holds; asked = stands.asked; calm = some; doubt = found;
+            legal = stands.legal;
+            stamps = stands.stamps;
+            set = stands.set;
+            within = stands.within;
+            rises = stands.rises;
+            last = stands.last;
+            holds = stands.holds;
+            asked = stands.asked;
+            calm = some;
+            doubt = found;
             disk = λ m now.
-              let was = before m now in
-              let run = hides was.0 rows (files_of e) was.1 (each_row was.0 was.1) pair_row in
-              record {
-                images = ran_each was.0 new (Remove t ∷ []) (Has going) (Has going) run.0 m now;
-                past = ran_past was.0 new (Remove t ∷ []) (Has going) (Has going) run.0 m now ∙ past_more (events was.0) earlier (after_found h) (Remove t ∷ []) (past_calm was.0 was.1);
-                whole = whole_more W h (Remove t ∷ []) (whole_calm was.0 was.1) tt;
-                hidden = run.1 m now;
-              };
+                let was = before m now in
+                let run = hides was.0 rows (files_of e) was.1 (each_row was.0 was.1) pair_row in
+                record {
+                  images = ran_each was.0 new (Remove t ∷ []) (Has going) (Has going) run.0 m now;
+                  past = ran_past was.0 new (Remove t ∷ []) (Has going) (Has going) run.0 m now ∙ past_more (events was.0) earlier (after_found h) (Remove t ∷ []) (past_calm was.0 was.1);
+                  whole = whole_more W h (Remove t ∷ []) (whole_calm was.0 was.1) tt;
+                  hidden = run.1 m now;
+                };
           };
           images = λ first known. ran_widen first new (Remove t ∷ []) (Has going) (Has going) (Gives h (Remove t ∷ [])) (Gives h (Remove t ∷ [])) (going_sets W old st earlier h k stands t e rest is same) (going_sets W old st earlier h k stands t e rest is same) (hides first rows (files_of e) known (each_row first known) pair_row).0;
         }

@@ -87,8 +87,8 @@ module _ (names : List Name) where
         ⊎_elim
         (λ (lower : k < i). reads_removing mid new (get_or names i (Block 0)) (get_or names k d) (λ v. v ≡ None) (λ same. refl) (was k d lower stray) adds)
         (λ (e : k ≡ i).
-          let same : get_or names i (Block 0) ≡ get_or names k d = get_or_default names i (Block 0) d lt ∙ ap (λ (j : ℕ). get_or names j d) (sym e) in
-          here (get_or names k d) same)
+        let same : get_or names i (Block 0) ≡ get_or names k d = get_or_default names i (Block 0) d lt ∙ ap (λ (j : ℕ). get_or names j d) (sym e) in
+        here (get_or names k d) same)
         (below_or_at k i b)
       where
         here : (n : Name) → get_or names i (Block 0) ≡ n → Reads new n (λ v. v ≡ None)
@@ -106,11 +106,11 @@ module _ (names : List Name) where
       ⊎_elim
       (λ yes. ⊎_elim (λ e. e ∙ sym yes.1) (λ out. absurd (out.0 (part_more (λ m. IsSome (f m)) (Contains names) n (λ m some. (there m).1 some) yes.0))) (left f was n log is))
       (λ no. ⊎_elim
-        (λ none. ⊎_elim (λ e. e ∙ none ∙ sym no.1) (λ out. out.1 ∙ sym no.1) (left f was n log is))
-        (λ some. let has = (there n).1 some in let lt : has.0 < length names = has.1 in
-          let stray : IsPart (Contains names) n → ⊥ = λ part. no.0 (part_more (Contains names) (λ m. IsSome (f m)) n (λ m h. (there m).0 h) part) in
-          subst (λ (m : Name). Reads now m (λ v. v ≡ None)) has.2 (gone has.0 n (omega arith) (λ part. stray (subst (IsPart (Contains names)) has.2 part))) log is ∙ sym no.1)
-        (nothing_or (f n)))
+      (λ none. ⊎_elim (λ e. e ∙ none ∙ sym no.1) (λ out. out.1 ∙ sym no.1) (left f was n log is))
+      (λ some. let has = (there n).1 some in let lt : has.0 < length names = has.1 in
+      let stray : IsPart (Contains names) n → ⊥ = λ part. no.0 (part_more (Contains names) (λ m. IsSome (f m)) n (λ m h. (there m).0 h) part) in
+      subst (λ (m : Name). Reads now m (λ v. v ≡ None)) has.2 (gone has.0 n (omega arith) (λ part. stray (subst (IsPart (Contains names)) has.2 part))) log is ∙ sym no.1)
+      (nothing_or (f n)))
       (alone_cases f n)
 
 -- what is read is one of the images

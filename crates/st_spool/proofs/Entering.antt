@@ -38,9 +38,9 @@ pub both_flushed : (l : Log) → Ran l (Some (flushed_log l)) [] (Leaves l) (Is 
 both_flushed l =
     let run = ran_start l (Some l) (Leaves l) (Leaves l) refl (λ c h. h) (λ c h. h) in
     let half = ran_flushed l (Some l) (Some (and_then l (Flush kind.Block))) [] (Leaves l) (Leaves l) (λ c. Leaves l c × ((n : Name) → kind_of n ≡ kind.Block → c n ≡ reads l n)) kind.Block (λ c h. h.0)
-      (λ g t c h pins. (h, λ n e. pins n e ∙ ap (λ (x : Log). reads x n) (known_log g l (sym t)))) run refl in
+    (λ g t c h pins. (h, λ n e. pins n e ∙ ap (λ (x : Log). reads x n) (known_log g l (sym t)))) run refl in
     let whole = ran_flushed l (Some (and_then l (Flush kind.Block))) (Some (flushed_log l)) [] (Leaves l) (λ c. Leaves l c × ((n : Name) → kind_of n ≡ kind.Block → c n ≡ reads l n)) (λ c. Leaves l c × Is (reads l) c) kind.Index (λ c h. h.0)
-      (λ g t c h pins. (h.0, λ n. by_kind_of n (c n ≡ reads l n) (h.1 n) (λ e. pins n e ∙ ap (λ (x : Log). reads x n) (known_log g (and_then l (Flush kind.Block)) (sym t)) ∙ flush_spares kind.Block n l))) half refl in
+    (λ g t c h pins. (h.0, λ n. by_kind_of n (c n ≡ reads l n) (h.1 n) (λ e. pins n e ∙ ap (λ (x : Log). reads x n) (known_log g (and_then l (Flush kind.Block)) (sym t)) ∙ flush_spares kind.Block n l))) half refl in
     ran_widen l (Some (flushed_log l)) [] (Leaves l) (λ c. Leaves l c × Is (reads l) c) (Leaves l) (Is (reads l)) (λ c h. h) (λ c h. h.1) whole
 
 -- both flushes after a run
@@ -120,5 +120,5 @@ reads_removing old new m n P gone was adds log is =
     let now : log ≡ and_then prior.0 (removal (Some prior.0) m) = prior.2 ∙ ap (λ (o : Option Log). and_then prior.0 (removal o m)) prior.1 in
     subst (λ (l : Log). P (reads l n)) (sym now)
     (by_test (same_name m n) (λ b. same_name m n ≡ b → P (reads (and_then prior.0 (removal (Some prior.0) m)) n))
-      (λ k e. let same : m ≡ n = same_is m n k in subst P (sym (ap (λ (q : Name). reads (and_then prior.0 (removal (Some prior.0) m)) q) (sym same) ∙ reads_removal prior.0 m)) (gone same))
-      (λ k e. subst P (sym (removal_spares prior.0 m n (reads prior.0 m) k)) (was prior.0 prior.1)) refl)
+    (λ k e. let same : m ≡ n = same_is m n k in subst P (sym (ap (λ (q : Name). reads (and_then prior.0 (removal (Some prior.0) m)) q) (sym same) ∙ reads_removal prior.0 m)) (gone same))
+    (λ k e. subst P (sym (removal_spares prior.0 m n (reads prior.0 m) k)) (was prior.0 prior.1)) refl)

@@ -31,8 +31,8 @@ module _ (names : List Name) (i : ℕ) (lt : i < length names) where
 
   pub above_more : (last stamp now : ℕ) → Above i last → number_of (get_or names i (Block 0)) ≡ stamp → now ≡ max stamp last → Above (i + 1) now
   above_more last stamp now was is most k d = up_to i (λ j. IsStamped (get_or names j d) → number_of (get_or names j d) ≤ now)
-    (λ j b s. let le : number_of (get_or names j d) ≤ last = was j d b s in omega arith)
-    (λ s. let e : number_of (get_or names i d) ≡ stamp = ap number_of (at d) ∙ is in omega arith) k
+      (λ j b s. let le : number_of (get_or names j d) ≤ last = was j d b s in omega arith)
+      (λ s. let e : number_of (get_or names i d) ≡ stamp = ap number_of (at d) ∙ is in omega arith) k
 
   max_is : (a b now : ℕ) → now ≡ max a b → (now ≡ a) ⊎ (now ≡ b)
   max_is a b now e = grind arith
@@ -74,7 +74,7 @@ module _ (names : List Name) (i : ℕ) (lt : i < length names) where
 
     pub all_more : All_of i v → All_of (i + 1) w
     all_more was k s d = up_to i (λ j. get_or names j d ≡ Block s → Contains names (Index s) → Contains w s) (λ j b e has. kept s (was j s d b e has))
-      (λ e has. subst (λ (n : ℕ). Contains w n) (block_is s (sym is ∙ sym (at d) ∙ e)) (subst (λ (xs : List ℕ). Contains xs stamp) (sym pushed) (Contains-push v stamp))) k
+        (λ e has. subst (λ (n : ℕ). Contains w n) (block_is s (sym is ∙ sym (at d) ∙ e)) (subst (λ (xs : List ℕ). Contains xs stamp) (sym pushed) (Contains-push v stamp))) k
 
     less : (s : ℕ) → Before (Block s) (Block stamp) → s < stamp
     less s before = ⊎_elim (λ (h : 0 < 0). absurd (let no : 0 < 0 = h in omega arith)) (λ (h : (0 ≡ 0) × (s < stamp)). h.1) before
@@ -83,8 +83,8 @@ module _ (names : List Name) (i : ℕ) (lt : i < length names) where
     rises_more sorted was rises =
         subst (AllPairs (λ s t. s < t)) (sym pushed)
         (all_pairs_push (λ s t. s < t) v stamp rises (λ j d b.
-          let r = was (get_or v j d) (Contains-get_or v j d b) in
-          less (get_or v j d) (subst (λ (n : Name). Before (Block (get_or v j d)) n) is (subst (λ (m : Name). Before m (get_or names i (Block 0))) (r.2 (Block 0)) (sorted r.0 i (Block 0) r.1 lt)))))
+        let r = was (get_or v j d) (Contains-get_or v j d b) in
+        less (get_or v j d) (subst (λ (n : Name). Before (Block (get_or v j d)) n) is (subst (λ (m : Name). Before m (get_or names i (Block 0))) (r.2 (Block 0)) (sorted r.0 i (Block 0) r.1 lt)))))
 
 -- all names were looked at
 pub all_paired : (names : List Name) (v : List ℕ) (n : ℕ) → length names ≤ n → AllPairs (λ s t. s < t) v → ((s : ℕ) → Contains v s → (k : ℕ) × (k < n) × ((d : Name) → get_or names k d ≡ Block s) × Contains names (Index s))

@@ -80,15 +80,15 @@ module _ (W : List ℕ → List ℕ → Type 0) (known : Option Log) (st : Spool
     coming_sets c has =
         subst (λ (s : List Entry). Either (set_of h) s c) (sym set_more_is)
         (subst (λ (s : List Entry). Either s (drop st.removed (entries_of h) ++ entry t f ∷ []) c) (sym stands.set)
-          (either_set (rows_of st.removed st.holds st.last (entries_of h)) t (Coming f) (drop st.removed (entries_of h)) (drop st.removed (entries_of h) ++ entry t f ∷ []) c (rows_sure st.removed st.last st.holds (entries_of h)) is_set (sym (ap pair_before free)) rises_set
-            (λ s. files_more (entry t f) (drop st.removed (entries_of h)) s (is_set.each t ∙ ap pair_before free)) has))
+        (either_set (rows_of st.removed st.holds st.last (entries_of h)) t (Coming f) (drop st.removed (entries_of h)) (drop st.removed (entries_of h) ++ entry t f ∷ []) c (rows_sure st.removed st.last st.holds (entries_of h)) is_set (sym (ap pair_before free)) rises_set
+        (λ s. files_more (entry t f) (drop st.removed (entries_of h)) s (is_set.each t ∙ ap pair_before free)) has))
 
     pub half_sets : (c : Folder) → Has (set_row (rows_of st.removed st.holds st.last (entries_of h)) t (Half f)) c → PairsIn c (set_of h)
     half_sets c has =
         subst (λ (s : List Entry). PairsIn c s) (sym stands.set)
         (⊎_elim (λ (p : PairsIn c (drop st.removed (entries_of h))). p) (λ (p : PairsIn c (drop st.removed (entries_of h))). p)
-          (either_set (rows_of st.removed st.holds st.last (entries_of h)) t (Half f) (drop st.removed (entries_of h)) (drop st.removed (entries_of h)) c (rows_sure st.removed st.last st.holds (entries_of h)) is_set (sym (ap pair_before free)) is_set.rises
-            (at_least (rows_of st.removed st.holds st.last (entries_of h)) t (drop st.removed (entries_of h)) (Half f) is_set (sym (ap pair_before free))) has))
+        (either_set (rows_of st.removed st.holds st.last (entries_of h)) t (Half f) (drop st.removed (entries_of h)) (drop st.removed (entries_of h)) c (rows_sure st.removed st.last st.holds (entries_of h)) is_set (sym (ap pair_before free)) is_set.rises
+        (at_least (rows_of st.removed st.holds st.last (entries_of h)) t (drop st.removed (entries_of h)) (Half f) is_set (sym (ap pair_before free))) has))
 
   -- the least pair of the set
   module _ (t : ℕ) (e : Entry) (rest : List Entry) (is : drop st.removed (entries_of h) ≡ e ∷ rest) (same : t ≡ e.stamp) where
@@ -108,9 +108,9 @@ module _ (W : List ℕ → List ℕ → Type 0) (known : Option Log) (st : Spool
     going_sets c has =
         subst (λ (s : List Entry). Either (set_of h) s c) (sym set_less)
         (subst (λ (s : List Entry). Either s rest c) (sym set_old)
-          (either_set (rows_of st.removed st.holds st.last (entries_of h)) t (Going (files_of e)) (e ∷ rest) rest c (rows_sure st.removed st.last st.holds (entries_of h))
-            (subst (λ (s : List Entry). IsSetOf (rows_of st.removed st.holds st.last (entries_of h)) s) is is_set) (sym (ap pair_before is_pair)) rises_both.1
-            (subst (λ (n : ℕ). (s : ℕ) → files_at s rest ≡ cond (nat_eq n s) None (files_at s (e ∷ rest))) (sym same) (λ s. files_less e rest s rises_both)) has))
+        (either_set (rows_of st.removed st.holds st.last (entries_of h)) t (Going (files_of e)) (e ∷ rest) rest c (rows_sure st.removed st.last st.holds (entries_of h))
+        (subst (λ (s : List Entry). IsSetOf (rows_of st.removed st.holds st.last (entries_of h)) s) is is_set) (sym (ap pair_before is_pair)) rises_both.1
+        (subst (λ (n : ℕ). (s : ℕ) → files_at s rest ≡ cond (nat_eq n s) None (files_at s (e ∷ rest))) (sym same) (λ s. files_less e rest s rises_both)) has))
 
   going_found : (t : ℕ) → place_in 0 t (entries_of h) ≡ Some (record { place = st.removed; files = k }) → (c : Folder) → Has (set_row (rows_of st.removed st.holds st.last (entries_of h)) t (Going k)) c → Either (set_of h) (set_of (h ++ Remove t ∷ [])) c
   going_found t may c has =

@@ -64,18 +64,27 @@ held_all W known st earlier h k to stands is =
 pub hold_stands : (W : List ℕ → List ℕ → Type 0) (known : Option Log) (st : SpoolState) (earlier h : List Event) (k : Files) (holds : List Span) (to asks : ℕ) → StandsFor W known st earlier h k → to ≡ length (entries_of h) → holds ≡ st.holds ++ (record { from = st.removed; to = to }) ∷ []
     → StandsFor W known (record st { holds = holds; asks = asks; asked = record { from = st.removed; to = to } }) earlier h k
 hold_stands W known st earlier h k holds to asks stands is pushed = record {
-  legal = stands.legal; stamps = stands.stamps; set = stands.set; within = stands.within; rises = stands.rises; last = stands.last; calm = stands.calm; doubt = stands.doubt;
+  legal = stands.legal;
+  stamps = stands.stamps;
+  set = stands.set;
+  within = stands.within;
+  rises = stands.rises;
+  last = stands.last;
+  calm = stands.calm;
+  doubt = stands.doubt;
   holds = subst (λ (sp : List Span). AreWithin (length (entries_of h)) sp) (sym pushed)
-    (λ q has. ⊎_elim (λ was. stands.holds q was) (λ (e : record { from = st.removed; to = to } ≡ q). subst (IsWithin (length (entries_of h))) e (let in_list : st.removed ≤ length (entries_of h) = stands.within in (omega arith, omega arith)))
+      (λ q has. ⊎_elim (λ was. stands.holds q was) (λ (e : record { from = st.removed; to = to } ≡ q). subst (IsWithin (length (entries_of h))) e (let in_list : st.removed ≤ length (entries_of h) = stands.within in (omega arith, omega arith)))
       (Contains-push_cases st.holds (record { from = st.removed; to = to }) q has));
   asked = let in_list : st.removed ≤ length (entries_of h) = stands.within in (omega arith, omega arith);
   disk = λ log now.
-    let disk = stands.disk log now in
-    record {
-      images = subst (λ (rows : ℕ → Row). Each log (Has (with_doubt st.doubt k rows)))
-        (sym (ap (λ (sp : List Span). rows_of st.removed sp st.last (entries_of h)) pushed ∙ rows_held st.removed st.last st.holds (record { from = st.removed; to = to }) (entries_of h) refl)) disk.images;
-      past = disk.past; whole = disk.whole; hidden = disk.hidden;
-    };
+      let disk = stands.disk log now in
+      record {
+        images = subst (λ (rows : ℕ → Row). Each log (Has (with_doubt st.doubt k rows)))
+            (sym (ap (λ (sp : List Span). rows_of st.removed sp st.last (entries_of h)) pushed ∙ rows_held st.removed st.last st.holds (record { from = st.removed; to = to }) (entries_of h) refl)) disk.images;
+        past = disk.past;
+        whole = disk.whole;
+        hidden = disk.hidden;
+      };
 }
 
 pub up_to_at : (k last : ℕ) (all : List Entry) (e : Entry) (rest : List Entry) → drop k all ≡ e ∷ rest → AreUpTo last all → e.stamp ≤ last
@@ -108,7 +117,7 @@ index_at g sp above q b i p kept fits =
     by_test (nat_le g q.place) (λ z. Fits (cond z (Pair q.files) (cond (covers sp q.place) (Held q.files) Past)) b i p → IndexBy (nat_lt q.place g) q.files i p)
     (λ k f. let no : nat_lt q.place g ≡ false = grind (arith, nat_tests) in subst (λ (z : Bool). IndexBy z q.files i p) (sym no) f.1)
     (λ k f. let lt : q.place < g = grind (arith, nat_tests) in let yes : nat_lt q.place g ≡ true = grind (arith, nat_tests) in
-      subst (λ (z : Bool). IndexBy z q.files i p) (sym yes) (subst (λ (z : Bool). Fits (cond z (Held q.files) Past) b i p) (kept lt) f).2) fits
+    subst (λ (z : Bool). IndexBy z q.files i p) (sym yes) (subst (λ (z : Bool). Fits (cond z (Held q.files) Past) b i p) (kept lt) f).2) fits
 
 some_is : (x y : Placement) → ◌≡◌ {A = Option Placement} (Some x) (Some y) → x ≡ y
 some_is x y e = cc
@@ -151,8 +160,8 @@ module _ (g last n : ℕ) (sp : List Span) (all : List Entry) (e : Entry) (rest 
   other_place : (t : ℕ) → place_in 0 t all ≡ Some (record { place = g; files = k }) → nat_eq t e.stamp ≡ false → nat_eq n g ≡ false
   other_place t may other =
       by_test (nat_eq n g) (λ b. b ≡ false) (λ yes. let eq : n ≡ g = is_same n g yes in
-        let same : t ≡ e.stamp = one_stamp 0 t e.stamp all (record { place = g; files = k }) (record { place = 0 + n; files = files_of e }) may (at_place 0 n all e rest is rises) (sym eq ∙ sym zero_first) in
-        let here : nat_eq t e.stamp ≡ true = grind (arith, nat_tests) in absurd (cc)) (λ no. refl)
+      let same : t ≡ e.stamp = one_stamp 0 t e.stamp all (record { place = g; files = k }) (record { place = 0 + n; files = files_of e }) may (at_place 0 n all e rest is rises) (sym eq ∙ sym zero_first) in
+      let here : nat_eq t e.stamp ≡ true = grind (arith, nat_tests) in absurd (cc)) (λ no. refl)
 
   block_by : (d : Doubt) → MayBe d k g last all → Has (with_doubt d k (rows_of g sp last all)) c → c (Block e.stamp) ≡ Some e.block
   block_by doubt.Nothing may has = base_block (has e.stamp)
@@ -162,7 +171,7 @@ module _ (g last n : ℕ) (sp : List Span) (all : List Entry) (e : Entry) (rest 
   block_by (doubt.Hidden t) may has =
       by_test (nat_eq t e.stamp) (λ z. nat_eq t e.stamp ≡ z → c (Block e.stamp) ≡ Some e.block)
       (λ yes z. let same : t ≡ e.stamp = is_same t e.stamp yes in
-        subst (λ (s : ℕ). c (Block s) ≡ Some e.block) same ((has_here (rows_of g sp last all) t (Going k) c has).0 ∙ ap (λ (f : Files). Some f.block) (same_files t may same).1))
+      subst (λ (s : ℕ). c (Block s) ≡ Some e.block) same ((has_here (rows_of g sp last all) t (Going k) c has).0 ∙ ap (λ (f : Files). Some f.block) (same_files t may same).1))
       (λ no z. base_block (has_other (rows_of g sp last all) t (Going k) c has e.stamp no)) refl
 
   index_by : (d : Doubt) → MayBe d k g last all → Has (with_doubt d k (rows_of g sp last all)) c → IsHidden d c → IndexBy (is_parked d g n) (files_of e) (c (Index e.stamp)) (c (Parked e.stamp))
@@ -173,14 +182,14 @@ module _ (g last n : ℕ) (sp : List Span) (all : List Entry) (e : Entry) (rest 
   index_by (doubt.Hidden t) may has hidden =
       by_test (nat_eq t e.stamp) (λ z. nat_eq t e.stamp ≡ z → IndexBy (nat_lt n g || nat_eq n g) (files_of e) (c (Index e.stamp)) (c (Parked e.stamp)))
       (λ yes z. let same : t ≡ e.stamp = is_same t e.stamp yes in
-        let at = same_files t may same in
-        let here = has_here (rows_of g sp last all) t (Going k) c has in
-        let parked : c (Parked t) ≡ Some k.index = ⊎_elim (λ (q : (c (Index t) ≡ Some k.index) × (c (Parked t) ≡ None)). absurd (not_there k.index (sym q.0 ∙ hidden))) (λ (q : (c (Index t) ≡ None) × (c (Parked t) ≡ Some k.index)). q.1) here.1 in
-        let eq : nat_eq n g ≡ true = (let m : g ≡ n = at.0 in grind (arith, nat_tests)) in
-        subst (λ (b : Bool). IndexBy b (files_of e) (c (Index e.stamp)) (c (Parked e.stamp))) (sym (or_true (nat_lt n g) (nat_eq n g) eq))
-        (subst (λ (s : ℕ). c (Parked s) ≡ Some e.index) same (parked ∙ ap (λ (f : Files). Some f.index) at.1)))
+      let at = same_files t may same in
+      let here = has_here (rows_of g sp last all) t (Going k) c has in
+      let parked : c (Parked t) ≡ Some k.index = ⊎_elim (λ (q : (c (Index t) ≡ Some k.index) × (c (Parked t) ≡ None)). absurd (not_there k.index (sym q.0 ∙ hidden))) (λ (q : (c (Index t) ≡ None) × (c (Parked t) ≡ Some k.index)). q.1) here.1 in
+      let eq : nat_eq n g ≡ true = (let m : g ≡ n = at.0 in grind (arith, nat_tests)) in
+      subst (λ (b : Bool). IndexBy b (files_of e) (c (Index e.stamp)) (c (Parked e.stamp))) (sym (or_true (nat_lt n g) (nat_eq n g) eq))
+      (subst (λ (s : ℕ). c (Parked s) ≡ Some e.index) same (parked ∙ ap (λ (f : Files). Some f.index) at.1)))
       (λ no z. subst (λ (b : Bool). IndexBy b (files_of e) (c (Index e.stamp)) (c (Parked e.stamp))) (sym (or_false (nat_lt n g) (nat_eq n g) (other_place t may no)))
-        (base_index (has_other (rows_of g sp last all) t (Going k) c has e.stamp no))) refl
+      (base_index (has_other (rows_of g sp last all) t (Going k) c has e.stamp no))) refl
 
 index_read : (b : Bool) (f : Files) (c : Folder) (s : ℕ) → IndexBy b f (c (Index s)) (c (Parked s)) → c (index_name b s) ≡ Some f.index
 index_read true f c s h = h
@@ -203,7 +212,7 @@ module _ (W : List ℕ → List ℕ → Type 0) (known : Option Log) (st : Spool
 
     pub held_index : reads log (index_name (is_parked st.doubt st.removed (span.from + i)) e.stamp) ≡ Some e.index
     held_index = index_read (is_parked st.doubt st.removed (span.from + i)) (files_of e) (reads log) e.stamp
-      (index_by st.removed st.last (span.from + i) st.holds (entries_of h) e rest k (reads log) is stands.rises stands.last covered st.doubt stands.doubt ((stands.disk log now).images (reads log) (leaves_now log)) (stands.disk log now).hidden)
+        (index_by st.removed st.last (span.from + i) st.holds (entries_of h) e rest k (reads log) is stands.rises stands.last covered st.doubt stands.doubt ((stands.disk log now).images (reads log) (leaves_now log)) (stands.disk log now).hidden)
 
 -- an entry of the hold is one of the list
 pub taken_at : (i m : ℕ) (xs : List Entry) (e : Entry) (rest : List Entry) → drop i (take m xs) ≡ e ∷ rest → (more : List Entry) × (drop i xs ≡ e ∷ more)
@@ -215,7 +224,6 @@ taken_at (suc i) zero [] e rest is = absurd (cc)
 taken_at (suc i) zero (x ∷ xs) e rest is = absurd (cc)
 taken_at (suc i) (suc m) [] e rest is = absurd (cc)
 taken_at (suc i) (suc m) (x ∷ xs) e rest is = taken_at i m xs e rest is
-
 
 -- what a hold has stays the same as the history goes on
 pub held_published : (span : Span) (h : List Event) (e : Entry) → IsWithin (length (entries_of h)) span → held span (h ++ Publish e ∷ []) ≡ held span h

@@ -49,22 +49,31 @@ still_hidden (doubt.Hidden t) old new l m is now keeps h = keeps t (hidden_read 
 pub keeps_rows : (W : List ℕ → List ℕ → Type 0) (old new : Option Log) (st : SpoolState) (earlier h : List Event) (k : Files) → KeepsRows old new → StandsFor W old st earlier h k → Keeps W old new st earlier h k
 keeps_rows W old new st earlier h k keeps stands = record {
   stands = record {
-    legal = stands.legal; stamps = stands.stamps; set = stands.set; within = stands.within; rises = stands.rises; last = stands.last; holds = stands.holds; asked = stands.asked; calm = stands.calm; doubt = stands.doubt;
+    legal = stands.legal;
+    stamps = stands.stamps;
+    set = stands.set;
+    within = stands.within;
+    rises = stands.rises;
+    last = stands.last;
+    holds = stands.holds;
+    asked = stands.asked;
+    calm = stands.calm;
+    doubt = stands.doubt;
     disk = λ m now.
-      let was = keeps.known m now in
-      let disk = stands.disk was.0 was.1 in
-      let run = keeps.ran was.0 (rows_by st k (entries_of h)) (start was.0 (rows_by st k (entries_of h)) old was.1 disk.images) in
-      record {
-        images = ran_each was.0 new [] (Has (rows_by st k (entries_of h))) (Has (rows_by st k (entries_of h))) run m now;
-        past = ran_past was.0 new [] (Has (rows_by st k (entries_of h))) (Has (rows_by st k (entries_of h))) run m now ∙ append-nil (events was.0) ∙ disk.past;
-        whole = disk.whole;
-        hidden = still_hidden st.doubt old new was.0 m was.1 now keeps.hidden disk.hidden;
-      };
+        let was = keeps.known m now in
+        let disk = stands.disk was.0 was.1 in
+        let run = keeps.ran was.0 (rows_by st k (entries_of h)) (start was.0 (rows_by st k (entries_of h)) old was.1 disk.images) in
+        record {
+          images = ran_each was.0 new [] (Has (rows_by st k (entries_of h))) (Has (rows_by st k (entries_of h))) run m now;
+          past = ran_past was.0 new [] (Has (rows_by st k (entries_of h))) (Has (rows_by st k (entries_of h))) run m now ∙ append-nil (events was.0) ∙ disk.past;
+          whole = disk.whole;
+          hidden = still_hidden st.doubt old new was.0 m was.1 now keeps.hidden disk.hidden;
+        };
   };
   images = λ first known.
-    let rows = rows_by st k (entries_of h) in
-    ran_widen first new [] (Has rows) (Has rows) (Gives h (begun st.doubt k)) (Gives h (begun st.doubt k)) (gives W old st earlier h k stands) (gives W old st earlier h k stands)
-    (keeps.ran first rows (start first rows old known (stands.disk first known).images));
+      let rows = rows_by st k (entries_of h) in
+      ran_widen first new [] (Has rows) (Has rows) (Gives h (begun st.doubt k)) (Gives h (begun st.doubt k)) (gives W old st earlier h k stands) (gives W old st earlier h k stands)
+      (keeps.ran first rows (start first rows old known (stands.disk first known).images));
 }
 
 pub looks_keeps : (old new : Option Log) → Looks old new → KeepsRows old new

@@ -136,10 +136,10 @@ module _ (f : Folder) where
     pairs_in = record {
       rises = rises_at ss paired.rises;
       each = λ s. (rows_set 0 last [] (pairs_at ss) (rises_at ss paired.rises)).each s ∙ ⊎_elim
-        (λ has. let x = some_is (f (Block s)) (paired.each s has).0 in let y = some_is (f (Index s)) (paired.each s has).1 in
+          (λ has. let x = some_is (f (Block s)) (paired.each s has).0 in let y = some_is (f (Index s)) (paired.each s has).1 in
           ap pair_before (pair_row s has) ∙ sym (of_files (f (Block s)) (f (Index s)) x.0 y.0 x.1 y.1))
-        (λ none. ap pair_before (no_row s none) ∙ none_before (nat_lt last s) ∙ sym (no_pair (f (Block s)) (f (Index s)) (λ x y e g. none (two_some s x y e g))))
-        (is_pair s);
+          (λ none. ap pair_before (no_row s none) ∙ none_before (nat_lt last s) ∙ sym (no_pair (f (Block s)) (f (Index s)) (λ x y e g. none (two_some s x y e g))))
+          (is_pair s);
     }
 
     free_or_past : (t : Bool) (b i p : Option (List ℕ)) → b ≡ None → i ≡ None → p ≡ None → Fits (cond t Free Past) b i p
@@ -158,11 +158,11 @@ module _ (f : Folder) where
     pub alone_has : (c : Folder) → Is (pairs_alone f) c → Has (rows_of 0 [] last (pairs_at ss)) c
     alone_has c is s = ⊎_elim
         (λ has. let x = some_is (f (Block s)) (paired.each s has).0 in let y = some_is (f (Index s)) (paired.each s has).1 in
-          subst (λ (r : Row). Fits r (c (Block s)) (c (Index s)) (c (Parked s))) (sym (pair_row s has))
-          (is (Block s) ∙ beside_some (f (Block s)) (f (Index s)) x.0 y.0 x.1 y.1, is (Index s) ∙ beside_some (f (Index s)) (f (Block s)) y.0 x.0 y.1 x.1, is (Parked s)))
+        subst (λ (r : Row). Fits r (c (Block s)) (c (Index s)) (c (Parked s))) (sym (pair_row s has))
+        (is (Block s) ∙ beside_some (f (Block s)) (f (Index s)) x.0 y.0 x.1 y.1, is (Index s) ∙ beside_some (f (Index s)) (f (Block s)) y.0 x.0 y.1 x.1, is (Parked s)))
         (λ none. subst (λ (r : Row). Fits r (c (Block s)) (c (Index s)) (c (Parked s))) (sym (no_row s none))
-          (free_or_past (nat_lt last s) (c (Block s)) (c (Index s)) (c (Parked s)) (is (Block s) ∙ beside_none (f (Block s)) (f (Index s)) (λ x y e g. none (two_some s x y e g)))
-            (is (Index s) ∙ beside_none (f (Index s)) (f (Block s)) (λ y x g e. none (two_some s x y e g))) (is (Parked s))))
+        (free_or_past (nat_lt last s) (c (Block s)) (c (Index s)) (c (Parked s)) (is (Block s) ∙ beside_none (f (Block s)) (f (Index s)) (λ x y e g. none (two_some s x y e g)))
+        (is (Index s) ∙ beside_none (f (Index s)) (f (Block s)) (λ y x g e. none (two_some s x y e g))) (is (Parked s))))
         (is_pair s)
 
   -- what is so of the new spool, whatever is known of its shelf
@@ -193,7 +193,7 @@ enters W log known limit ss last opens = record {
   stands = λ k. stands_at (reads log) W known limit last ss (events log) k opens.paired.rises (most_of (λ n. IsSome (reads log n)) ss last opens.paired opens.greatest) (λ now is. record {
     images = λ c left. alone_has (reads log) ss opens.paired last c (ran_each (flushed_log log) known [] (SamePairs (reads log)) (Is (pairs_alone (reads log))) opens.images.cleared now is c left);
     past = ran_past (flushed_log log) known [] (SamePairs (reads log)) (Is (pairs_alone (reads log))) opens.images.cleared now is
-      ∙ append-nil (events (flushed_log log)) ∙ ran_past log (Some (flushed_log log)) [] (Leaves log) (Is (reads log)) opens.images.flushed (flushed_log log) refl;
+        ∙ append-nil (events (flushed_log log)) ∙ ran_past log (Some (flushed_log log)) [] (Leaves log) (Is (reads log)) opens.images.flushed (flushed_log log) refl;
     whole = tt;
     hidden = tt;
   });

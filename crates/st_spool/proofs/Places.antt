@@ -47,11 +47,11 @@ pub rows_published : (g last : ℕ) (sp : List Span) (all : List Entry) (e : Ent
 rows_published g last sp all e up lt le c h s =
     by_test (nat_eq e.stamp s) (λ z. nat_eq e.stamp s ≡ z → Fits (rows_of g sp e.stamp (all ++ e ∷ []) s) (c (Block s)) (c (Index s)) (c (Parked s)))
     (λ k z. subst (λ (q : ℕ). Fits (rows_of g sp e.stamp (all ++ e ∷ []) q) (c (Block q)) (c (Index q)) (c (Parked q))) (is_same e.stamp s k)
-      (subst (λ (o : Option Placement). Fits (row_at g sp (nat_lt e.stamp e.stamp) o) (c (Block e.stamp)) (c (Index e.stamp)) (c (Parked e.stamp))) (sym (place_new 0 last all e up lt))
-        (let in_set : nat_le g (0 + length all) ≡ true = grind (arith, nat_tests) in
-        subst (λ (z : Bool). Fits (cond z (Pair (files_of e)) (cond (covers sp (0 + length all)) (Held (files_of e)) Past)) (c (Block e.stamp)) (c (Index e.stamp)) (c (Parked e.stamp))) (sym in_set) (has_here (rows_of g sp last all) e.stamp (Pair (files_of e)) c h))))
+    (subst (λ (o : Option Placement). Fits (row_at g sp (nat_lt e.stamp e.stamp) o) (c (Block e.stamp)) (c (Index e.stamp)) (c (Parked e.stamp))) (sym (place_new 0 last all e up lt))
+    (let in_set : nat_le g (0 + length all) ≡ true = grind (arith, nat_tests) in
+    subst (λ (z : Bool). Fits (cond z (Pair (files_of e)) (cond (covers sp (0 + length all)) (Held (files_of e)) Past)) (c (Block e.stamp)) (c (Index e.stamp)) (c (Parked e.stamp))) (sym in_set) (has_here (rows_of g sp last all) e.stamp (Pair (files_of e)) c h))))
     (λ k z. subst (λ (o : Option Placement). Fits (row_at g sp (nat_lt e.stamp s) o) (c (Block s)) (c (Index s)) (c (Parked s))) (sym (place_other 0 s all e k))
-      (further g last e.stamp s sp (place_in 0 s all) (c (Block s)) (c (Index s)) (c (Parked s)) lt (has_other (rows_of g sp last all) e.stamp (Pair (files_of e)) c h s k)))
+    (further g last e.stamp s sp (place_in 0 s all) (c (Block s)) (c (Index s)) (c (Parked s)) lt (has_other (rows_of g sp last all) e.stamp (Pair (files_of e)) c h s k)))
     refl
 
 sure_at : (g : ℕ) (sp : List Span) (above : Bool) (o : Option Placement) → pair_after (row_at g sp above o) ≡ pair_before (row_at g sp above o)
@@ -100,8 +100,8 @@ set_at n (suc k) g s sp above (e ∷ es) is h =
     let out : nat_le g n ≡ false = grind (arith, nat_tests) in
     by_test (nat_eq e.stamp s) (λ z. files_at s (drop k es) ≡ pair_before (row_at g sp above (cond z (Some (record { place = n; files = files_of e })) (place_in (n + 1) s es))))
     (λ j. let same : e.stamp ≡ s = is_same e.stamp s j in
-      none_at s (drop k es) (subst (λ (q : ℕ). IsBelow q (drop k es)) same (below_drop e.stamp k es h.0))
-      ∙ sym (ap (λ (z : Bool). pair_before (cond z (Pair (files_of e)) (cond (covers sp n) (Held (files_of e)) Past))) out ∙ none_gone (covers sp n) (files_of e)))
+    none_at s (drop k es) (subst (λ (q : ℕ). IsBelow q (drop k es)) same (below_drop e.stamp k es h.0))
+    ∙ sym (ap (λ (z : Bool). pair_before (cond z (Pair (files_of e)) (cond (covers sp n) (Held (files_of e)) Past))) out ∙ none_gone (covers sp n) (files_of e)))
     (λ j. more)
 
 pub rows_set : (g last : ℕ) (sp : List Span) (all : List Entry) → IsFileSet all → IsSetOf (rows_of g sp last all) (drop g all)

@@ -86,7 +86,7 @@ module _ (W : List ℕ → List ℕ → Type 0) (old new : Option Log) (st : Spo
   done_sets c has =
       subst (λ (s : List Entry). PairsIn c s) (sym set_new)
       (sure_set (rows_of st.removed st.holds t (entries_of (h ++ Publish (entry t f) ∷ []))) (drop st.removed (entries_of (h ++ Publish (entry t f) ∷ []))) c (rows_sure st.removed t st.holds (entries_of (h ++ Publish (entry t f) ∷ [])))
-        (rows_set st.removed t st.holds (entries_of (h ++ Publish (entry t f) ∷ [])) rises_new) (done_rows c has))
+      (rows_set st.removed t st.holds (entries_of (h ++ Publish (entry t f) ∷ [])) rises_new) (done_rows c has))
 
   longer : length (entries_of (h ++ Publish (entry t f) ∷ [])) ≡ length (entries_of h) + 1
   longer = ap length entries ∙ length-append (entries_of h) (entry t f ∷ [])
@@ -109,16 +109,16 @@ module _ (W : List ℕ → List ℕ → Type 0) (old new : Option Log) (st : Spo
     calm = stands.calm;
     doubt = subst (λ (d : Doubt). MayBe d k st.removed t (entries_of (h ++ Publish (entry t f) ∷ []))) (sym none) tt;
     disk = λ m known.
-      let was = before m known in
-      let run = placed was.0 (rows_of st.removed st.holds st.last (entries_of h)) was.1 (each_row was.0 was.1) free in
-      subst (λ (d : Doubt). OnDisk W m (record st { stamps = stamps; last = t; doubt = d }) earlier (h ++ Publish (entry t f) ∷ []) k) (sym none) (record {
-        images = λ c left. done_rows c (ran_each was.0 new (Publish (entry t f) ∷ []) (Has (set_row (rows_of st.removed st.holds st.last (entries_of h)) t (Coming f))) (Has (set_row (rows_of st.removed st.holds st.last (entries_of h)) t (Pair f))) run m known c left);
-        past = ran_past was.0 new (Publish (entry t f) ∷ []) (Has (set_row (rows_of st.removed st.holds st.last (entries_of h)) t (Coming f))) (Has (set_row (rows_of st.removed st.holds st.last (entries_of h)) t (Pair f))) run m known
-          ∙ past_more (events was.0) earlier (after_found h) (Publish (entry t f) ∷ []) (past_calm was.0 was.1)
-          ∙ ap (λ (xs : List Event). earlier ++ xs) (sym (append-nil (after_found (h ++ Publish (entry t f) ∷ [])) ∙ after_more st.limit h (Publish (entry t f) ∷ []) stands.legal));
-        whole = whole_more W (h ++ Publish (entry t f) ∷ []) [] (whole_more W h (Publish (entry t f) ∷ []) (whole_calm was.0 was.1) (whole was.0 was.1, tt)) tt;
-        hidden = tt;
-      });
+        let was = before m known in
+        let run = placed was.0 (rows_of st.removed st.holds st.last (entries_of h)) was.1 (each_row was.0 was.1) free in
+        subst (λ (d : Doubt). OnDisk W m (record st { stamps = stamps; last = t; doubt = d }) earlier (h ++ Publish (entry t f) ∷ []) k) (sym none) (record {
+          images = λ c left. done_rows c (ran_each was.0 new (Publish (entry t f) ∷ []) (Has (set_row (rows_of st.removed st.holds st.last (entries_of h)) t (Coming f))) (Has (set_row (rows_of st.removed st.holds st.last (entries_of h)) t (Pair f))) run m known c left);
+          past = ran_past was.0 new (Publish (entry t f) ∷ []) (Has (set_row (rows_of st.removed st.holds st.last (entries_of h)) t (Coming f))) (Has (set_row (rows_of st.removed st.holds st.last (entries_of h)) t (Pair f))) run m known
+              ∙ past_more (events was.0) earlier (after_found h) (Publish (entry t f) ∷ []) (past_calm was.0 was.1)
+              ∙ ap (λ (xs : List Event). earlier ++ xs) (sym (append-nil (after_found (h ++ Publish (entry t f) ∷ [])) ∙ after_more st.limit h (Publish (entry t f) ∷ []) stands.legal));
+          whole = whole_more W (h ++ Publish (entry t f) ∷ []) [] (whole_more W h (Publish (entry t f) ∷ []) (whole_calm was.0 was.1) (whole was.0 was.1, tt)) tt;
+          hidden = tt;
+        });
   }
 
   pub published_images : (l : Log) → old ≡ Some l → ((l : Log) (rows : ℕ → Row) → old ≡ Some l → Each l (Has rows) → rows t ≡ Free → RanBy l new (Publish (entry t f) ∷ []) (set_row rows t (Coming f)) (set_row rows t (Pair f)))
@@ -144,15 +144,15 @@ module _ (W : List ℕ → List ℕ → Type 0) (old new : Option Log) (st : Spo
     calm = some;
     doubt = may;
     disk = λ m known.
-      let was = before m known in
-      let run = placed was.0 (rows_of st.removed st.holds st.last (entries_of h)) was.1 (each_row was.0 was.1) free in
-      record {
-        images = subst (λ (q : ℕ → Row). Each m (Has q)) (sym rows_are) (ran_each was.0 new es (Has (set_row (rows_of st.removed st.holds st.last (entries_of h)) t r)) (Has (set_row (rows_of st.removed st.holds st.last (entries_of h)) t r)) run m known);
-        past = ran_past was.0 new es (Has (set_row (rows_of st.removed st.holds st.last (entries_of h)) t r)) (Has (set_row (rows_of st.removed st.holds st.last (entries_of h)) t r)) run m known
-          ∙ past_more (events was.0) earlier (after_found h) es (past_calm was.0 was.1) ∙ ap (λ (xs : List Event). earlier ++ (after_found h ++ xs)) (sym begun_is);
-        whole = whole_more W h (in_doubt d f) (whole_calm was.0 was.1) (whole was.0 was.1);
-        hidden = hidden (reads m);
-      };
+        let was = before m known in
+        let run = placed was.0 (rows_of st.removed st.holds st.last (entries_of h)) was.1 (each_row was.0 was.1) free in
+        record {
+          images = subst (λ (q : ℕ → Row). Each m (Has q)) (sym rows_are) (ran_each was.0 new es (Has (set_row (rows_of st.removed st.holds st.last (entries_of h)) t r)) (Has (set_row (rows_of st.removed st.holds st.last (entries_of h)) t r)) run m known);
+          past = ran_past was.0 new es (Has (set_row (rows_of st.removed st.holds st.last (entries_of h)) t r)) (Has (set_row (rows_of st.removed st.holds st.last (entries_of h)) t r)) run m known
+              ∙ past_more (events was.0) earlier (after_found h) es (past_calm was.0 was.1) ∙ ap (λ (xs : List Event). earlier ++ (after_found h ++ xs)) (sym begun_is);
+          whole = whole_more W h (in_doubt d f) (whole_calm was.0 was.1) (whole was.0 was.1);
+          hidden = hidden (reads m);
+        };
   }
 
   pub unsettled_stands : (since halts : ℕ) → 0 < halts → ((l : Log) → old ≡ Some l → W f.block f.index) → KnownBefore old new → ((l : Log) (rows : ℕ → Row) → old ≡ Some l → Each l (Has rows) → rows t ≡ Free → RanBy l new [] (set_row rows t (Half f)) (set_row rows t (Half f)))

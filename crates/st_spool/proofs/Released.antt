@@ -86,15 +86,24 @@ swept_keeps W old new st earlier h k stamps holds to stands same_stamps same_hol
     let ran : (first : Log) → old ≡ Some first → RanBy first new [] (rows_by st k (entries_of h)) (rows_by st k (entries_of h)) = λ first known. swept first rows (pasts W old st earlier h k stamps holds stands same_stamps same_holds) (start first rows old known (stands.disk first known).images) in
     record {
       stands = record {
-        legal = stands.legal; stamps = stands.stamps; set = stands.set; within = stands.within; rises = stands.rises; last = stands.last; holds = stands.holds; asked = stands.asked; calm = stands.calm; doubt = stands.doubt;
+        legal = stands.legal;
+        stamps = stands.stamps;
+        set = stands.set;
+        within = stands.within;
+        rises = stands.rises;
+        last = stands.last;
+        holds = stands.holds;
+        asked = stands.asked;
+        calm = stands.calm;
+        doubt = stands.doubt;
         disk = λ m now.
-          let was = before m now in
-          record {
-            images = ran_each was.0 new [] (Has rows) (Has rows) (ran was.0 was.1) m now;
-            past = ran_past was.0 new [] (Has rows) (Has rows) (ran was.0 was.1) m now ∙ append-nil (events was.0) ∙ (stands.disk was.0 was.1).past;
-            whole = (stands.disk was.0 was.1).whole;
-            hidden = still_hidden st.doubt old new was.0 m was.1 now (λ t. still (Index t)) (stands.disk was.0 was.1).hidden;
-          };
+            let was = before m now in
+            record {
+              images = ran_each was.0 new [] (Has rows) (Has rows) (ran was.0 was.1) m now;
+              past = ran_past was.0 new [] (Has rows) (Has rows) (ran was.0 was.1) m now ∙ append-nil (events was.0) ∙ (stands.disk was.0 was.1).past;
+              whole = (stands.disk was.0 was.1).whole;
+              hidden = still_hidden st.doubt old new was.0 m was.1 now (λ t. still (Index t)) (stands.disk was.0 was.1).hidden;
+            };
       };
       images = λ first known. ran_widen first new [] (Has rows) (Has rows) (Gives h (begun st.doubt k)) (Gives h (begun st.doubt k)) (gives W old st earlier h k stands) (gives W old st earlier h k stands) (ran first known);
     }
@@ -126,14 +135,24 @@ fewer_removed sp tp i k e h =
 -- a hold less
 pub fewer_stands : (W : List ℕ → List ℕ → Type 0) (known : Option Log) (st : SpoolState) (earlier h : List Event) (k : Files) (hold : Span) (holds : List Span) → StandsFor W known st earlier h k → IsWithout hold st.holds holds → StandsFor W known (record st { holds = holds }) earlier h k
 fewer_stands W known st earlier h k hold holds stands out = record {
-  legal = stands.legal; stamps = stands.stamps; set = stands.set; within = stands.within; rises = stands.rises; last = stands.last; asked = stands.asked; calm = stands.calm; doubt = stands.doubt;
+  legal = stands.legal;
+  stamps = stands.stamps;
+  set = stands.set;
+  within = stands.within;
+  rises = stands.rises;
+  last = stands.last;
+  asked = stands.asked;
+  calm = stands.calm;
+  doubt = stands.doubt;
   holds = λ q has. stands.holds q (fewer_removed st.holds holds out.0 q out.3 has);
   disk = λ log now.
-    let disk = stands.disk log now in
-    record {
-      images = λ c left. less_by st.doubt k (rows_of st.removed st.holds st.last (entries_of h)) (rows_of st.removed holds st.last (entries_of h)) (rows_released st.removed st.last st.holds holds (entries_of h) (λ n. less_removed st.holds holds out.0 n out.3)) c (disk.images c left);
-      past = disk.past; whole = disk.whole; hidden = disk.hidden;
-    };
+      let disk = stands.disk log now in
+      record {
+        images = λ c left. less_by st.doubt k (rows_of st.removed st.holds st.last (entries_of h)) (rows_of st.removed holds st.last (entries_of h)) (rows_released st.removed st.last st.holds holds (entries_of h) (λ n. less_removed st.holds holds out.0 n out.3)) c (disk.images c left);
+        past = disk.past;
+        whole = disk.whole;
+        hidden = disk.hidden;
+      };
 }
 
 -- so a release

@@ -5,7 +5,6 @@ use Rattle.st_disk.specs.declared.naming.Name.TheVariants.{Block, Index, Parked}
 use Rattle.st_disk.specs.Folders.{Folder}
 use Rattle.st_disk.specs.Pairs.{Entry, Files, files_of, files_at, both, IsFileSet, PairsIn}
 use Rattle.st_spool.specs.Rows.{Row, Free, Half, Coming, Pair, Going, Held, Past, Lone, Both, Fits, Has, set_row, pair_before, pair_after, AreSure, IsSetOf, Either}
-
 use Rattle.st_spool.proofs.Keeping.{by_test, is_same, same_here, has_here, has_other}
 
 none_index : (b : Option (List ℕ)) → both b None ≡ None
@@ -43,8 +42,14 @@ pub either_set : (rows : ℕ → Row) (t : ℕ) (r : Row) (set other : List Entr
 either_set rows t r set other c sure is old rises at h =
     let rest : (s : ℕ) → nat_eq t s ≡ false → files_at s set ≡ both (c (Block s)) (c (Index s)) = λ s e. is.each s ∙ sym (sure_one (rows s) (c (Block s)) (c (Index s)) (c (Parked s)) (sure s) (has_other rows t r c h s e)) in
     ⊎_elim
-    (λ (e : both (c (Block t)) (c (Index t)) ≡ pair_before r). inl (record { rises = is.rises; each = λ s. by_test (nat_eq t s) (λ b. files_at s set ≡ both (c (Block s)) (c (Index s)))
-      (λ g. subst (λ (q : ℕ). files_at q set ≡ both (c (Block q)) (c (Index q))) (is_same t s g) (is.each t ∙ sym old ∙ sym e)) (λ g. rest s g) }))
-    (λ (e : both (c (Block t)) (c (Index t)) ≡ pair_after r). inr (record { rises = rises; each = λ s. at s ∙ by_test (nat_eq t s) (λ b. cond b (pair_after r) (files_at s set) ≡ both (c (Block s)) (c (Index s)))
-      (λ g. sym (subst (λ (q : ℕ). both (c (Block q)) (c (Index q)) ≡ pair_after r) (is_same t s g) e)) (λ g. rest s g) }))
+    (λ (e : both (c (Block t)) (c (Index t)) ≡ pair_before r). inl (record {
+      rises = is.rises;
+      each = λ s. by_test (nat_eq t s) (λ b. files_at s set ≡ both (c (Block s)) (c (Index s)))
+          (λ g. subst (λ (q : ℕ). files_at q set ≡ both (c (Block q)) (c (Index q))) (is_same t s g) (is.each t ∙ sym old ∙ sym e)) (λ g. rest s g);
+    }))
+    (λ (e : both (c (Block t)) (c (Index t)) ≡ pair_after r). inr (record {
+      rises = rises;
+      each = λ s. at s ∙ by_test (nat_eq t s) (λ b. cond b (pair_after r) (files_at s set) ≡ both (c (Block s)) (c (Index s)))
+          (λ g. sym (subst (λ (q : ℕ). both (c (Block q)) (c (Index q)) ≡ pair_after r) (is_same t s g) e)) (λ g. rest s g);
+    }))
     (one_of r (c (Block t)) (c (Index t)) (c (Parked t)) (has_here rows t r c h))

@@ -132,5 +132,5 @@ module _ (l : Log) (rows : ℕ → Row) (t : ℕ) (f : Files) where
   gone_flushed old new run there adds =
       ran_widen l new removed (Has going) (λ c. Has going c × (c (Index t) ≡ None)) (Has going) (Has (set_row rows t (Held f))) (λ c h. h)
       (λ c h. let fits = has_here rows t (Going f) c h.0 in set_has rows t (Held f) c (has_other rows t (Going f) c h.0)
-        (fits.0, h.1, ⊎_elim (λ (k : (c (Index t) ≡ Some f.index) × (c (Parked t) ≡ None)). absurd (not_there f.index (sym k.0 ∙ h.1))) (λ (k : (c (Index t) ≡ None) × (c (Parked t) ≡ Some f.index)). k.1) fits.1))
+      (fits.0, h.1, ⊎_elim (λ (k : (c (Index t) ≡ Some f.index) × (c (Parked t) ≡ None)). absurd (not_there f.index (sym k.0 ∙ h.1))) (λ (k : (c (Index t) ≡ None) × (c (Parked t) ≡ Some f.index)). k.1) fits.1))
       (ran_flushed l old new removed (Has going) (Has going) (λ c. Has going c × (c (Index t) ≡ None)) kind.Index (λ c h. h.0) (λ g known c h pins. (h, pins (Index t) refl ∙ there g known)) run adds)

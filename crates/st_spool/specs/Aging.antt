@@ -7,8 +7,8 @@ use Rattle.st_spool.specs.States.{SpoolState}
 use Rattle.st_spool.specs.Standing.{StandsFor}
 use Rattle.st_spool.specs.Publishing.{failed, RanTo, Fails}
 use Rattle.st_spool.specs.declared.state.Doubt.TheVariants.{Unhidden, Hidden}
-use Rattle.st_spool.specs.declared.spool.AgeErr.{AgeErr}
-use Rattle.st_spool.specs.declared.spool.AgeErr.TheVariants.{DiskFault, Halted}
+use Rattle.st_spool.specs.declared.refusals.AgeErr.{AgeErr}
+use Rattle.st_spool.specs.declared.refusals.AgeErr.TheVariants.{DiskFault, Halted}
 
 -- how many pairs are published
 abbrev pub pair_count : SpoolState → ℕ

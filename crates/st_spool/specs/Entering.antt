@@ -102,7 +102,16 @@ pub record Opens (first : Log) (known : Option Log) (stamps : List ℕ) (last : 
 -- the state of a spool that was opened just now
 abbrev pub opened : ℕ → List ℕ → ℕ → SpoolState
 opened limit stamps last = record {
-  limit = limit; stamps = stamps; removed = 0; swept = 0; last = last; holds = []; doubt = doubt.Nothing; halted = None; halts = 0; asks = 0;
+  limit = limit;
+  stamps = stamps;
+  removed = 0;
+  swept = 0;
+  last = last;
+  holds = [];
+  doubt = doubt.Nothing;
+  halted = None;
+  halts = 0;
+  asks = 0;
   asked = record { from = 0; to = length stamps };
 }
 

@@ -8,6 +8,7 @@ pub mod Aging
 pub mod Refusing
 pub mod Holding
 pub mod Lending
+pub mod Histories
 pub mod Entering
 pub use Rattle.st_disk.specs.Events
 pub use Rattle.st_disk.specs.Pairs

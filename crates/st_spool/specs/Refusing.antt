@@ -4,10 +4,10 @@ use Rattle.st_shelf.specs.declared.shelves.SealedPair.{SealedPair}
 use Rattle.st_spool.specs.States.{SpoolView}
 use Rattle.st_spool.specs.Publishing.{MayPublish}
 use Rattle.st_spool.specs.Aging.{MayAge}
-use Rattle.st_spool.specs.declared.spool.PublishErr.{PublishErr}
-use Rattle.st_spool.specs.declared.spool.PublishErr.TheVariants as publish
-use Rattle.st_spool.specs.declared.spool.AgeErr.{AgeErr}
-use Rattle.st_spool.specs.declared.spool.AgeErr.TheVariants as age
+use Rattle.st_spool.specs.declared.refusals.PublishErr.{PublishErr}
+use Rattle.st_spool.specs.declared.refusals.PublishErr.TheVariants as publish
+use Rattle.st_spool.specs.declared.refusals.AgeErr.{AgeErr}
+use Rattle.st_spool.specs.declared.refusals.AgeErr.TheVariants as age
 
 -- A fault comes only where the call was not refused. A refusal leaves the spool as it was, and hands
 -- the pair back: after an earlier call that failed, or else where no stamp is left.

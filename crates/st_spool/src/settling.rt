@@ -10,9 +10,10 @@ ghost use Rattle.st_disk.specs.Folders.{given};
 ghost use Rattle.st_disk.specs.Pairs.{Files};
 ghost use Rattle.st_disk.specs.Events.{Event};
 ghost use Rattle.st_spool.specs.Rows.{Row, Free, Past, Pair, Has, RanBy};
+ghost use Rattle.st_spool.specs.Holding.{is_parked, index_name};
 ghost use Rattle.st_spool.specs.Placing.{Placed, Hidden, files};
 
-use st_base::Failed;
+use crate::state::Doubt;
 use st_shelf::{End, Kind, Name, SealedPair, Shelf};
 
 /// Where a call on a pair was stopped: before it settled the block or hid the index, or after.
@@ -50,8 +51,8 @@ pub(crate) fn place<D: Shelf>(
         shelf.abandon(End::Sealed(block));
         return Err(Stopped::Before);
     }
-    if let Err(block) = shelf.settle(block, Name::Block(stamp)) {
-        shelf.abandon(End::Sealed(block));
+    if let Err(unsettled) = shelf.settle(block, Name::Block(stamp)) {
+        shelf.abandon(End::Sealed(unsettled));
         return Err(Stopped::Before);
     }
     if let Err(_) = shelf.flush(Kind::Index) {
@@ -81,4 +82,18 @@ pub(crate) fn hide_out<D: Shelf>(shelf: &mut D, stamp: u64) -> Result<(), Stoppe
         return Err(Stopped::After);
     }
     Ok(())
+}
+
+// The name of the index of the pair at a place, which is parked once the pair was removed.
+pub(crate) fn index_file(doubt: Doubt, removed: usize, place: usize, stamp: u64) -> Name
+    ensures { result ≡ index_name (is_parked doubt removed place) stamp }
+{
+    let hidden = match doubt {
+        Doubt::Hidden(_) => place == removed,
+        _ => false,
+    };
+    if place < removed || hidden {
+        return Name::Parked(stamp);
+    }
+    Name::Index(stamp)
 }

@@ -18,60 +18,17 @@ ghost use Rattle.st_spool.specs.Standing.{StandsFor};
 ghost use Rattle.st_spool.specs.Entering.{opened, Enters, FailsToEnter};
 ghost use Rattle.st_spool.specs.Publishing.{next_stamp, MayPublish, published, FailsToPublish, Publishes, Fails, Keeps, IsPairOf};
 
+use crate::held::Hold;
 use crate::opening::{EnterErr, Opening, open};
 use crate::pair_rule::PairRule;
-use crate::settling::{Stopped, hide_out, place};
-use crate::state::{Doubt, Span, index_file};
+use crate::refusals::{AgeErr, DiskFault, NotEntered, PublishErr};
+use crate::settling::{Stopped, hide_out, index_file, place};
+use crate::state::{Doubt, Span};
 use crate::sweeping::{sweep, take_out};
 use st_base::NoMemory;
-use st_shelf::{Draft, End, Kind, Name, SealedPair, Shelf};
+use st_shelf::{End, Kind, Name, SealedPair, Shelf};
 use std::alloc::Global;
 use std::marker::{Model, PhantomData};
-
-/// Why a pair was not published.
-pub enum PublishErr<T: Draft> {
-    /// The disk failed in this call. The spool refuses from now on.
-    DiskFault,
-    /// An earlier call failed, when the shelf's count of faults was `since`.
-    Halted { since: u64, pair: SealedPair<T> },
-    /// No stamp is left above `last`.
-    StampsSpent { last: u64, pair: SealedPair<T> },
-}
-
-/// Why no pair was removed.
-#[derive(Clone, Copy, Debug, PartialEq, Eq)]
-pub enum AgeErr {
-    /// The disk failed in this call. The spool refuses from now on.
-    DiskFault,
-    /// An earlier call failed, when the shelf's count of faults was `since`.
-    Halted { since: u64 },
-}
-
-/// A shelf over which no spool was opened, and why.
-pub struct NotEntered<D> {
-    pub cause: EnterErr,
-    pub shelf: D,
-}
-
-/// The disk failed: the shelf's count of faults rose.
-#[derive(Clone, Copy, Debug, PartialEq, Eq)]
-pub struct DiskFault;
-
-/// A file set that is held, seen by contracts as its places. It must be spent, by `release`.
-pub struct Hold {
-    span: Span,
-}
-
-impl Model for Hold {
-    ghost use Rattle.std.specs.Prelude.{◌≤◌};
-    ghost use Rattle.st_spool.specs.declared.state.Span.{Span};
-
-    ghost Value = { Span };
-
-    ghost view = { λ a. a.span };
-
-    ghost invariant = { λ a. a.span.from ≤ a.span.to };
-}
 
 /// A spool: the pairs of block files and indexes on a shelf, which are published and removed one at
 /// a time, so that every crash leaves each of them whole or not at all.
@@ -106,21 +63,35 @@ impl<D: Shelf, W: PairRule> Model for Spool<D, W> {
     ghost view = { λ a. record {
       shelf = a.shelf;
       state = record {
-        limit = a.limit; stamps = a.stamps.items; removed = a.removed;
-        swept = a.swept; last = a.last;
-        holds = a.holds.items; doubt = a.doubt; halted = a.halted; halts = a.halts;
-        asks = a.asks; asked = a.asked;
+        limit = a.limit;
+        stamps = a.stamps.items;
+        removed = a.removed;
+        swept = a.swept;
+        last = a.last;
+        holds = a.holds.items;
+        doubt = a.doubt;
+        halted = a.halted;
+        halts = a.halts;
+        asks = a.asks;
+        asked = a.asked;
       };
       spare = vec_capacity a.stamps - vec_len a.stamps;
     } };
 
     ghost invariant = { λ a. (earlier : List Event) × (h : List Event) × (f : Files)
         × StandsFor W.is_whole (D.log a.shelf) (record {
-        limit = a.limit; stamps = a.stamps.items; removed = a.removed;
-        swept = a.swept; last = a.last;
-        holds = a.holds.items; doubt = a.doubt; halted = a.halted; halts = a.halts;
-        asks = a.asks; asked = a.asked;
-      }) earlier h f };
+          limit = a.limit;
+          stamps = a.stamps.items;
+          removed = a.removed;
+          swept = a.swept;
+          last = a.last;
+          holds = a.holds.items;
+          doubt = a.doubt;
+          halted = a.halted;
+          halts = a.halts;
+          asks = a.asks;
+          asked = a.asked;
+        }) earlier h f };
 }
 
 impl<D: Shelf, W: PairRule> Spool<D, W> {
@@ -446,9 +417,13 @@ impl<D: Shelf, W: PairRule> Spool<D, W> {
             → Keeps W.is_whole (D.log self.old.shelf) (D.log self.new.shelf)
             self.new.state earlier h f }
         ensures without { IsWithout hold self.old.state.holds self.new.state.holds }
-        ensures state { self.new ≡ record self.old { shelf = self.new.shelf;
-            state = record self.old.state {
-            holds = self.new.state.holds; swept = self.new.state.swept } } }
+        ensures state { self.new ≡ record self.old {
+          shelf = self.new.shelf;
+          state = record self.old.state {
+            holds = self.new.state.holds;
+            swept = self.new.state.swept;
+          };
+        } }
         // the files
         ensures sweeps { Sweeps (D.log self.new.shelf) self.old.state.stamps
             self.new.state.holds self.old.state.swept self.new.state.swept

@@ -1,8 +1,3 @@
-ghost use Rattle.std.specs.Prelude.{◌≡◌};
-ghost use Rattle.st_spool.specs.Holding.{is_parked, index_name};
-
-use st_disk::Name;
-
 /// The places of a held set in the list of all pairs: from the first place to before the second.
 #[derive(Clone, Copy, Debug, PartialEq, Eq)]
 pub struct Span {
@@ -23,18 +18,4 @@ pub enum Doubt {
     Unhidden(u64),
     /// A removal. Its index was hidden, and a crash may leave the pair or not.
     Hidden(u64),
-}
-
-// The name of the index of the pair at a place, which is parked once the pair was removed.
-pub(crate) fn index_file(doubt: Doubt, removed: usize, place: usize, stamp: u64) -> Name
-    ensures { result ≡ index_name (is_parked doubt removed place) stamp }
-{
-    let hidden = match doubt {
-        Doubt::Hidden(_) => place == removed,
-        _ => false,
-    };
-    if place < removed || hidden {
-        return Name::Parked(stamp);
-    }
-    Name::Index(stamp)
 }

@@ -1,9 +1,6 @@
-use Rattle.std.proofs.Common.{◌≡◌, ◌<◌, ◌↔◌, ℕ, List, [], Option, IsSome, IsTrue, Contains, Bool, false, length, get_or, ◌≤◌, arith, ◌∙◌}
+use Rattle.std.proofs.Common.{◌<◌, [], IsSome, Contains, length, get_or, arith, ◌∙◌}
 use Rattle.st_disk.specs.declared.naming.Name.TheVariants.{Block}
 use Rattle.st_disk.specs.LoggedCalls.{removal}
-use Rattle.st_disk.specs.declared.naming.Name.{Name}
-use Rattle.st_disk.specs.Disks.{Log}
-use Rattle.st_disk.specs.Folders.{Folder}
 use Rattle.st_disk.proofs.Runs.{known_then, known_adds}
 use Rattle.std.proofs.lemmas.List.Elements.{Contains-get_or}
 use Rattle.st_spool.specs.Entering.{found_rows, IsPart}
@@ -19,8 +16,8 @@ returns-in-Err-clause-cleared g c = λ l f all run.
     let here = get_or c.args.names.now c.names.i (Block 0) in
     let out = not_part c.is_part.result (IsPart (Contains c.args.names.now) here) c.if-is_part.false c.is_part.ensures in
     removes l [] (found_rows f) (D.log c.names.shelf) (D.log c.remove.new.self) c.remove.result here
-      (stray_keeps f here ((all here).0 (Contains-get_or c.args.names.now c.names.i (Block 0) lt)) (λ part. out (part_more (λ n. IsSome (f n)) (Contains c.args.names.now) here (λ n there. (all n).1 there) part)))
-      (c.names.invariant.cleared l f all run) c.remove.ensures.log
+    (stray_keeps f here ((all here).0 (Contains-get_or c.args.names.now c.names.i (Block 0) lt)) (λ part. out (part_more (λ n. IsSome (f n)) (Contains c.args.names.now) here (λ n there. (all n).1 there) part)))
+    (c.names.invariant.cleared l f all run) c.remove.ensures.log
 
 pub names-preserved : goal.names-preserved
 names-preserved g c =
@@ -30,8 +27,8 @@ names-preserved g c =
     let out = not_part c.is_part.result (IsPart (Contains c.args.names.now) here) c.if-is_part.false c.is_part.ensures in
     record {
       cleared = λ l f all run. removes l [] (found_rows f) (D.log c.names.shelf) (D.log c.remove.new.self) c.remove.result here
-        (stray_keeps f here ((all here).0 (Contains-get_or c.args.names.now c.names.i (Block 0) lt)) (λ part. out (part_more (λ n. IsSome (f n)) (Contains c.args.names.now) here (λ n there. (all n).1 there) part)))
-        (c.names.invariant.cleared l f all run) c.remove.ensures.log;
+          (stray_keeps f here ((all here).0 (Contains-get_or c.args.names.now c.names.i (Block 0) lt)) (λ part. out (part_more (λ n. IsSome (f n)) (Contains c.args.names.now) here (λ n there. (all n).1 there) part)))
+          (c.names.invariant.cleared l f all run) c.remove.ensures.log;
       left = left_more c.args.names.now (D.log c.args.shelf.now) (D.log c.names.shelf) (D.log c.remove.new.self) c.names.i lt out c.in_default.ensures.log c.names.invariant.left;
       gone = gone_more c.args.names.now (D.log c.args.shelf.now) (D.log c.names.shelf) (D.log c.remove.new.self) c.names.i lt out c.in_default.ensures.log c.names.invariant.gone;
       known = known_then (D.log c.args.shelf.now) (D.log c.names.shelf) (D.log c.remove.new.self) c.names.invariant.known (known_adds (D.log c.names.shelf) (D.log c.remove.new.self) (removal (D.log c.names.shelf) here) c.in_default.ensures.log);

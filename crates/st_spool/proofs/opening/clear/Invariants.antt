@@ -1,4 +1,4 @@
-use Rattle.std.proofs.Common.{◌≡◌, ◌≤◌, ℕ, List, []}
+use Rattle.std.proofs.Common.{◌≡◌, []}
 use Rattle.st_disk.specs.Disks.{Log}
 use Rattle.st_disk.specs.Folders.{Folder}
 use Rattle.st_disk.specs.LoggedCalls.{KnownBefore}

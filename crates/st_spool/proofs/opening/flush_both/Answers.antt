@@ -1,4 +1,4 @@
-use Rattle.std.proofs.Common.{◌≡◌, ℕ, List, [], Option, Some}
+use Rattle.std.proofs.Common.{[]}
 use Rattle.st_disk.specs.declared.naming.Kind.TheVariants as kind
 use Rattle.st_disk.specs.Disks.{Log, Leaves}
 use Rattle.st_disk.specs.Folders.{Folder}

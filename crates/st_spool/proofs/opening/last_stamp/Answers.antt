@@ -1,4 +1,4 @@
-use Rattle.std.proofs.Common.{◌≡◌, ◌<◌, length, arith}
+use Rattle.std.proofs.Common.{◌<◌, length, arith}
 use Rattle.st_spool.proofs.Gathered.{above_more, some_more}
 use Rattle.st_spool.proofs.opening.last_stamp.Goals as goal
 

@@ -1,6 +1,5 @@
-use Rattle.std.proofs.Common.{◌≡◌, ℕ, List, [], Option, Some, refl, sym, ap, subst}
-use Rattle.st_disk.specs.declared.naming.Name.{Name}
-use Rattle.st_disk.specs.Disks.{Log, reads}
+use Rattle.std.proofs.Common.{sym, subst}
+use Rattle.st_disk.specs.Disks.{reads}
 use Rattle.st_disk.specs.Names.{AreSorted}
 use Rattle.st_disk.specs.Listing.{AreAll}
 use Rattle.st_spool.proofs.Finding.{list_run, list_failed, there, tidy_failed, opens, paired_up_to}

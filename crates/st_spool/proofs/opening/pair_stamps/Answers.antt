@@ -1,4 +1,4 @@
-use Rattle.std.proofs.Common.{◌≡◌, ◌<◌, length, arith}
+use Rattle.std.proofs.Common.{◌<◌, length, arith}
 use Rattle.st_spool.proofs.Gathered.{each_still, all_still, each_more, all_more, rises_more, all_paired}
 use Rattle.st_spool.proofs.opening.pair_stamps.Goals as goal
 

@@ -1,4 +1,4 @@
-use Rattle.std.proofs.Common.{◌≡◌, ◌≤◌, ◌<◌, ◌⊎◌, ℕ, get_or, Contains}
+use Rattle.std.proofs.Common.{◌≡◌, ◌<◌, ℕ, get_or, Contains}
 use Rattle.std.specs.List.{AllPairs}
 use Rattle.st_disk.specs.declared.naming.Name.{Name}
 use Rattle.st_disk.specs.declared.naming.Name.TheVariants.{Block, Index}

@@ -1,5 +1,4 @@
-use Rattle.std.proofs.Common.{◌≡◌, ℕ, List, [], Option, Some, refl, ap}
-use Rattle.st_disk.specs.Disks.{Log}
+use Rattle.std.proofs.Common.{refl}
 use Rattle.st_spool.proofs.Clearing.{nothing_cleared, clearing, clear_failed, flush_failed, clear_flushed, read_is}
 use Rattle.st_spool.proofs.opening.tidy.Goals as goal
 

@@ -1,4 +1,4 @@
-use Rattle.std.proofs.Common.{◌≡◌, ℕ, List, [], ◌∷◌, None}
+use Rattle.std.proofs.Common.{◌≡◌, [], ◌∷◌, None}
 use Rattle.st_disk.specs.Events.{Remove}
 use Rattle.st_disk.specs.declared.naming.Name.TheVariants as name
 use Rattle.st_disk.proofs.Reading.{reads_looked}

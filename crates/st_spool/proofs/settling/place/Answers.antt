@@ -1,13 +1,9 @@
-use Rattle.std.proofs.Common.{◌≡◌, ℕ, List, [], ◌∷◌, None, Some, Bool, false, refl, sym, ◌∙◌, ap, subst}
-use Rattle.st_disk.specs.declared.naming.Kind.{Kind}
+use Rattle.std.proofs.Common.{◌≡◌, [], ◌∷◌, None, Some}
 use Rattle.st_disk.specs.declared.naming.Kind.TheVariants as kind
 use Rattle.st_disk.specs.declared.naming.Name.TheVariants as name
-use Rattle.st_disk.specs.declared.changes.Call.TheVariants.{Did, Flush}
-use Rattle.st_disk.specs.declared.changes.Change.TheVariants.{Settle}
+use Rattle.st_disk.specs.declared.changes.Call.TheVariants.{Flush}
 use Rattle.st_disk.specs.Folders.{given}
-use Rattle.st_disk.specs.Names.{published, same_name}
-use Rattle.st_disk.specs.LoggedCalls.{Reads, Spares}
-use Rattle.st_disk.proofs.Reading.{reads_still, flush_spares, settle_spares}
+use Rattle.st_disk.proofs.Reading.{reads_still, flush_spares}
 use Rattle.st_spool.specs.Rows.{Half, Coming, set_row}
 use Rattle.st_spool.specs.Placing.{files, entry}
 use Rattle.st_disk.specs.Events.{Publish}

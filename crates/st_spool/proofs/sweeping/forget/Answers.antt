@@ -1,4 +1,4 @@
-use Rattle.std.proofs.Common.{◌≡◌, ℕ, List, [], None}
+use Rattle.std.proofs.Common.{[]}
 use Rattle.st_disk.specs.declared.naming.Name.TheVariants as name
 use Rattle.st_spool.proofs.Keeping.{past_block, past_parked}
 use Rattle.st_spool.proofs.Stages.{removes}
@@ -34,10 +34,11 @@ returns-clause-forgotten g c = λ l rows past run.
 
 pub returns-clause-gone : goal.returns-clause-gone
 returns-clause-gone g c =
-    let D = g.D.Shelf in
-    (removed_here (D.log c.remove.new.self) (D.log c.remove-2.new.self) (name.Block c.args.stamp) c.in_default-remove.ensures.log,
-    still_none (D.log c.remove.new.self) (D.log c.remove-2.new.self) c.remove-2.result (name.Block c.args.stamp) (name.Parked c.args.stamp) c.remove-2.ensures.log
-      (removed_here (D.log c.args.shelf.now) (D.log c.remove.new.self) (name.Parked c.args.stamp) c.in_default.ensures.log))
+    let D = g.D.Shelf in (
+      removed_here (D.log c.remove.new.self) (D.log c.remove-2.new.self) (name.Block c.args.stamp) c.in_default-remove.ensures.log,
+      still_none (D.log c.remove.new.self) (D.log c.remove-2.new.self) c.remove-2.result (name.Block c.args.stamp) (name.Parked c.args.stamp) c.remove-2.ensures.log
+          (removed_here (D.log c.args.shelf.now) (D.log c.remove.new.self) (name.Parked c.args.stamp) c.in_default.ensures.log),
+    )
 
 pub returns-clause-still : goal.returns-clause-still
 returns-clause-still g c = λ n none.

@@ -1,5 +1,4 @@
-use Rattle.std.proofs.Common.{◌≡◌, ◌≤◌, ◌<◌, ◌+◌, ℕ, List, [], None, Bool, false, sym, ◌∙◌, arith}
-use Rattle.std.proofs.lemmas.Bool.Decides.{nat_tests}
+use Rattle.std.proofs.Common.{◌≡◌, ◌≤◌, false, sym, ◌∙◌, arith}
 use Rattle.st_spool.specs.States.{covers}
 use Rattle.st_disk.proofs.Runs.{known_then}
 use Rattle.st_spool.proofs.Swept.{all_gone, one_more_gone, tried_more, tried_failed}

@@ -1,20 +1,17 @@
-use Rattle.std.proofs.Common.{◌≡◌, ◌<◌, ◌≤◌, ◌-◌, ◌+◌, ◌^◌, min, ℕ, List, ◌∷◌, [], ◌++◌, length, slice_index, Option, Some, None, Result, Ok, Err, refl, sym, ◌∙◌, ap, subst, arith, vec_len}
+use Rattle.std.proofs.Common.{◌≡◌, ◌<◌, ◌-◌, ◌+◌, ◌^◌, min, ℕ, ◌∷◌, [], ◌++◌, length, Option, Some, None, Err, subst, arith}
 use Rattle.std.proofs.lemmas.List.{get_or_read}
 use Rattle.st_disk.specs.declared.naming.Name.TheVariants.{Index}
 use Rattle.st_disk.specs.Disks.{Log}
 use Rattle.st_disk.specs.LoggedCalls.{Reads}
 use Rattle.st_disk.specs.Runs.{Each}
-use Rattle.st_disk.specs.Pairs.{Entry, Files}
-use Rattle.st_disk.specs.Events.{Event, Remove}
+use Rattle.st_disk.specs.Pairs.{Files}
+use Rattle.st_disk.specs.Events.{Remove}
 use Rattle.st_disk.proofs.Runs.{known_then}
 use Rattle.st_spool.specs.Rows.{Row, Pair, Going, Has, set_row, RanBy}
 use Rattle.st_spool.specs.declared.settling.Stopped.{Stopped}
 use Rattle.st_spool.specs.declared.settling.Stopped.TheVariants.{Before, After}
 use Rattle.st_spool.specs.Placing.{Hidden}
-use Rattle.st_spool.specs.States.{SpoolState, SpoolView}
-use Rattle.st_spool.specs.Publishing.{Fails}
-use Rattle.st_spool.specs.Aging.{Removes}
-use Rattle.st_spool.proofs.Kept.{stands_from, known_from, fails_moved, removes_moved}
+use Rattle.st_spool.proofs.Kept.{stands_from, fails_moved, removes_moved}
 use Rattle.st_spool.proofs.AgedStates.{leaving, leaving_as, there_read, parked_free, aged_run, aged_stands, aged_images, unhidden_fails, hidden_fails}
 use Rattle.st_spool.proofs.spool.Spool.age.Goals as goal
 

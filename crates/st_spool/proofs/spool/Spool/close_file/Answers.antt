@@ -1,6 +1,4 @@
-use Rattle.std.proofs.Common.{◌≡◌, ◌<◌, ◌≤◌, ◌-◌, ◌+◌, ◌^◌, ℕ, List, ◌∷◌, [], length, get_or, Option, Some, None, IsSome, Result, Ok, Err, IfOk, refl, sym, ◌∙◌, ap, subst, arith, vec_len}
-use Rattle.st_disk.specs.Disks.{Log, reads}
-use Rattle.st_spool.proofs.Kept.{keeps_some, keeps_from, stands_from, known_from, looks_keeps}
+use Rattle.st_spool.proofs.Kept.{keeps_some, keeps_from, looks_keeps}
 use Rattle.st_spool.proofs.spool.Spool.close_file.Goals as goal
 
 pub invariant_of-self : goal.invariant_of-self

@@ -1,4 +1,4 @@
-use Rattle.std.proofs.Common.{◌≡◌, ◌-◌, ℕ, length, sym, ◌∙◌, ap}
+use Rattle.std.proofs.Common.{◌∙◌, ap}
 use Rattle.st_spool.specs.Holding.{size_of}
 use Rattle.st_spool.proofs.Holds.{length_held}
 use Rattle.st_spool.proofs.spool.Spool.count.Goals as goal

@@ -1,8 +1,6 @@
-use Rattle.std.proofs.Common.{◌≡◌, ℕ, List, length, Option, Some, arith, vec_len}
-use Rattle.st_disk.specs.Disks.{Log}
+use Rattle.std.proofs.Common.{◌≡◌, List, length, arith}
 use Rattle.st_disk.specs.Events.{Event}
 use Rattle.st_disk.specs.Pairs.{Files}
-use Rattle.st_spool.specs.States.{SpoolState}
 use Rattle.st_spool.specs.Standing.{StandsFor}
 use Rattle.st_spool.specs.Entering.{Enters}
 use Rattle.st_spool.proofs.Opened.{enters, opened_stands, opened_at}

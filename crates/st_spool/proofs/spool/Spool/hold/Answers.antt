@@ -1,8 +1,4 @@
-use Rattle.std.proofs.Common.{◌≡◌, ◌≤◌, ℕ, List, length, map, refl, sym, ◌∙◌, ap, arith, vec_len}
-use Rattle.std.proofs.lemmas.List.{length-map}
-use Rattle.st_disk.specs.Disks.{Log}
-use Rattle.st_spool.specs.History.{entries_of}
-use Rattle.st_spool.specs.Standing.{stamp_of}
+use Rattle.std.proofs.Common.{◌≡◌, length, arith}
 use Rattle.st_spool.proofs.Kept.{stands_from}
 use Rattle.st_spool.proofs.Holds.{hold_stands, long_list}
 use Rattle.st_spool.proofs.spool.Spool.hold.Goals as goal

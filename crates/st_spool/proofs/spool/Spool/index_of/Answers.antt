@@ -1,13 +1,11 @@
-use Rattle.std.proofs.Common.{◌≡◌, ◌<◌, ◌≤◌, ◌-◌, ◌+◌, ◌^◌, ℕ, List, ◌∷◌, [], length, get_or, drop, Option, Some, None, IsSome, Result, Ok, Err, IfOk, refl, sym, ◌∙◌, ap, subst, arith, vec_len}
-use Rattle.st_disk.specs.Disks.{Log, reads}
+use Rattle.std.proofs.Common.{◌≡◌, ◌+◌, ℕ, ◌∷◌, drop, Some, sym, ◌∙◌, ap, subst, arith}
+use Rattle.st_disk.specs.Disks.{reads}
 use Rattle.st_spool.proofs.Kept.{keeps_some, keeps_from, stands_from, known_from, other_keeps}
 use Rattle.std.proofs.lemmas.List.{get_or_read}
-use Rattle.st_disk.specs.declared.naming.Name.TheVariants.{Block}
-use Rattle.st_disk.specs.Pairs.{Entry}
 use Rattle.st_spool.specs.States.{held}
 use Rattle.st_spool.specs.declared.state.Span.{Span}
 use Rattle.st_spool.specs.Holding.{is_parked, index_name}
-use Rattle.st_spool.proofs.Holds.{held_here, size_here, in_list, in_stamps, held_entry, stamp_at, entry_at, held_block, held_index, is_there, shown}
+use Rattle.st_spool.proofs.Holds.{held_here, size_here, in_list, in_stamps, held_entry, stamp_at, entry_at, held_index, is_there, shown}
 use Rattle.st_spool.proofs.spool.Spool.index_of.Goals as goal
 
 pub invariant_of-self : goal.invariant_of-self
@@ -53,7 +51,6 @@ reader-requires g c =
 
 pub invariant_of-self-2 : goal.invariant_of-self-2
 invariant_of-self-2 g c = keeps_some g.W.PairRule.is_whole (g.D.Shelf.log c.self.inside.shelf) (g.D.Shelf.log c.reader.new.self) _ (other_keeps (g.D.Shelf.log c.self.inside.shelf) (g.D.Shelf.log c.reader.new.self) c.reader.result c.reader.ensures.log) c.self.invariant
-
 
 pub returns-in_default-clause-keeps : goal.returns-in_default-clause-keeps
 returns-in_default-clause-keeps g c = λ earlier h k stands. keeps_from g.W.PairRule.is_whole g.D.Shelf.log _ _ (g.D.Shelf.log c.reader.new.self) earlier h k c.self.view_is (other_keeps (g.D.Shelf.log c.self.inside.shelf) (g.D.Shelf.log c.reader.new.self) c.reader.result c.reader.ensures.log) stands

@@ -1,18 +1,17 @@
-use Rattle.std.proofs.Common.{◌≡◌, ◌<◌, ◌≤◌, ◌-◌, ◌+◌, ◌^◌, ℕ, max, min, List, ◌∷◌, [], ◌++◌, Option, Some, None, Result, Ok, Err, IsOk, if◌then◌else◌, refl, sym, ◌∙◌, ap, subst, arith, rules, vec_len}
+use Rattle.std.proofs.Common.{◌≡◌, ◌<◌, ◌-◌, ◌+◌, ◌^◌, ℕ, max, min, List, ◌∷◌, [], ◌++◌, Option, Some, Result, Ok, Err, IsOk, if◌then◌else◌, sym, ◌∙◌, ap, subst, arith, vec_len}
 use Rattle.std.specs.Result.{is_ok}
 use Rattle.std.specs.Vec.{vec_capacity}
 use Rattle.st_disk.specs.Disks.{Log}
 use Rattle.st_disk.specs.Folders.{given}
 use Rattle.st_disk.specs.Runs.{Each}
-use Rattle.st_disk.specs.Pairs.{Entry, Files}
-use Rattle.st_disk.specs.Events.{Event, Publish}
+use Rattle.st_disk.specs.Pairs.{Files}
+use Rattle.st_disk.specs.Events.{Publish}
 use Rattle.st_spool.specs.Rows.{Row, Free, Half, Coming, Has, set_row, RanBy}
 use Rattle.st_spool.specs.declared.settling.Stopped.{Stopped}
 use Rattle.st_spool.specs.declared.settling.Stopped.TheVariants.{Before, After}
 use Rattle.st_spool.specs.Placing.{files, entry, Placed}
-use Rattle.st_spool.specs.States.{SpoolState, SpoolView}
+use Rattle.st_spool.specs.States.{SpoolView}
 use Rattle.st_spool.specs.Standing.{StandsFor}
-use Rattle.st_spool.specs.Publishing.{next_stamp}
 use Rattle.st_spool.proofs.Published.{published_stands, published_images, unsettled_stands, settled_stands, unsettled_images, settled_images, free_read}
 use Rattle.st_spool.proofs.spool.Spool.publish.Goals as goal
 

@@ -1,5 +1,3 @@
-use Rattle.std.proofs.Common.{◌≡◌, ℕ, List, Option}
-use Rattle.st_disk.specs.Disks.{Log}
 use Rattle.st_spool.proofs.Kept.{stands_from, keeps_moved}
 use Rattle.st_spool.proofs.Released.{released}
 use Rattle.st_spool.proofs.spool.Spool.release.Goals as goal
