@@ -27,6 +27,8 @@ mod outcomes;
 mod pairs;
 mod reports;
 mod rule;
+#[cfg(test)]
+mod tests;
 
 pub use commands::{Ended, check, list};
 pub use outcomes::{Outcome, Report};
