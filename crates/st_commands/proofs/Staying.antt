@@ -24,8 +24,8 @@ pub keeps_then : (a b c : Option Log) (st next : SpoolState) (earlier h : List E
 keeps_then a b c st next earlier h f same one two = record {
   stands = two.stands;
   images = λ first known.
-    let run : RanAsBefore first b h (begun next.doubt f) = subst (λ (d : Doubt). RanAsBefore first b h (begun d f)) (sym same) (one.images first known) in
-    ran_then first b c [] [] (Gives h (begun next.doubt f)) (Gives h (begun next.doubt f)) (Gives h (begun next.doubt f)) run (two.images run.log run.is);
+      let run : RanAsBefore first b h (begun next.doubt f) = subst (λ (d : Doubt). RanAsBefore first b h (begun d f)) (sym same) (one.images first known) in
+      ran_then first b c [] [] (Gives h (begun next.doubt f)) (Gives h (begun next.doubt f)) (Gives h (begun next.doubt f)) run (two.images run.log run.is);
 }
 
 -- no call
@@ -48,8 +48,8 @@ pub kept_then : {D : Type 0} (log : D → Option Log) (id faults : D → ℕ) (a
     → KeepsSpool log id faults a b → KeepsSpool log id faults b c → KeepsSpool log id faults a c
 kept_then {D} log id faults a b c one two = record {
   keeps = λ earlier h f stands.
-    let first = one.keeps earlier h f stands in
-    keeps_then (log a.shelf) (log b.shelf) (log c.shelf) b.state c.state earlier h f (ap (λ (v : SpoolView D). v.state.doubt) two.state) first (two.keeps earlier h f first.stands);
+      let first = one.keeps earlier h f stands in
+      keeps_then (log a.shelf) (log b.shelf) (log c.shelf) b.state c.state earlier h f (ap (λ (v : SpoolView D). v.state.doubt) two.state) first (two.keeps earlier h f first.stands);
   state = two.state ∙ ap (λ (v : SpoolView D). record v { shelf = c.shelf }) one.state;
   id_is = two.id_is ∙ one.id_is;
   later = let x = one.later in let y = two.later in omega arith;

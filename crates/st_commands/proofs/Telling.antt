@@ -60,10 +60,10 @@ few_packets bytes given f =
     (λ (none : length given ≡ 0). omega arith)
     (λ more. ⊎_elim (λ (less : length given < 0). let no : ⊥ = omega arith in absurd no)
     (λ (some : 0 < length given).
-        let under : length given - 1 < length (records_in given) = omega arith in
-        let low = low_position f.size (length given - 1) (records_in given) f.file under in
-        let fit = positions_fit f.size (length given - 1) (records_in given) f.file under in
-        omega arith)
+    let under : length given - 1 < length (records_in given) = omega arith in
+    let low = low_position f.size (length given - 1) (records_in given) f.file under in
+    let fit = positions_fit f.size (length given - 1) (records_in given) f.file under in
+    omega arith)
     more)
     (cases_order (length given) 0)
 

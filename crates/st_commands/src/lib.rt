@@ -1,15 +1,25 @@
 //! Commands over a spool: a line for each pair, of what it holds or whether it is whole.
 //!
 //! A command opens a spool over a shelf, holds the file set that it finds, writes one line for each
-//! pair by stamp, and gives the shelf back. The lines are docs/FORMAT.md's, "Output of commands".
+//! pair by stamp, and gives the shelf back:
+//!
+//! - `list`: `STAMP PACKETS TIME TIME`, with the least and the greatest time, in seconds since 1970
+//!   with nine decimals.
+//! - `check`: `STAMP whole PACKETS`, or `STAMP damaged PART PLACE FOUND WANT` of the first check
+//!   that fails.
+//!
+//! Numbers are decimal, and each line ends with a line feed. The layout is ours.
 //!
 //! # What it promises
 //!
-//! - `list` and `check` write exactly the lines of the pairs that were found, by stamp; a command
-//!   that ends early has written a prefix of them (`lines`).
-//! - What a crash leaves is what it might have left before, or the same pairs (`images`).
-//! - An outcome comes only with its cause (`disk`, `write`); all files that were lent come back
-//!   (`loans`).
+//! - If what is on the disk is known, a command that ends `Done`, and a check that ends `Damaged`,
+//!   wrote exactly the lines of all pairs that were found; one that ended early wrote those of the
+//!   first pairs, the last perhaps in part (`lines`).
+//! - After it each crash leaves the pairs that were found. A command that could not open the spool
+//!   may leave what a crash might have left before (`images`).
+//! - `DiskFault` and `WriteFault` come only with their cause (`disk`, `write`), and `Damaged` only if
+//!   a pair is not whole (`lines`).
+//! - All files that were lent come back, and at most two are out at once (`loans`).
 //!
 //! # What it leaves to others
 //!

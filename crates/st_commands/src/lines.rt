@@ -1,4 +1,4 @@
-//! The text of the lines. Source: docs/FORMAT.md, "Output of commands".
+//! The text of the lines. Their layout is ours: `specs/Lines.antt`.
 
 ghost use Rattle.std.specs.Prelude.{◌≡◌, ◌≢◌, ◌/◌, ◌%◌, IfOk, string_bytes};
 ghost use Rattle.st_eval.specs.Selection.{summary_view};

@@ -3,7 +3,7 @@
 
 ghost use Rattle.std.specs.Prelude.{◌≡◌, ⊤, [], IfSome};
 
-use crate::commands::{check, list};
+use crate::commands::{Ended, check, list};
 use crate::outcomes::Outcome;
 use st_base::{Damage, MemSink, put};
 use st_shelf::{Draft, End, Kind, MemShelf, SealedPair, Shelf};
@@ -100,7 +100,18 @@ fn publish<D: Shelf>(
     match spool.publish(SealedPair { block, index }, floor) {
         Ok(stamp) => Some(stamp),
         Err(PublishErr::DiskFault) => None,
-        Err(PublishErr::Halted { since: _, pair }) | Err(PublishErr::StampsSpent { last: _, pair }) => {
+        Err(
+            PublishErr::Halted {
+                since: _since,
+                pair,
+            },
+        ) => {
+            let SealedPair { block, index } = pair;
+            spool.abandon(End::Sealed(block));
+            spool.abandon(End::Sealed(index));
+            None
+        }
+        Err(PublishErr::StampsSpent { last: _last, pair }) => {
             let SealedPair { block, index } = pair;
             spool.abandon(End::Sealed(block));
             spool.abandon(End::Sealed(index));
@@ -114,8 +125,9 @@ fn publish<D: Shelf>(
 fn two_pairs(alloc: Global, block: &[u8], index: &[u8], fails: &[u64]) -> Result<MemShelf, Fail> {
     let shelf = MemShelf::with(alloc, fails, None)?;
     let whole = block_file(alloc, 1)?;
-    let entered: Result<Spool<MemShelf, AnyPair>, NotEntered<MemShelf>> =
-        Spool::enter(alloc, shelf, 4);
+    let entered: Result<Spool<MemShelf, AnyPair>, NotEntered<MemShelf>> = Spool::enter(
+        alloc, shelf, 4,
+    );
     let mut spool = match entered {
         Ok(spool) => spool,
         Err(
@@ -134,20 +146,28 @@ fn two_pairs(alloc: Global, block: &[u8], index: &[u8], fails: &[u64]) -> Result
     Ok(shelf)
 }
 
-// How both commands end over this shelf, and what they write, where these writes of the output
-// fail.
-fn listed(alloc: Global, shelf: MemShelf, fails: &[u32]) -> Result<(Outcome, Vec<u8>, MemShelf), Fail> {
+// How a list ends over this shelf, and what it writes, where these writes of the output fail.
+fn listed(
+    alloc: Global,
+    shelf: MemShelf,
+    fails: &[u32],
+) -> Result<(Outcome, Vec<u8>, MemShelf), Fail> {
     let mut out = MemSink::new(alloc, fails)?;
-    let ended = list(alloc, shelf, &mut out);
+    let Ended { outcome, shelf } = list(alloc, shelf, &mut out);
     let bytes = out.bytes().to_vec(alloc)?;
-    Ok((ended.outcome, bytes, ended.shelf))
+    Ok((outcome, bytes, shelf))
 }
 
-fn checked(alloc: Global, shelf: MemShelf, fails: &[u32]) -> Result<(Outcome, Vec<u8>, MemShelf), Fail> {
+// The same of a check.
+fn checked(
+    alloc: Global,
+    shelf: MemShelf,
+    fails: &[u32],
+) -> Result<(Outcome, Vec<u8>, MemShelf), Fail> {
     let mut out = MemSink::new(alloc, fails)?;
-    let ended = check(alloc, shelf, &mut out);
+    let Ended { outcome, shelf } = check(alloc, shelf, &mut out);
     let bytes = out.bytes().to_vec(alloc)?;
-    Ok((ended.outcome, bytes, ended.shelf))
+    Ok((outcome, bytes, shelf))
 }
 
 const FIRST_LINE: &[u8] = b"9 1 1000000000.123456000 1000000000.123456000\n";
@@ -198,7 +218,10 @@ fn a_damaged_block_file_is_named(rt: HostRuntime) -> Result<(), Fail> {
     };
     let (outcome, lines, shelf) = checked(alloc, shelf, &[])?;
     assert_eq!(rt; outcome, Outcome::Damaged { stamp: 9, damage });
-    assert_eq!(rt; lines.as_slice(), b"9 damaged block 0 2 1\n10 whole 1\n".as_slice());
+    assert_eq!(rt;
+        lines.as_slice(),
+        b"9 damaged block 0 2 1\n10 whole 1\n".as_slice()
+    );
     let (outcome, lines, _shelf) = listed(alloc, shelf, &[])?;
     assert_eq!(rt; outcome, Outcome::Done);
     assert_eq!(rt; lines.as_slice(), BOTH_LINES);
