@@ -16,8 +16,8 @@ use Rattle.st_commands.specs.Pairs.{IsWholePair}
 use Rattle.st_commands.specs.declared.outcomes.Outcome.{Outcome}
 use Rattle.st_commands.specs.declared.outcomes.Outcome.TheVariants.{Done, WriteFault, DiskFault, Damaged, NoMemory}
 
--- as many files are out as before, unless a number of them has no room in a u64, and never more than
--- two more were
+-- as many files are out as before, unless their number has no room in a u64, and never more than two
+-- more were
 pub record GivesAllBack (before now : LoansView) : Type 0 where
   pub most : now.lent ≤ before.lent
   pub exact : before.lent + 2 < 2 ^ 64 → now.lent ≡ before.lent
@@ -39,7 +39,7 @@ pub record Stays {D : Type 0} (log : D → Option Log) (id faults : D → ℕ) (
   pub kept : KeepsSpool log id faults old new
   pub back : GivesAllBack (loans old.shelf) (loans new.shelf)
 
--- An output's count never falls. It rose where writing failed, and stayed where the command ended in
+-- An output's count never falls. It rose if writing failed, and stayed if the command ended in
 -- another way.
 pub record HasWriteFault (before now : ℕ) (outcome : Outcome) : Type 0 where
   pub later : before ≤ now

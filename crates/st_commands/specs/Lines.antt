@@ -22,7 +22,7 @@ nine_digits n =
 abbrev pub moment_text : Moment → List ℕ
 moment_text t = decimal t.0 ++ (codes "." ++ nine_digits t.1)
 
--- a pair with this summary: its stamp, the number of its packets, and the least and the greatest time
+-- a pair with this summary: its stamp, the number of its packets, the least and the greatest time
 abbrev pub summary_line : ℕ → SummaryView → List ℕ
 summary_line stamp s =
     decimal stamp ++ (codes " " ++ (decimal s.packets ++ (codes " " ++ (moment_text s.first
