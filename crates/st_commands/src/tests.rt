@@ -234,13 +234,17 @@ fn a_pair_without_a_summary_ends_a_list(rt: HostRuntime) -> Result<(), Fail> {
     let alloc = rt.alloc();
     let block = block_file(alloc, 1)?;
     let shelf = two_pairs(alloc, block.as_slice(), &INDEX[..47], &[])?;
+    let damage = Damage {
+        place: 0,
+        found: 47,
+        want: 48,
+    };
     let (outcome, lines, shelf) = listed(alloc, shelf, &[])?;
-    assert!(rt; matches!(outcome, Outcome::Damaged { stamp: 9, .. }));
+    assert_eq!(rt; outcome, Outcome::Damaged { stamp: 9, damage });
     assert!(rt; lines.is_empty());
     let (outcome, lines, _shelf) = checked(alloc, shelf, &[])?;
-    assert!(rt; matches!(outcome, Outcome::Damaged { stamp: 9, .. }));
-    assert!(rt; lines.as_slice().starts_with(b"9 damaged index "));
-    assert!(rt; lines.as_slice().ends_with(b"\n10 whole 1\n"));
+    assert_eq!(rt; outcome, Outcome::Damaged { stamp: 9, damage });
+    assert_eq!(rt; lines.as_slice(), b"9 damaged index 0 47 48\n10 whole 1\n".as_slice());
     Ok(())
 }
 
