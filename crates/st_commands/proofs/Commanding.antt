@@ -1,11 +1,11 @@
 -- What a command leaves of the pairs that were found.
-use Rattle.std.proofs.Common.{◌≡◌, ◌<◌, ℕ, List, [], ◌∷◌, Option, Some, refl, sym, ◌∙◌, ap, subst, inl, inr}
+use Rattle.std.proofs.Common.{◌≡◌, List, [], ◌∷◌, Option, Some, sym, ◌∙◌, inr}
 use Rattle.st_disk.specs.Disks.{Log, reads}
-use Rattle.st_disk.specs.Events.{Event, Found}
+use Rattle.st_disk.specs.Events.{Found}
 use Rattle.st_disk.specs.Folders.{Folder}
 use Rattle.st_disk.specs.Pairs.{Entry, PairsIn}
 use Rattle.st_disk.proofs.Runs.{ran_widen, ran_then}
-use Rattle.st_spool.specs.Entering.{Clears, SamePairs, FailsToEnter, Enters, Is, pairs_alone, flushed_log}
+use Rattle.st_spool.specs.Entering.{Clears, SamePairs, Enters, Is, pairs_alone, flushed_log}
 use Rattle.st_spool.specs.Publishing.{RanAsBefore}
 use Rattle.st_spool.specs.Standing.{Gives}
 use Rattle.st_spool.specs.States.{SpoolState}

@@ -2,3 +2,4 @@ pub mod Staying
 pub mod Telling
 pub mod Reporting
 pub mod Commanding
+pub mod Naming

@@ -1,13 +1,12 @@
 -- Lines of pairs, one after the other.
-use Rattle.std.proofs.Common.{◌≡◌, ◌≤◌, ◌<◌, ◌+◌, ℕ, List, [], ◌∷◌, ◌++◌, length, length-append, drop, refl, sym, ◌∙◌, ap, subst, arith, append-nil, Option, Result, Ok, Err, inl, inr}
-use Rattle.std.specs.List.{flat_map}
+use Rattle.std.proofs.Common.{◌≡◌, ◌≤◌, ◌+◌, ℕ, List, [], ◌∷◌, ◌++◌, length, length-append, drop, refl, sym, ◌∙◌, ap, subst, arith, append-nil, Option, Err, inl, inr}
 use Rattle.std.proofs.lemmas.Grind.{flat_map-append}
 use Rattle.std.specs.Io.KnownBytes.{Appends}
 use Rattle.std.proofs.KnownBytes.{Appends-trans, Appends-nil}
 use Rattle.st_base.specs.Pieces.{AppendsPrefix}
 use Rattle.st_base.proofs.Putting.{prefix-then}
 use Rattle.st_disk.specs.Pairs.{Entry}
-use Rattle.st_commands.specs.Reports.{LineView, IsLine, AreLines, IsSaid, text_of, first_of_two, outcome_of, TellsPair, WritesAll, WritesSome, StopsAt, Reports}
+use Rattle.st_commands.specs.Reports.{LineView, IsLine, AreLines, IsSaid, text_of, first_of_two, outcome_of, TellsPair, WritesAll, Reports}
 use Rattle.st_commands.specs.Telling.{Stops}
 use Rattle.st_commands.specs.declared.outcomes.Outcome.{Outcome}
 use Rattle.st_commands.specs.declared.outcomes.Outcome.TheVariants.{Done, WriteFault, DiskFault, Damaged, NoMemory}

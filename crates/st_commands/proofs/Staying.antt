@@ -1,5 +1,5 @@
 -- Calls on a spool that change no pair, one after the other.
-use Rattle.std.proofs.Common.{◌≡◌, ◌≤◌, ◌<◌, ◌+◌, ◌-◌, ◌^◌, ℕ, List, [], Option, Some, None, refl, sym, ◌∙◌, ap, subst, arith}
+use Rattle.std.proofs.Common.{◌≡◌, ◌<◌, ◌+◌, ◌-◌, ◌^◌, ℕ, List, [], Option, refl, sym, ◌∙◌, ap, subst, arith}
 use Rattle.std.specs.Prelude.{max, min}
 use Rattle.st_disk.specs.Disks.{Log}
 use Rattle.st_disk.specs.Events.{Event}
@@ -7,9 +7,9 @@ use Rattle.st_disk.specs.Pairs.{Files}
 use Rattle.st_disk.specs.declared.naming.Kind.{Kind}
 use Rattle.st_disk.specs.declared.naming.Kind.TheVariants as kind
 use Rattle.st_disk.proofs.Runs.{ran_then}
-use Rattle.st_shelf.specs.Loans.{LoansView, lend, take_back, capped_sum}
+use Rattle.st_shelf.specs.Loans.{LoansView, lend, take_back}
 use Rattle.st_spool.specs.Publishing.{Keeps, RanAsBefore}
-use Rattle.st_spool.specs.Standing.{StandsFor, Gives, begun}
+use Rattle.st_spool.specs.Standing.{Gives, begun}
 use Rattle.st_spool.specs.States.{SpoolState, SpoolView}
 use Rattle.st_spool.specs.declared.state.Doubt.{Doubt}
 use Rattle.st_spool.proofs.Kept.{KeepsRows, keeps_rows}

@@ -1,14 +1,13 @@
 -- What the summary row says of a whole pair.
-use Rattle.std.proofs.Common.{◌≡◌, ◌≤◌, ◌<◌, ◌+◌, ◌-◌, ◌*◌, ◌^◌, ℕ, zero, suc, List, [], ◌∷◌, length, get_or, refl, sym, ◌∙◌, ap, subst, arith, ⊎_elim, Some, None, Result, Ok, Err, Option}
+use Rattle.std.proofs.Common.{◌≡◌, ◌≤◌, ◌<◌, ◌+◌, ◌-◌, ◌*◌, ◌^◌, ℕ, zero, suc, List, [], ◌∷◌, length, refl, sym, ◌∙◌, ap, subst, arith, ⊎_elim, Some, None, Result, Ok, Err}
 use Rattle.std.proofs.lemmas.List.{length-map}
 use Rattle.std.proofs.lemmas.Bool.{cases_order}
-use Rattle.std.specs.Prelude.{IfErr}
 use Rattle.st_base.specs.Records.{Rec}
 use Rattle.st_block.specs.BlockText.{HasFile}
-use Rattle.st_block.specs.Position.{positions, PositionOf}
+use Rattle.st_block.specs.Position.{PositionOf}
 use Rattle.st_block.specs.Scan.{PositionedRecord, records_in, IsFile}
 use Rattle.st_block.proofs.Rising.{positions_rise, positions_fit, positions_stay}
-use Rattle.st_base.specs.Damages.{DamageView, damage_view}
+use Rattle.st_base.specs.Damages.{damage_view}
 use Rattle.st_base.specs.declared.damages.Damage.{Damage}
 use Rattle.st_eval.specs.Refusals.{NoDamage, damage_in}
 use Rattle.st_eval.specs.Selection.{IsIndexOf}

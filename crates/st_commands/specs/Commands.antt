@@ -1,10 +1,9 @@
 -- What a command leaves of a shelf and of a spool over it.
-use Rattle.std.specs.Prelude.{◌≡◌, ◌≢◌, ◌≤◌, ◌<◌, ◌+◌, ◌^◌, ◌⊎◌, ℕ, List, [], Option, max}
+use Rattle.std.specs.Prelude.{◌≡◌, ◌≢◌, ◌≤◌, ◌<◌, ◌+◌, ◌^◌, ℕ, List, Option, max}
 use Rattle.st_base.specs.Faults.{Rose}
-use Rattle.st_disk.specs.Disks.{Log, Leaves, reads}
+use Rattle.st_disk.specs.Disks.{Log, reads}
 use Rattle.st_disk.specs.Events.{Event}
 use Rattle.st_disk.specs.Pairs.{Files}
-use Rattle.st_disk.specs.Runs.{Ran}
 use Rattle.st_shelf.specs.Loans.{LoansView}
 use Rattle.st_spool.specs.Entering.{Clears, SamePairs, FailsToEnter}
 use Rattle.st_spool.specs.Publishing.{Keeps}
@@ -14,7 +13,7 @@ use Rattle.st_spool.specs.declared.opening.EnterErr.{EnterErr}
 use Rattle.st_spool.specs.declared.opening.EnterErr.TheVariants as enter
 use Rattle.st_commands.specs.Pairs.{IsWholePair}
 use Rattle.st_commands.specs.declared.outcomes.Outcome.{Outcome}
-use Rattle.st_commands.specs.declared.outcomes.Outcome.TheVariants.{Done, WriteFault, DiskFault, Damaged, NoMemory}
+use Rattle.st_commands.specs.declared.outcomes.Outcome.TheVariants.{WriteFault, DiskFault, NoMemory}
 
 -- as many files are out as before, unless their number has no room in a u64, and never more than two
 -- more were

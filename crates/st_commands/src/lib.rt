@@ -17,8 +17,9 @@
 //!   first pairs, the last perhaps in part (`lines`).
 //! - After it each crash leaves the pairs that were found. A command that could not open the spool
 //!   may leave what a crash might have left before (`images`).
-//! - `DiskFault` and `WriteFault` come only with their cause (`disk`, `write`), and `Damaged` only if
-//!   a pair is not whole (`lines`).
+//! - `DiskFault` and `WriteFault` come only with their cause (`disk`, `write`). `Damaged` names a pair
+//!   that is there and is not whole (`damaged_is_hurt`), and a check ends `Done` only if each pair is
+//!   whole (`done_is_whole`).
 //! - All files that were lent come back, and at most two are out at once (`loans`).
 //!
 //! # What it leaves to others
@@ -28,10 +29,11 @@
 //! # Where to read
 //!
 //! `specs/Lines.antt` has the text of each line, `specs/Reports.antt` what a command writes,
-//! `specs/Commands.antt` what it leaves of the shelf. Then `commands`, `reports`, `pairs`.
+//! `specs/Commands.antt` what it leaves of the shelf, `specs/Laws.antt` the laws. Then `commands`, `reports`, `pairs`.
 #![tactic(auto)]
 
 mod commands;
+mod laws;
 mod lines;
 mod outcomes;
 mod pairs;
@@ -41,5 +43,6 @@ mod rule;
 mod tests;
 
 pub use commands::{Ended, check, list};
+pub use laws::{damaged_is_hurt, done_is_whole};
 pub use outcomes::{Outcome, Report};
 pub use rule::WholePairs;

@@ -244,7 +244,10 @@ fn a_pair_without_a_summary_ends_a_list(rt: HostRuntime) -> Result<(), Fail> {
     assert!(rt; lines.is_empty());
     let (outcome, lines, _shelf) = checked(alloc, shelf, &[])?;
     assert_eq!(rt; outcome, Outcome::Damaged { stamp: 9, damage });
-    assert_eq!(rt; lines.as_slice(), b"9 damaged index 0 47 48\n10 whole 1\n".as_slice());
+    assert_eq!(rt;
+        lines.as_slice(),
+        b"9 damaged index 0 47 48\n10 whole 1\n".as_slice()
+    );
     Ok(())
 }
 

@@ -1,7 +1,7 @@
-use Rattle.std.proofs.Common.{◌≡◌, List, [], ◌∷◌, Option, Some, refl, sym, ◌∙◌, ap, subst, inr}
+use Rattle.std.proofs.Common.{List, [], ◌∷◌, Option, sym, ◌∙◌, ap, subst, inr}
 use Rattle.st_disk.specs.Disks.{Log, reads}
 use Rattle.st_disk.specs.Events.{Event, Found, events}
-use Rattle.st_disk.specs.Pairs.{Entry, Files, PairsIn}
+use Rattle.st_disk.specs.Pairs.{Entry, Files}
 use Rattle.st_disk.proofs.OneSet.{one_file_set}
 use Rattle.st_spool.specs.Entering.{FailsToEnter}
 use Rattle.st_spool.specs.Publishing.{RanAsBefore}

@@ -1,4 +1,4 @@
-use Rattle.std.proofs.Common.{◌≡◌, sym, subst}
+use Rattle.std.proofs.Common.{sym, subst}
 use Rattle.st_commands.specs.Reports.{TellsPair}
 use Rattle.st_commands.specs.Telling.{line_result}
 use Rattle.st_commands.specs.declared.outcomes.Report.{Report}

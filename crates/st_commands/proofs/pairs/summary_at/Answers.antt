@@ -1,5 +1,4 @@
-use Rattle.std.proofs.Common.{◌≡◌, ◌∙◌, ap, sym, subst}
-use Rattle.st_commands.specs.Commands.{Stays, KeepsSpool}
+use Rattle.st_commands.specs.Commands.{KeepsSpool}
 use Rattle.st_commands.proofs.Staying.{kept_then, one_back}
 use Rattle.st_commands.proofs.pairs.summary_at.Goals as goal
 

@@ -1,4 +1,4 @@
-use Rattle.std.proofs.Common.{◌≡◌, ◌∙◌, ap, sym, subst}
+use Rattle.std.proofs.Common.{◌∙◌, ap}
 use Rattle.st_commands.proofs.Telling.{few_packets, index_of_pair, not_damaged}
 use Rattle.st_commands.proofs.pairs.summary_in.Goals as goal
 

@@ -1,6 +1,5 @@
-use Rattle.std.proofs.Common.{rules, ◌≡◌, ◌∙◌, refl, sym, ap, subst, arith}
-use Rattle.st_shelf.specs.Loans.{lend}
-use Rattle.st_commands.specs.Commands.{Stays, KeepsSpool}
+use Rattle.std.proofs.Common.{◌∙◌}
+use Rattle.st_commands.specs.Commands.{KeepsSpool}
 use Rattle.st_commands.proofs.Staying.{kept_then, one_back, two_back}
 use Rattle.st_commands.proofs.pairs.verdict_at.Goals as goal
 
