@@ -1,11 +1,10 @@
 -- The rows as an entry leaves the set, and as holds come and go.
-use Rattle.std.proofs.Common.{◌≡◌, ◌<◌, ◌≤◌, ◌+◌, ◌-◌, ◌⊎◌, ℕ, zero, suc, List, [], ◌∷◌, ◌++◌, length, drop, map, Option, None, Some, Bool, true, false, ◌&&◌, ◌||◌, cond, nat_eq, nat_lt, nat_le, refl, sym, ◌∙◌, ap, subst, inl, inr, ⊎_elim, arith, slice_index}
+use Rattle.std.proofs.Common.{◌≡◌, ◌<◌, ◌≤◌, ◌+◌, ℕ, zero, suc, List, [], ◌∷◌, length, drop, map, Option, None, Some, Bool, true, false, cond, nat_eq, nat_lt, nat_le, refl, sym, ◌∙◌, ap, subst, arith, slice_index}
 use Rattle.std.proofs.lemmas.Bool.Decides.{nat_tests}
 use Rattle.st_disk.specs.declared.naming.Name.TheVariants.{Block, Index, Parked}
 use Rattle.st_disk.specs.Folders.{Folder}
-use Rattle.st_disk.specs.Pairs.{Entry, Files, files_of, files_at, IsFileSet, IsBelow}
-use Rattle.st_disk.proofs.OneSet.{below_less}
-use Rattle.st_spool.specs.Rows.{Row, Free, Half, Coming, Pair, Going, Held, Past, Fits, Has, set_row}
+use Rattle.st_disk.specs.Pairs.{Entry, Files, files_of, IsFileSet, IsBelow}
+use Rattle.st_spool.specs.Rows.{Pair, Held, Past, Fits, Has, set_row}
 use Rattle.st_spool.specs.States.{Placement, place_in, covers, row_at, rows_of}
 use Rattle.st_spool.specs.Standing.{stamp_of}
 use Rattle.st_spool.specs.declared.state.Span.{Span}

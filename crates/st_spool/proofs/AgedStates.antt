@@ -1,5 +1,5 @@
 -- What an ageing makes of the state and of the history.
-use Rattle.std.proofs.Common.{◌≡◌, ◌<◌, ◌≤◌, ◌+◌, ◌-◌, ◌⊎◌, ℕ, zero, suc, List, [], ◌∷◌, ◌++◌, length, drop, map, Option, None, Some, IsSome, Bool, true, false, cond, nat_eq, refl, sym, ◌∙◌, ap, subst, inl, inr, ⊎_elim, arith, length-drop, slice_index}
+use Rattle.std.proofs.Common.{◌≡◌, ◌<◌, ◌≤◌, ◌+◌, ◌-◌, ℕ, List, [], ◌∷◌, ◌++◌, length, drop, map, Option, None, Some, IsSome, false, refl, sym, ◌∙◌, ap, subst, inr, arith, length-drop, slice_index}
 use Rattle.std.proofs.lemmas.List.{append-nil, length-map}
 use Rattle.st_disk.specs.declared.naming.Name.TheVariants.{Block, Index, Parked}
 use Rattle.st_disk.specs.Folders.{Folder}
@@ -9,20 +9,18 @@ use Rattle.st_disk.specs.LoggedCalls.{Reads, KnownBefore}
 use Rattle.st_disk.specs.Runs.{Each, Ran}
 use Rattle.st_disk.specs.Pairs.{Entry, Files, files_of, PairsIn, IsFileSet}
 use Rattle.st_disk.proofs.Images.{leaves_now}
-use Rattle.st_disk.proofs.Runs.{ran_widen, ran_then, weaken, known_then}
-use Rattle.st_spool.specs.Rows.{Row, Pair, Going, Held, Past, Fits, Has, set_row, Either, RanBy}
+use Rattle.st_disk.proofs.Runs.{ran_widen, ran_then}
+use Rattle.st_spool.specs.Rows.{Row, Pair, Going, Held, Past, Fits, Has, set_row, RanBy}
 use Rattle.st_spool.specs.History.{set_of, entries_of, IsLeast}
-use Rattle.st_spool.specs.Placing.{Hidden}
 use Rattle.st_spool.specs.States.{SpoolState, rows_of, with_doubt, MayBe, AreUpTo, IsWithin, place_in, covers}
-use Rattle.st_spool.specs.Standing.{StandsFor, OnDisk, IsCalm, IsHidden, Gives, begun, in_doubt, after_found, PublishWhole, stamp_of}
-use Rattle.st_spool.specs.Publishing.{RanTo, RanInDoubt, Fails}
-use Rattle.st_spool.specs.Aging.{Removes}
+use Rattle.st_spool.specs.Standing.{StandsFor, OnDisk, Gives, begun, in_doubt, after_found, PublishWhole, stamp_of}
+use Rattle.st_spool.specs.Publishing.{RanTo, Fails}
 use Rattle.st_spool.specs.declared.state.Span.{Span}
 use Rattle.st_spool.specs.declared.state.Doubt.{Doubt}
 use Rattle.st_spool.specs.declared.state.Doubt.TheVariants as doubt
 use Rattle.st_spool.proofs.Setting.{sure_set}
 use Rattle.st_spool.proofs.Stages.{start}
-use Rattle.st_spool.proofs.Histories.{set_more, entries_more, legal_more, after_more, whole_more, whole_first}
+use Rattle.st_spool.proofs.Histories.{entries_more, legal_more, after_more, whole_more, whole_first}
 use Rattle.st_spool.proofs.Places.{rows_sure, rows_set}
 use Rattle.st_spool.proofs.Aged.{split_at, drop_next, at_place, rows_past, rows_aged}
 use Rattle.st_spool.proofs.Published.{calm_doubt, past_more, ran_each, ran_past}

@@ -1,11 +1,10 @@
 -- What is read, and what a crash leaves, after a clearing.
-use Rattle.std.proofs.Common.{◌≡◌, ◌⊎◌, ◌↔◌, ◌<◌, ◌≤◌, ◌+◌, ℕ, List, [], ◌∷◌, length, get_or, Option, None, Some, IsSome, IsTrue, Bool, true, false, Contains, refl, sym, ◌∙◌, ap, subst, inl, inr, ⊎_elim, arith}
+use Rattle.std.proofs.Common.{◌≡◌, ◌⊎◌, ◌↔◌, ◌<◌, ◌≤◌, ◌+◌, ℕ, List, [], length, get_or, Option, None, Some, IsSome, IsTrue, Bool, true, false, Contains, refl, sym, ◌∙◌, ap, subst, inl, inr, ⊎_elim, arith}
 use Rattle.std.proofs.lemmas.List.{get_or_default}
 use Rattle.st_disk.specs.declared.naming.Name.{Name}
 use Rattle.st_disk.specs.declared.naming.Name.TheVariants.{Block, Index, Parked, Draft}
 use Rattle.st_disk.specs.Folders.{Folder}
 use Rattle.st_disk.specs.Disks.{Log, reads, Leaves, and_then}
-use Rattle.st_disk.specs.Events.{Event}
 use Rattle.st_disk.specs.LoggedCalls.{Adds, Reads, removal}
 use Rattle.st_disk.specs.Runs.{Each, Ran}
 use Rattle.st_disk.specs.Pairs.{both}

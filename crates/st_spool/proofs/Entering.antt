@@ -1,5 +1,5 @@
 -- The flushes and removals of an opening.
-use Rattle.std.proofs.Common.{◌≡◌, ◌⊎◌, ◌↔◌, ◌<◌, ◌≤◌, ◌+◌, ℕ, List, [], ◌∷◌, ◌++◌, length, get_or, Option, None, Some, IsSome, Bool, true, false, cond, nat_eq, Contains, refl, sym, ◌∙◌, ap, subst, inl, inr, ⊎_elim, arith}
+use Rattle.std.proofs.Common.{◌≡◌, ℕ, List, [], Option, None, Some, IsSome, false, cond, nat_eq, refl, sym, ◌∙◌, ap, subst, ⊎_elim}
 use Rattle.st_disk.specs.declared.naming.Kind.{Kind}
 use Rattle.st_disk.specs.declared.naming.Kind.TheVariants as kind
 use Rattle.st_disk.specs.declared.naming.Name.{Name}
@@ -9,17 +9,15 @@ use Rattle.st_disk.specs.declared.changes.Change.TheVariants.{Remove}
 use Rattle.st_disk.specs.Folders.{Folder, apply, where_there}
 use Rattle.st_disk.specs.Names.{kind_of, same_name}
 use Rattle.st_disk.specs.Disks.{Log, reads, Leaves, and_then}
-use Rattle.st_disk.specs.Events.{Event}
-use Rattle.st_disk.specs.LoggedCalls.{Adds, Reads, removal, Spares}
-use Rattle.st_disk.specs.Runs.{Each, Ran}
-use Rattle.st_disk.specs.Pairs.{Entry, Files, both, files_at, PairsIn}
-use Rattle.st_disk.proofs.Images.{leaves_now}
-use Rattle.st_disk.proofs.Order.{same_is, is_same as is_same_name}
+use Rattle.st_disk.specs.LoggedCalls.{Adds, Reads, removal}
+use Rattle.st_disk.specs.Runs.{Ran}
+use Rattle.st_disk.specs.Pairs.{both}
+use Rattle.st_disk.proofs.Order.{same_is}
 use Rattle.st_disk.proofs.Reading.{known_log, flush_spares, other_spares, remove_spares, reads_removal}
 use Rattle.st_disk.proofs.Runs.{ran_start, ran_widen, ran_then, ran_flushed, known_before}
-use Rattle.st_spool.specs.Rows.{Row, Past, Lone, Both, Fits, Has, pair_before, pair_after, AreSure, IsSetOf, RanBy}
-use Rattle.st_spool.specs.Entering.{found_row, found_rows, Is, SamePairs, IsPart, AreThere, pairs_alone, beside, flushed_log}
-use Rattle.st_spool.proofs.Keeping.{by_test, is_same, past_block, past_parked}
+use Rattle.st_spool.specs.Rows.{Row, Past, Lone, Fits, Has, pair_before, pair_after}
+use Rattle.st_spool.specs.Entering.{found_row, found_rows, Is, SamePairs, IsPart, flushed_log}
+use Rattle.st_spool.proofs.Keeping.{by_test, is_same, past_block}
 use Rattle.st_spool.proofs.Setting.{one_of}
 
 by_kind_of : (n : Name) (A : Type 0) → (kind_of n ≡ kind.Block → A) → (kind_of n ≡ kind.Index → A) → A

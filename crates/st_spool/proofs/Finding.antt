@@ -1,17 +1,17 @@
 -- What an opening finds.
-use Rattle.std.proofs.Common.{◌≡◌, ◌⊎◌, ◌↔◌, ◌<◌, ◌≤◌, ℕ, List, [], ◌∷◌, Option, None, Some, IsSome, Result, Ok, Err, Contains, refl, sym, ◌∙◌, ap, subst, inl, inr, ⊎_elim}
+use Rattle.std.proofs.Common.{◌≡◌, ◌<◌, ◌≤◌, ℕ, List, [], Option, Some, IsSome, Result, Contains, sym, ◌∙◌, ap, subst, inl, inr, ⊎_elim}
 use Rattle.std.specs.List.{AllPairs}
 use Rattle.st_disk.specs.declared.naming.Name.{Name}
 use Rattle.st_disk.specs.declared.naming.Name.TheVariants.{Block, Index}
 use Rattle.st_disk.specs.declared.changes.Call.TheVariants.{Other}
 use Rattle.st_disk.specs.Folders.{Folder}
-use Rattle.st_disk.specs.Disks.{Log, reads, Leaves}
+use Rattle.st_disk.specs.Disks.{Log, reads}
 use Rattle.st_disk.specs.LoggedCalls.{Does}
 use Rattle.st_disk.specs.Listing.{AreAll}
-use Rattle.st_disk.specs.Runs.{Each, Ran}
+use Rattle.st_disk.specs.Runs.{Ran}
 use Rattle.st_disk.specs.Pairs.{both}
 use Rattle.st_disk.proofs.Runs.{ran_widen, ran_then, ran_other, weaken}
-use Rattle.st_spool.specs.Entering.{Is, SamePairs, AreThere, ArePaired, IsLastStamp, IsStamped, pairs_alone, flushed_log, Clears, FailsToEnter, Opens}
+use Rattle.st_spool.specs.Entering.{Is, SamePairs, AreThere, ArePaired, IsLastStamp, pairs_alone, flushed_log, Clears, FailsToEnter, Opens}
 use Rattle.st_spool.proofs.Entering.{both_flushed, flushed_reads}
 use Rattle.st_spool.proofs.Clearing.{listed}
 

@@ -1,20 +1,18 @@
 -- The pairs that a crash may leave of a spool.
-use Rattle.std.proofs.Common.{◌≡◌, ◌<◌, ◌≤◌, ◌+◌, ◌⊎◌, ℕ, zero, suc, List, [], ◌∷◌, ◌++◌, length, drop, map, Option, None, Some, Bool, true, false, cond, nat_eq, refl, sym, ◌∙◌, ap, subst, inl, inr, ⊎_elim, arith}
+use Rattle.std.proofs.Common.{◌≡◌, ◌<◌, ◌≤◌, ◌+◌, ℕ, zero, suc, List, [], ◌∷◌, ◌++◌, drop, Option, None, Some, Bool, false, cond, nat_eq, refl, sym, ◌∙◌, ap, subst, ⊎_elim, arith}
 use Rattle.std.proofs.lemmas.Bool.Decides.{nat_tests}
 use Rattle.st_disk.specs.Folders.{Folder}
 use Rattle.st_disk.specs.Disks.{Log}
 use Rattle.st_disk.specs.Events.{Event, Publish, Remove}
 use Rattle.st_disk.proofs.Sets.{files_more, files_less}
-use Rattle.st_disk.specs.Runs.{Each}
 use Rattle.st_disk.specs.Pairs.{Entry, Files, files_of, files_at, PairsIn, IsBelow, IsFileSet}
 use Rattle.st_spool.specs.Rows.{Row, Free, Half, Coming, Pair, Going, Has, set_row, pair_before, IsSetOf, Either}
 use Rattle.st_spool.specs.Placing.{entry}
 use Rattle.st_spool.specs.History.{set_of, entries_of, without}
-use Rattle.st_spool.specs.States.{SpoolState, rows_of, with_doubt, MayBe, Placement, place_in, AreUpTo}
-use Rattle.st_spool.specs.Standing.{StandsFor, OnDisk, Gives, begun}
+use Rattle.st_spool.specs.States.{SpoolState, rows_of, with_doubt, MayBe, Placement, place_in}
+use Rattle.st_spool.specs.Standing.{StandsFor, Gives, begun}
 use Rattle.st_spool.specs.declared.state.Doubt.{Doubt}
 use Rattle.st_spool.specs.declared.state.Doubt.TheVariants as doubt
-use Rattle.st_spool.specs.declared.state.Span.{Span}
 use Rattle.st_spool.proofs.Keeping.{by_test, is_same, same_here}
 use Rattle.st_spool.proofs.Setting.{sure_set, either_set}
 use Rattle.st_spool.proofs.Stages.{at_least}

@@ -1,6 +1,6 @@
 -- One event more.
-use Rattle.std.proofs.Common.{◌≡◌, ◌<◌, ◌≤◌, ◌+◌, ℕ, List, [], ◌∷◌, ◌++◌, length, cond, nat_eq, refl, sym, ◌∙◌, ap, subst, arith}
-use Rattle.st_disk.specs.Pairs.{Entry, IsFileSet, IsBelow}
+use Rattle.std.proofs.Common.{◌≡◌, ℕ, List, [], ◌∷◌, ◌++◌, refl}
+use Rattle.st_disk.specs.Pairs.{Entry}
 use Rattle.st_disk.specs.Events.{Event, Found, Publish, Remove}
 use Rattle.st_spool.specs.History.{set_after, set_of, entries_after, entries_of, MayFollow, Legal, without}
 use Rattle.st_spool.specs.Standing.{after_found, PublishWhole}

@@ -1,6 +1,5 @@
 -- Holds: the rows under them, and the bytes that they keep.
-use Rattle.std.proofs.Common.{◌≡◌, ◌<◌, ◌≤◌, ◌+◌, ◌-◌, ◌⊎◌, ℕ, zero, suc, List, [], ◌∷◌, ◌++◌, length, get_or, drop, take, map, Option, None, Some, IsSome, Result, Bool, true, false, ◌&&◌, ◌||◌, cond, nat_eq, nat_lt, nat_le, Contains, refl, sym, ◌∙◌, ap, subst, inl, inr, ⊎_elim, arith, length-drop}
-use Rattle.std.specs.List.{list_any}
+use Rattle.std.proofs.Common.{◌≡◌, ◌<◌, ◌≤◌, ◌+◌, ◌-◌, ℕ, zero, suc, List, [], ◌∷◌, ◌++◌, length, get_or, drop, take, Option, None, Some, IsSome, Bool, true, false, ◌&&◌, ◌||◌, cond, nat_eq, nat_lt, nat_le, Contains, refl, sym, ◌∙◌, ap, subst, ⊎_elim, arith, length-drop}
 use Rattle.std.proofs.lemmas.Bool.Decides.{nat_tests}
 use Rattle.std.proofs.lemmas.List.Elements.{Contains-push_cases, at_from_Contains}
 use Rattle.std.proofs.lemmas.List.Folds.{list_any-append, list_any_at}
@@ -14,15 +13,15 @@ use Rattle.st_disk.specs.Events.{Event, Publish, Remove}
 use Rattle.st_disk.specs.Runs.{Each}
 use Rattle.st_disk.specs.Pairs.{Entry, Files, files_of, IsFileSet}
 use Rattle.st_disk.proofs.Images.{leaves_now}
-use Rattle.st_spool.specs.Rows.{Row, Free, Half, Coming, Pair, Going, Held, Past, Fits, Has, set_row}
+use Rattle.st_spool.specs.Rows.{Row, Half, Coming, Pair, Going, Held, Past, Fits, Has}
 use Rattle.st_spool.specs.History.{set_of, entries_of}
-use Rattle.st_spool.specs.States.{SpoolState, SpoolView, rows_of, rows_by, row_at, with_doubt, MayBe, AreUpTo, IsWithin, AreWithin, place_in, Placement, covers, held}
-use Rattle.st_spool.specs.Standing.{StandsFor, OnDisk, IsHidden, stamp_of}
+use Rattle.st_spool.specs.States.{SpoolState, SpoolView, rows_of, row_at, with_doubt, MayBe, AreUpTo, IsWithin, AreWithin, place_in, Placement, covers, held}
+use Rattle.st_spool.specs.Standing.{StandsFor, IsHidden, stamp_of}
 use Rattle.st_spool.specs.Holding.{is_parked, index_name}
 use Rattle.st_spool.specs.declared.state.Span.{Span}
 use Rattle.st_spool.specs.declared.state.Doubt.{Doubt}
 use Rattle.st_spool.specs.declared.state.Doubt.TheVariants as doubt
-use Rattle.st_spool.proofs.Keeping.{by_test, is_same, same_here, has_here, has_other}
+use Rattle.st_spool.proofs.Keeping.{by_test, is_same, has_here, has_other}
 use Rattle.st_spool.proofs.Aged.{at_place, split_at, one_stamp}
 use Rattle.st_spool.proofs.Histories.{entries_more}
 use Rattle.st_spool.proofs.Places.{drop_more}

@@ -2,29 +2,25 @@
 use Rattle.std.proofs.Common.{◌≡◌, ℕ, List, [], ◌∷◌, ◌++◌, Option, None, Some, Result, Ok, Err, refl, sym, ◌∙◌, ap, subst, ⊎_elim}
 use Rattle.std.proofs.lemmas.List.{append-nil}
 use Rattle.st_disk.specs.declared.naming.Kind.{Kind}
-use Rattle.st_disk.specs.declared.naming.Name.{Name}
 use Rattle.st_disk.specs.declared.naming.Name.TheVariants.{Index, Draft}
-use Rattle.st_disk.specs.declared.changes.Call.{Call}
 use Rattle.st_disk.specs.declared.changes.Call.TheVariants.{Did, Other}
 use Rattle.st_disk.specs.declared.changes.Change.TheVariants.{Make}
-use Rattle.st_disk.specs.Folders.{Folder}
 use Rattle.st_disk.specs.Disks.{Log, reads}
 use Rattle.st_disk.specs.Events.{Event, events}
-use Rattle.st_disk.specs.LoggedCalls.{Adds, Looks, Does, Reads, Abandons, KnownBefore, removal}
-use Rattle.st_disk.specs.Runs.{Each, Ran}
+use Rattle.st_disk.specs.LoggedCalls.{Looks, Does, Reads, Abandons, KnownBefore, removal}
 use Rattle.st_disk.specs.Pairs.{Entry, Files}
 use Rattle.st_disk.proofs.Reading.{known_log, reads_still, reads_looked, other_spares, make_spares}
-use Rattle.st_disk.proofs.Runs.{ran_widen, ran_looks, ran_other, ran_quiet, ran_abandon, each_did, each_other, known_does, known_looks, known_adds}
+use Rattle.st_disk.proofs.Runs.{ran_widen, ran_quiet, each_did, each_other, known_looks, known_adds}
 use Rattle.st_spool.specs.Rows.{Row, Has, RanBy}
 use Rattle.st_spool.specs.History.{entries_of}
 use Rattle.st_spool.specs.States.{SpoolState, SpoolView, rows_by}
-use Rattle.st_spool.specs.Standing.{StandsFor, OnDisk, IsHidden, Gives, begun, after_found}
-use Rattle.st_spool.specs.Publishing.{Keeps, Fails, RanTo, RanAsBefore}
+use Rattle.st_spool.specs.Standing.{StandsFor, IsHidden, Gives, begun}
+use Rattle.st_spool.specs.Publishing.{Keeps, Fails, RanTo}
 use Rattle.st_spool.specs.Aging.{Removes}
 use Rattle.st_disk.specs.Events as event
 use Rattle.st_spool.specs.declared.state.Doubt.{Doubt}
 use Rattle.st_spool.specs.declared.state.Doubt.TheVariants as doubt
-use Rattle.st_spool.proofs.Keeping.{make_keeps, draft_keeps}
+use Rattle.st_spool.proofs.Keeping.{make_keeps}
 use Rattle.st_spool.proofs.Stages.{start, looks, abandons}
 use Rattle.st_spool.proofs.Published.{ran_each, ran_past}
 use Rattle.st_spool.proofs.Giving.{gives}

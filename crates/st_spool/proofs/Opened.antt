@@ -1,24 +1,23 @@
 -- The spool that an opening makes of what it found.
-use Rattle.std.proofs.Common.{◌≡◌, ◌⊎◌, ◌<◌, ◌≤◌, ◌+◌, ℕ, zero, suc, List, [], ◌∷◌, ◌++◌, length, map, get_or, Option, None, Some, IsSome, Bool, true, false, cond, nat_eq, nat_lt, nat_le, Contains, refl, sym, ◌∙◌, ap, subst, inl, inr, ⊎_elim, arith}
+use Rattle.std.proofs.Common.{◌≡◌, ◌⊎◌, ◌<◌, ◌≤◌, ◌+◌, ℕ, suc, List, [], ◌∷◌, length, map, get_or, Option, None, Some, IsSome, Bool, true, false, cond, nat_eq, nat_lt, nat_le, Contains, refl, sym, ◌∙◌, ap, subst, inl, inr, ⊎_elim, arith}
 use Rattle.std.specs.List.{AllPairs}
 use Rattle.std.proofs.lemmas.Bool.Decides.{nat_tests}
 use Rattle.std.proofs.lemmas.List.{append-nil}
-use Rattle.std.proofs.lemmas.List.Elements.{Contains-get_or, Contains-append_left, Contains-append_right, Contains-append_cases, Contains-push, Contains-push_cases}
+use Rattle.std.proofs.lemmas.List.Elements.{Contains-append_left, Contains-append_right, Contains-append_cases, Contains-push, Contains-push_cases}
 use Rattle.st_disk.specs.declared.naming.Name.{Name}
 use Rattle.st_disk.specs.declared.naming.Name.TheVariants.{Block, Index, Parked}
 use Rattle.st_disk.specs.Folders.{Folder, given, bare}
 use Rattle.st_disk.specs.Disks.{Log, reads, Leaves}
 use Rattle.st_disk.specs.Events.{Event, Found, events}
-use Rattle.st_disk.specs.Runs.{Each, Ran}
 use Rattle.st_disk.specs.LoggedCalls.{KnownBefore}
-use Rattle.st_disk.specs.Pairs.{Entry, Files, files_of, files_at, both, IsBelow, IsFileSet, PairsIn}
+use Rattle.st_disk.specs.Pairs.{Entry, Files, both, IsBelow, IsFileSet, PairsIn}
 use Rattle.st_spool.specs.Rows.{Row, Free, Past, Pair, Held, Fits, Has, pair_before}
 use Rattle.st_spool.specs.Placing.{files, entry}
-use Rattle.st_spool.specs.States.{SpoolState, Placement, place_in, covers, row_at, rows_of, AreUpTo}
+use Rattle.st_spool.specs.States.{SpoolState, place_in, covers, row_at, rows_of, AreUpTo}
 use Rattle.st_spool.specs.Standing.{StandsFor, OnDisk, stamp_of}
 use Rattle.st_spool.specs.Entering.{Is, SamePairs, pairs_alone, beside, ArePaired, IsLastStamp, flushed_log, opened, Opens, Enters}
 use Rattle.st_spool.specs.declared.state.Span.{Span}
-use Rattle.st_spool.proofs.Keeping.{by_test, is_same, same_here}
+use Rattle.st_spool.proofs.Keeping.{by_test, is_same}
 use Rattle.st_spool.proofs.Places.{rows_set}
 use Rattle.st_spool.proofs.Published.{ran_each, ran_past}
 

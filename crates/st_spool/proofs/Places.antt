@@ -1,11 +1,11 @@
 -- The rows of a spool as its state changes.
-use Rattle.std.proofs.Common.{◌≡◌, ◌<◌, ◌≤◌, ◌+◌, ◌-◌, ℕ, zero, suc, List, [], ◌∷◌, ◌++◌, length, drop, map, Option, None, Some, Bool, true, false, ◌&&◌, ◌||◌, cond, nat_eq, nat_lt, nat_le, refl, sym, ◌∙◌, ap, subst, arith}
+use Rattle.std.proofs.Common.{◌≡◌, ◌<◌, ◌≤◌, ◌+◌, ℕ, zero, suc, List, [], ◌∷◌, ◌++◌, length, drop, Option, None, Some, Bool, true, false, cond, nat_eq, nat_lt, nat_le, refl, sym, ◌∙◌, ap, subst, arith}
 use Rattle.std.proofs.lemmas.Bool.Decides.{nat_tests}
 use Rattle.st_disk.specs.declared.naming.Name.TheVariants.{Block, Index, Parked}
 use Rattle.st_disk.specs.Folders.{Folder}
 use Rattle.st_disk.specs.Pairs.{Entry, Files, files_of, files_at, IsFileSet, IsBelow}
-use Rattle.st_disk.proofs.OneSet.{below_less, none_at}
-use Rattle.st_spool.specs.Rows.{Row, Free, Half, Coming, Pair, Going, Held, Past, Fits, Has, set_row, pair_before, pair_after, AreSure, IsSetOf}
+use Rattle.st_disk.proofs.OneSet.{none_at}
+use Rattle.st_spool.specs.Rows.{Free, Pair, Held, Past, Fits, Has, set_row, pair_before, pair_after, AreSure, IsSetOf}
 use Rattle.st_spool.specs.States.{Placement, place_in, covers, row_at, rows_of, AreUpTo}
 use Rattle.st_spool.specs.declared.state.Span.{Span}
 use Rattle.st_spool.proofs.Keeping.{by_test, is_same, same_here, has_here, has_other}

@@ -1,5 +1,5 @@
 -- What a publication makes of the state and of the history.
-use Rattle.std.proofs.Common.{◌≡◌, ◌<◌, ◌≤◌, ◌+◌, ◌⊎◌, ℕ, List, [], ◌∷◌, ◌++◌, length, drop, map, Option, None, Some, IsSome, Bool, true, false, cond, nat_eq, refl, sym, ◌∙◌, ap, subst, inl, inr, ⊎_elim, arith, length-append, append_assoc}
+use Rattle.std.proofs.Common.{◌≡◌, ◌<◌, ◌≤◌, ◌+◌, ℕ, List, [], ◌∷◌, ◌++◌, length, drop, map, Option, None, Some, refl, sym, ◌∙◌, ap, subst, arith, length-append, append_assoc}
 use Rattle.std.proofs.lemmas.List.{append-nil}
 use Rattle.st_disk.specs.Folders.{Folder}
 use Rattle.st_disk.specs.declared.naming.Name.TheVariants.{Block, Index, Parked}
@@ -7,24 +7,22 @@ use Rattle.st_disk.specs.Disks.{Log, reads}
 use Rattle.st_disk.specs.Events.{Event, Publish, events}
 use Rattle.st_disk.specs.LoggedCalls.{Reads, KnownBefore}
 use Rattle.st_disk.proofs.Images.{leaves_now}
-use Rattle.st_disk.proofs.Sets.{files_more}
 use Rattle.st_disk.proofs.Runs.{ran_widen}
 use Rattle.st_disk.specs.Runs.{Each, Ran}
-use Rattle.st_disk.specs.Pairs.{Entry, Files, files_of, files_at, PairsIn, IsFileSet}
+use Rattle.st_disk.specs.Pairs.{Entry, Files, PairsIn, IsFileSet}
 use Rattle.st_disk.proofs.Reading.{known_log}
-use Rattle.st_spool.specs.Rows.{Row, Free, Half, Coming, Pair, Fits, Has, set_row, pair_before, pair_after, AreSure, IsSetOf, Either, RanBy}
+use Rattle.st_spool.specs.Rows.{Row, Free, Half, Coming, Pair, Fits, Has, set_row, RanBy}
 use Rattle.st_spool.specs.Placing.{entry}
-use Rattle.st_spool.specs.History.{set_of, entries_of, Legal}
-use Rattle.st_spool.specs.States.{SpoolState, rows_of, rows_by, with_doubt, MayBe, AreUpTo, IsWithin}
+use Rattle.st_spool.specs.History.{set_of, entries_of}
+use Rattle.st_spool.specs.States.{SpoolState, rows_of, with_doubt, MayBe, AreUpTo, IsWithin}
 use Rattle.st_spool.specs.Standing.{StandsFor, OnDisk, IsCalm, IsHidden, Gives, begun, in_doubt, after_found, PublishWhole, stamp_of}
 use Rattle.st_spool.specs.Publishing.{RanTo, RanInDoubt}
 use Rattle.st_spool.specs.declared.state.Doubt.{Doubt}
 use Rattle.st_spool.specs.declared.state.Doubt.TheVariants as doubt
 use Rattle.st_spool.proofs.Giving.{free as free_row, set_more_is, coming_sets, half_sets}
 use Rattle.st_spool.proofs.Setting.{sure_set}
-use Rattle.st_spool.proofs.Stages.{at_least}
-use Rattle.st_spool.proofs.Histories.{set_more, entries_more, legal_more, after_more, whole_more, whole_first}
-use Rattle.st_spool.proofs.Places.{rows_free, rows_published, rows_sure, rows_set, file_set_more, file_set_drop, up_to_drop, up_to_more, drop_more}
+use Rattle.st_spool.proofs.Histories.{entries_more, legal_more, after_more, whole_more, whole_first}
+use Rattle.st_spool.proofs.Places.{rows_published, rows_sure, rows_set, file_set_more, up_to_more, drop_more}
 
 stamps_more : (es : List Entry) (e : Entry) → map stamp_of (es ++ e ∷ []) ≡ map stamp_of es ++ e.stamp ∷ []
 stamps_more [] e = refl

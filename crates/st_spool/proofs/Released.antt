@@ -1,22 +1,20 @@
 -- A hold less, and files that nobody holds any more.
-use Rattle.std.proofs.Common.{◌≡◌, ◌<◌, ◌≤◌, ◌+◌, ◌-◌, ◌⊎◌, ℕ, zero, suc, List, [], ◌∷◌, ◌++◌, length, drop, take, map, Option, None, Some, Bool, true, false, ◌&&◌, ◌||◌, cond, nat_eq, nat_lt, nat_le, Contains, refl, sym, ◌∙◌, ap, subst, ⊎_elim, arith, slice_index}
+use Rattle.std.proofs.Common.{◌≡◌, ◌<◌, ◌≤◌, ◌+◌, ℕ, zero, suc, List, [], ◌∷◌, ◌++◌, length, drop, take, Option, Some, Bool, true, false, ◌&&◌, ◌||◌, cond, nat_eq, nat_lt, nat_le, Contains, refl, sym, ◌∙◌, ap, subst, ⊎_elim, arith, slice_index}
 use Rattle.std.specs.List.{remove}
 use Rattle.std.proofs.lemmas.List.{take-append-drop, append-nil}
 use Rattle.std.proofs.lemmas.List.Elements.{Contains-append_left, Contains-append_right, Contains-append_cases}
 use Rattle.std.proofs.lemmas.Bool.Decides.{nat_tests}
-use Rattle.st_disk.specs.declared.naming.Name.{Name}
 use Rattle.st_disk.specs.declared.naming.Name.TheVariants.{Block, Index, Parked}
 use Rattle.st_disk.specs.Folders.{Folder}
-use Rattle.st_disk.specs.Disks.{Log, reads}
+use Rattle.st_disk.specs.Disks.{Log}
 use Rattle.st_disk.specs.Events.{Event, events}
-use Rattle.st_disk.specs.LoggedCalls.{KnownBefore, Reads}
-use Rattle.st_disk.specs.Runs.{Each, Ran}
+use Rattle.st_disk.specs.LoggedCalls.{KnownBefore}
 use Rattle.st_disk.proofs.Runs.{ran_widen}
 use Rattle.st_disk.specs.Pairs.{Entry, Files, files_of, IsFileSet}
 use Rattle.st_spool.specs.Rows.{Row, Half, Coming, Going, Past, Fits, Has, set_row, RanBy}
 use Rattle.st_spool.specs.History.{entries_of}
 use Rattle.st_spool.specs.States.{SpoolState, rows_by, rows_of, with_doubt, MayBe, AreUpTo, place_in, Placement, covers}
-use Rattle.st_spool.specs.Standing.{StandsFor, OnDisk, IsHidden, Gives, begun, stamp_of}
+use Rattle.st_spool.specs.Standing.{StandsFor, Gives, begun}
 use Rattle.st_spool.specs.Holding.{IsWithout}
 use Rattle.st_spool.specs.Publishing.{Keeps}
 use Rattle.st_spool.specs.declared.state.Span.{Span}
@@ -24,7 +22,7 @@ use Rattle.st_spool.specs.declared.state.Doubt.{Doubt}
 use Rattle.st_spool.specs.declared.state.Doubt.TheVariants as doubt
 use Rattle.st_spool.proofs.Keeping.{by_test, is_same, set_has, has_here, has_other}
 use Rattle.st_spool.proofs.Stages.{start}
-use Rattle.st_spool.proofs.Aged.{split_at, at_place, one_stamp, rows_past, rows_released}
+use Rattle.st_spool.proofs.Aged.{split_at, at_place, rows_past, rows_released}
 use Rattle.st_spool.proofs.Holds.{up_to_at}
 use Rattle.st_spool.proofs.Published.{ran_each, ran_past}
 use Rattle.st_spool.proofs.Giving.{gives}

@@ -1,11 +1,10 @@
 -- From rows to sets of pairs.
-use Rattle.std.proofs.Common.{◌≡◌, ◌⊎◌, ℕ, List, [], ◌∷◌, ◌++◌, Option, None, Some, Bool, true, false, cond, nat_eq, refl, sym, ◌∙◌, ap, subst, inl, inr, ⊎_elim, arith}
-use Rattle.std.proofs.lemmas.Bool.Decides.{nat_tests}
+use Rattle.std.proofs.Common.{◌≡◌, ◌⊎◌, ℕ, List, Option, None, Some, false, cond, nat_eq, refl, sym, ◌∙◌, ap, subst, inl, inr, ⊎_elim}
 use Rattle.st_disk.specs.declared.naming.Name.TheVariants.{Block, Index, Parked}
 use Rattle.st_disk.specs.Folders.{Folder}
-use Rattle.st_disk.specs.Pairs.{Entry, Files, files_of, files_at, both, IsFileSet, PairsIn}
+use Rattle.st_disk.specs.Pairs.{Entry, files_at, both, IsFileSet, PairsIn}
 use Rattle.st_spool.specs.Rows.{Row, Free, Half, Coming, Pair, Going, Held, Past, Lone, Both, Fits, Has, set_row, pair_before, pair_after, AreSure, IsSetOf, Either}
-use Rattle.st_spool.proofs.Keeping.{by_test, is_same, same_here, has_here, has_other}
+use Rattle.st_spool.proofs.Keeping.{by_test, is_same, has_here, has_other}
 
 none_index : (b : Option (List ℕ)) → both b None ≡ None
 none_index None = refl

@@ -1,24 +1,23 @@
 -- The stages of a publication and of a removal.
-use Rattle.std.proofs.Common.{◌≡◌, ◌⊎◌, ℕ, List, [], ◌∷◌, ◌++◌, Option, None, Some, IsSome, Result, Ok, Err, Bool, cond, nat_eq, refl, sym, ◌∙◌, ap, subst, inl, inr, ⊎_elim}
+use Rattle.std.proofs.Common.{◌≡◌, ℕ, List, [], ◌∷◌, Option, None, Some, Result, cond, nat_eq, refl, sym, ◌∙◌, ap, subst, inl, inr, ⊎_elim}
 use Rattle.st_disk.specs.declared.naming.Kind.{Kind}
 use Rattle.st_disk.specs.declared.naming.Kind.TheVariants as kind
 use Rattle.st_disk.specs.declared.naming.Name.{Name}
 use Rattle.st_disk.specs.declared.naming.Name.TheVariants.{Block, Index, Parked, Draft}
-use Rattle.st_disk.specs.declared.changes.Call.{Call}
-use Rattle.st_disk.specs.declared.changes.Call.TheVariants.{Did, Flush, Other}
+use Rattle.st_disk.specs.declared.changes.Call.TheVariants.{Did, Flush}
 use Rattle.st_disk.specs.declared.changes.Change.{Change}
 use Rattle.st_disk.specs.declared.changes.Change.TheVariants.{Settle, Hide, Remove}
 use Rattle.st_disk.specs.Folders.{Folder, apply}
-use Rattle.st_disk.specs.Disks.{Log, reads, Leaves, and_then}
+use Rattle.st_disk.specs.Disks.{Log, reads}
 use Rattle.st_disk.specs.Events.{Event, Publish, events}
 use Rattle.st_disk.specs.Events as event
 use Rattle.st_disk.specs.LoggedCalls.{Adds, Looks, Does, Reads, Abandons, removal}
-use Rattle.st_disk.specs.Runs.{Each, LeavesOnly, Ran}
-use Rattle.st_disk.specs.Pairs.{Entry, Files, files_of, files_at, PairsIn}
+use Rattle.st_disk.specs.Runs.{Each, Ran}
+use Rattle.st_disk.specs.Pairs.{Entry, Files, files_at}
 use Rattle.st_disk.proofs.Runs.{ran_start, ran_widen, ran_quiet, ran_looks, ran_flushed, ran_removal, ran_abandon, ran_published, ran_hidden, each_did, IsQuiet}
 use Rattle.st_disk.proofs.Reading.{known_log}
 use Rattle.st_disk.proofs.Images.{leaves_now}
-use Rattle.st_spool.specs.Rows.{Row, Free, Half, Coming, Pair, Going, Held, Past, Fits, Has, set_row, pair_before, IsSetOf, RanBy}
+use Rattle.st_spool.specs.Rows.{Row, Free, Half, Coming, Pair, Going, Held, Fits, Has, set_row, pair_before, IsSetOf, RanBy}
 use Rattle.st_spool.specs.Placing.{entry}
 use Rattle.st_spool.proofs.Keeping.{by_test, is_same, widen, widen_from, index_keeps, block_keeps, hide_keeps, draft_keeps, row_here, set_has, has_here, has_other}
 

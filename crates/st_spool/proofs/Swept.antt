@@ -1,5 +1,5 @@
 -- What is left after removals that may fail.
-use Rattle.std.proofs.Common.{◌≡◌, ◌⊎◌, ◌<◌, ◌≤◌, ◌+◌, ℕ, List, [], Option, None, Some, Bool, false, Result, Ok, Err, slice_index, refl, sym, ◌∙◌, ap, subst, inl, inr, ⊎_elim, arith}
+use Rattle.std.proofs.Common.{◌≡◌, ◌⊎◌, ◌<◌, ◌≤◌, ◌+◌, ℕ, List, Option, None, false, Result, Ok, Err, slice_index, refl, sym, ◌∙◌, subst, ⊎_elim, arith}
 use Rattle.st_base.specs.Faults.{Rose}
 use Rattle.st_disk.specs.declared.naming.Name.{Name}
 use Rattle.st_disk.specs.declared.naming.Name.TheVariants.{Block, Parked}

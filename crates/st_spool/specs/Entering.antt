@@ -10,7 +10,7 @@ use Rattle.st_disk.specs.Disks.{Log, reads, Leaves, and_then}
 use Rattle.st_disk.specs.LoggedCalls.{Reads}
 use Rattle.st_disk.specs.Runs.{Ran}
 use Rattle.st_disk.specs.Pairs.{Entry, Files, PairsIn, both}
-use Rattle.st_disk.specs.Events.{Event, Found, events}
+use Rattle.st_disk.specs.Events.{Found, events}
 use Rattle.st_spool.specs.Rows.{Row, Past, Lone, Both}
 use Rattle.st_spool.specs.States.{SpoolState}
 use Rattle.st_spool.specs.Standing.{StandsFor}

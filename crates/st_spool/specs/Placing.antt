@@ -2,7 +2,7 @@
 use Rattle.std.specs.Prelude.{◌≡◌, ℕ, List, [], ◌∷◌, Option, None, Result, Ok, Err}
 use Rattle.st_disk.specs.declared.naming.Name.TheVariants.{Index}
 use Rattle.st_disk.specs.Disks.{Log}
-use Rattle.st_disk.specs.Events.{Event, Publish, Remove}
+use Rattle.st_disk.specs.Events.{Publish, Remove}
 use Rattle.st_disk.specs.LoggedCalls.{Reads}
 use Rattle.st_disk.specs.Pairs.{Entry, Files}
 use Rattle.st_spool.specs.Rows.{Row, Half, Coming, Pair, Going, Held, set_row, RanBy}

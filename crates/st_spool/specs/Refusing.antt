@@ -1,5 +1,5 @@
 -- Which answer a publication or an ageing gives, and what a refusal leaves.
-use Rattle.std.specs.Prelude.{◌≡◌, ◌-◌, ◌^◌, ℕ, Option, None, Some}
+use Rattle.std.specs.Prelude.{◌≡◌, ◌-◌, ◌^◌, None, Some}
 use Rattle.st_shelf.specs.declared.shelves.SealedPair.{SealedPair}
 use Rattle.st_spool.specs.States.{SpoolView}
 use Rattle.st_spool.specs.Publishing.{MayPublish}

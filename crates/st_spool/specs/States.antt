@@ -1,5 +1,5 @@
 -- What a spool keeps, and what its images have by it.
-use Rattle.std.specs.Prelude.{◌≡◌, ◌<◌, ◌≤◌, ◌+◌, ℕ, List, [], ◌∷◌, ◌++◌, drop, take, ◌-◌, Contains, Option, None, Some, Bool, ◌&&◌, cond, nat_eq, nat_lt, nat_le, ⊤}
+use Rattle.std.specs.Prelude.{◌≡◌, ◌<◌, ◌≤◌, ◌+◌, ℕ, List, [], ◌∷◌, drop, take, ◌-◌, Contains, Option, None, Some, Bool, ◌&&◌, cond, nat_eq, nat_lt, nat_le, ⊤}
 use Rattle.std.specs.List.{list_any}
 use Rattle.st_disk.specs.Pairs.{Entry, Files, files_of}
 use Rattle.st_disk.specs.Events.{Event}
