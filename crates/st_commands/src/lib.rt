@@ -29,7 +29,8 @@
 //! # Where to read
 //!
 //! `specs/Lines.antt` has the text of each line, `specs/Reports.antt` what a command writes,
-//! `specs/Commands.antt` what it leaves of the shelf, `specs/Laws.antt` the laws. Then `commands`, `reports`, `pairs`.
+//! `specs/Commands.antt` what it leaves of the shelf, `specs/Laws.antt` the laws. Then `commands`,
+//! `reports`, `pairs`.
 #![tactic(auto)]
 
 mod commands;

@@ -36,12 +36,14 @@ fn verdict_at<D: Shelf>(
 ) -> Result<Verdict, PairErr>
     requires held { Contains spool.old.state.holds hold.now }
     requires within { i < size_of hold.now }
+    // what comes
     ensures judges { (log : Log) (earlier h : List Event) (f : Files) (e : Entry)
         (after : List Entry) → D.log spool.old.shelf ≡ Some log
         → StandsFor IsWholePair (D.log spool.old.shelf) spool.old.state earlier h f
         → drop i (held hold.now h) ≡ e ∷ after
         → IfOk result (Judges e.block e.index) }
     ensures errors { IfErr result (λ e. (e ≡ PairErr.DiskFault) ⊎ (e ≡ PairErr.NoMemory)) }
+    // what stays
     ensures stays { Stays D.log D.id D.faults D.loans spool.old spool.new }
     ensures fault { IsErrOf result PairErr.DiskFault
         → Rose (D.faults spool.old.shelf) (D.faults spool.new.shelf) }
@@ -113,11 +115,13 @@ fn summary_at<D: Shelf>(
 ) -> Result<Summary, PairErr>
     requires held { Contains spool.old.state.holds hold.now }
     requires within { i < size_of hold.now }
+    // what comes
     ensures says { (log : Log) (earlier h : List Event) (f : Files) (e : Entry)
         (after : List Entry) → D.log spool.old.shelf ≡ Some log
         → StandsFor IsWholePair (D.log spool.old.shelf) spool.old.state earlier h f
         → drop i (held hold.now h) ≡ e ∷ after
         → TellsSummary e.block e.index result }
+    // what stays
     ensures stays { Stays D.log D.id D.faults D.loans spool.old spool.new }
     ensures fault { IsErrOf result PairErr.DiskFault
         → Rose (D.faults spool.old.shelf) (D.faults spool.new.shelf) }
@@ -166,12 +170,14 @@ pub fn line_at<D: Shelf>(
 ) -> Result<Line, PairErr>
     requires held { Contains spool.old.state.holds hold.now }
     requires within { i < size_of hold.now }
+    // what comes
     ensures tells { (log : Log) (earlier h : List Event) (f : Files) (e : Entry)
         (after : List Entry) → D.log spool.old.shelf ≡ Some log
         → StandsFor IsWholePair (D.log spool.old.shelf) spool.old.state earlier h f
         → drop i (held hold.now h) ≡ e ∷ after
         → TellsPair report e (line_result result) }
     ensures outcome { IfOk result (λ l. IsSaid l.outcome) }
+    // what stays
     ensures stays { Stays D.log D.id D.faults D.loans spool.old spool.new }
     ensures fault { IsErrOf result PairErr.DiskFault
         → Rose (D.faults spool.old.shelf) (D.faults spool.new.shelf) }

@@ -52,6 +52,7 @@ pub fn report_pairs<D: Shelf, O: Sink>(
     out: &mut O,
 ) -> Outcome
     requires { Contains spool.old.state.holds hold.now }
+    // what is written, and what stays
     ensures lines { (log : Log) (earlier h : List Event) (f : Files)
         → D.log spool.old.shelf ≡ Some log
         → StandsFor IsWholePair (D.log spool.old.shelf) spool.old.state earlier h f
