@@ -1,6 +1,5 @@
 -- The packets that a maker has, with one more.
-use Rattle.std.proofs.Common.{◌≡◌, ℕ, zero, suc, ◌+◌, ◌*◌, ◌<◌, ◌≤◌, ◌^◌, ◌↔◌, Bool, true, false, ◌||◌, List, [], ◌∷◌, ◌++◌, length, IsTrue, All, AllPairs, Contains, ◌⊎◌, inl, inr, refl, sym, ap, ◌∙◌, subst, arith, true≢false, ⊎_elim, nat_eq, eq-eqb, Option, Some, None}
-use Rattle.std.specs.List.{list_any}
+use Rattle.std.proofs.Common.{◌≡◌, ℕ, ◌+◌, ◌*◌, ◌<◌, ◌≤◌, ◌^◌, ◌↔◌, Bool, true, false, ◌||◌, List, [], ◌∷◌, ◌++◌, length, IsTrue, All, ◌⊎◌, inl, inr, refl, sym, ap, ◌∙◌, subst, arith, true≢false, ⊎_elim, nat_eq, eq-eqb, Option, Some}
 use Rattle.std.proofs.lemmas.Bool.Decides.{nat_tests}
 use Rattle.std.proofs.lemmas.List.Quantifiers.{all_pairs_push}
 use Rattle.std.proofs.lemmas.List.Elements.{All-push, Contains-append_left, Contains-push, Contains-push_cases}
@@ -13,7 +12,7 @@ use Rattle.st_block.specs.Scan.{PositionedRecord}
 use Rattle.st_rows.specs.Positions.{has}
 use Rattle.st_rows.specs.Rows.{HasAt, IsSummary}
 use Rattle.st_index.specs.NumberedLists.{Gained}
-use Rattle.st_index.specs.PositionLists.{positions_at, AreDistinct, count_in}
+use Rattle.st_index.specs.PositionLists.{positions_at}
 use Rattle.st_index.specs.Summaries.{SummaryOf, summary_view}
 use Rattle.st_index.specs.Maker.{end_of, ArePositions, HasPackets}
 use Rattle.st_index.specs.declared.lists.PositionLists.{PositionLists}

@@ -26,11 +26,7 @@ fn ends_with(list: &[u32], position: u32) -> bool
 }
 
 // Makes room for one more position of a number. The positions stay.
-fn make_numbered(
-    alloc: Global,
-    lists: &mut Vec<Vec<u32>>,
-    number: usize,
-) -> Result<(), AllocError>
+fn make_numbered(alloc: Global, lists: &mut Vec<Vec<u32>>, number: usize) -> Result<(), AllocError>
     ensures same { (n : ℕ) → at_number lists.new.items n ≡ at_number lists.old.items n }
     ensures keeps { (n : ℕ) → HasRoomAt lists.old.items n → HasRoomAt lists.new.items n }
     ensures room { OnOk result (HasRoomAt lists.new.items number) }
