@@ -1,5 +1,4 @@
-//! The index of a pair: made packet by packet while the block file is filled, and written as a
-//! table.
+//! The index of a pair, made packet by packet while the block file is filled.
 //!
 //! A packet is added with its position, the offset of its head in the block file in bytes. The
 //! index then has, for each key that some packet has, a row with the positions of exactly these
@@ -10,8 +9,9 @@
 //!
 //! - A maker has exactly the packets that were added, in their order (`IndexMaker::new`,
 //!   `IndexMaker::add`). A refusal, which comes only without memory, leaves it the same packets.
-//! - Writing gives a table of exactly the rows of these packets, and its length (`IndexMaker::write`);
-//!   after an error a prefix of it is there. `WriteFault` comes only if the sink's count rose.
+//! - Writing gives a table of exactly the rows of these packets, and returns its length in bytes
+//!   (`IndexMaker::write`); after an error a prefix of it is there. `WriteFault` comes only if the
+//!   sink's count rose.
 //! - A maker that meets `add`'s conditions never has too many rows or too long values for a table:
 //!   a frame has four bytes or more for each of its keys.
 //!
