@@ -75,8 +75,8 @@ same_test false false h i = refl
 
 pub sorted_has : (xs ys : List ℕ) (p : ℕ) → IsPermutation xs ys → has (dedup eqb ys) p ≡ has xs p
 sorted_has xs ys p h = same_test _ _
-  (λ a. has_from xs p (Contains-permutation ys xs p (IsPermutation-sym xs ys h) (Contains-from_dedup eqb ys p (has_to (dedup eqb ys) p a))))
-  (λ b. has_from (dedup eqb ys) p (Contains-dedup_nat ys p (Contains-permutation xs ys p h (has_to xs p b))))
+    (λ a. has_from xs p (Contains-permutation ys xs p (IsPermutation-sym xs ys h) (Contains-from_dedup eqb ys p (has_to (dedup eqb ys) p a))))
+    (λ b. has_from (dedup eqb ys) p (Contains-dedup_nat ys p (Contains-permutation xs ys p h (has_to xs p b))))
 
 pub sorted_rises : (ys : List ℕ) → IsSorted nat_cmp ys → Rising (dedup eqb ys)
 sorted_rises ys h = AllPairs-from_increasing (dedup eqb ys) (IsStrictlyIncreasing-dedup ys h)
@@ -96,9 +96,9 @@ found xs x r rise h = answer r (searched xs x r h (λ i j le less. ⊎_elim (λ 
     answer : (r : Result ℕ ℕ) → MatchResult r (λ i. (i < length xs) × (slice_index_or xs i 0 ≡ x)) (λ i. (i ≤ length xs) × ((k : ℕ) → k < i → slice_index_or xs k 0 < x) × ((k : ℕ) → i ≤ k → k < length xs → x < slice_index_or xs k 0)) → is_ok r ≡ has xs x
     answer (Ok i) (less, e) = sym (has_from xs x (i, less, get_or_default xs i x 0 less ∙ e))
     answer (Err i) (le, below, above) = same_test false (has xs x) (λ h. absurd (true≢false (sym h))) (λ h.
-      let (k, less, e) = has_to xs x h in
-      let same : slice_index_or xs k 0 ≡ x = get_or_default xs k 0 x less ∙ e in
-      ⊎_elim
+        let (k, less, e) = has_to xs x h in
+        let same : slice_index_or xs k 0 ≡ x = get_or_default xs k 0 x less ∙ e in
+        ⊎_elim
         (λ up. let out = above k up less in let no : ⊥ = omega arith in absurd no)
         (λ down. let out = below k down in let no : ⊥ = omega arith in absurd no)
         (cases_at_most i k))

@@ -54,7 +54,7 @@ impl Positions {
     ghost use Rattle.std.specs.Prelude.{◌≡◌, ◌&&◌, ◌||◌, ℕ, IfOk};
     ghost use Rattle.st_rows.specs.Positions.{has, Rising};
 
-    /// A copy of `items`, which rise.
+    /// The positions `items`, in an allocation of their own.
     pub fn over(alloc: Global, items: &[u32]) -> Result<Positions, NoMemory>
         requires { Rising items.now }
         ensures { IfOk result (λ ps. ps ≡ items.now) }
