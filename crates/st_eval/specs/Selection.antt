@@ -25,8 +25,8 @@ pub record AreMatching (q : Node) (now : ℕ) (given : List PositionedRecord) (p
     pub rising : Rising ps
     pub exact : (p : ℕ) → IsTrue (has ps p) ↔ MatchesAt q now given p
 
--- the content is known, it has this index block, a table was entered over it with these entries, and
--- the data blocks that count as checked hold all their checks
+-- the content is known, it has this index block, a table was entered over it with these entries,
+-- and the data blocks that count as checked hold all their checks
 pub record IsEntered (content : Option (List ℕ)) (entries : List IndexEntry) (checked : List Bool)
     (bytes : List ℕ) (index : List RowView) : Type 0 where
   pub known : content ≡ Some bytes

@@ -13,8 +13,8 @@
 //!   fewer than 2^32, by one read at most.
 //! - Over other bytes they refuse by a check of the table's blocks that fails, or of a row's value,
 //!   and never so over an index of packets. A fault of the file is answered only if its count rose.
-//! - `Positions::both` is the intersection of two lists of positions and takes no memory,
-//!   `Positions::either` their union.
+//! - `Positions::both` is the intersection of two lists of positions, in place and without further
+//!   memory; `Positions::either` is their union.
 //! - Laws: a net is a range of keys (`net_is_range`), as is every primitive (`matches_by_range`,
 //!   `ranges_fit`), and the rows of packets select those that match (`selects_matching`).
 //!
@@ -27,8 +27,8 @@
 //!
 //! `specs/Selection.antt` says what is selected, and from which index; `specs/Refusals.antt` what
 //! is refused. `specs/Ranges.antt` has the keys that a primitive asks for, `specs/Selecting.antt`
-//! what rows select for a query. `Lookups` and `SummaryRow` say what the calls of modules give. Then
-//! `evaluate`, and below it `lookups`, `values` and `ranges`; `positions`, `summary_row`, `laws`.
+//! what rows select for a query. `Lookups` and `SummaryRow` say what the calls of modules give.
+//! Then `evaluate`, and below it `lookups`, `values` and `ranges`; `positions`, `summary_row`.
 #![tactic(auto)]
 
 mod errors;

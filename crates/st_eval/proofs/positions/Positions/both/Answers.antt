@@ -1,4 +1,4 @@
-use Rattle.std.proofs.Common.{◌≡◌, ◌&&◌, ◌∙◌, ap, sym, subst, List, ℕ, ◌<◌}
+use Rattle.std.proofs.Common.{◌&&◌, ◌∙◌, ap, sym, subst, List, ℕ, ◌<◌}
 use Rattle.std.proofs.lemmas.List.Kept.{AllPairs-filter}
 use Rattle.st_rows.specs.Positions.{has, Rising}
 use Rattle.st_eval.proofs.Risings.{filter_has}
