@@ -1,6 +1,6 @@
 -- A pair fails in one way at most.
-use Rattle.std.proofs.Common.{◌≡◌, ℕ, List, Option, Some, None, refl, sym, ap, ◌∙◌, subst, inl, inr}
-use Rattle.st_base.specs.Damages.{DamageView}
+use Rattle.std.proofs.Common.{◌≡◌, ℕ, List, length, Option, Some, None, refl, sym, ap, ◌∙◌, subst, inl, inr}
+use Rattle.st_base.specs.Damages.{DamageView, damage_view}
 use Rattle.st_tblock.specs.Block.{RowView}
 use Rattle.st_block.specs.Checks.{file_wrong}
 use Rattle.st_block.specs.Scan.{PositionedRecord}
@@ -10,9 +10,12 @@ use Rattle.st_rows.specs.Rows.{AreRowsOf}
 use Rattle.st_rows.proofs.OneRows.{one_list_of_rows}
 use Rattle.st_index.specs.CheckRows.{content_wrong, rows_wrong}
 use Rattle.st_index.specs.Verdict.{FailsAsIndex, FailsInRows}
-use Rattle.st_index.specs.CheckLaws.{OneFailure}
+use Rattle.st_index.specs.CheckLaws.{OneFailure, OneVerdict}
 use Rattle.st_index.specs.declared.checker.Part.TheVariants as part
+use Rattle.st_index.specs.declared.checker.Verdict.{Verdict}
+use Rattle.st_index.specs.declared.checker.Verdict.TheVariants.{Whole, Differs}
 use Rattle.st_index.proofs.TableStands.{table_stands}
+use Rattle.st_index.proofs.PairStands.{pair_stands}
 use Rattle.st_index.proofs.OneDamage.{one_table_failure}
 
 one_some : (o p : Option DamageView) (d e : DamageView) → o ≡ p → o ≡ Some d → p ≡ Some e → d ≡ e
@@ -57,3 +60,11 @@ one_failure block index part.Index part.Rows d e f g = absurd (index_or_rows blo
 one_failure block index part.Rows part.Block d e f g = absurd (not_both (file_wrong block) (file_wrong block) e refl (file_unhurt block f.given f.file) g)
 one_failure block index part.Rows part.Index d e f g = absurd (index_or_rows block index e d g.1 f)
 one_failure block index part.Rows part.Rows d e f g = (refl, one_difference block index d e f g)
+
+-- and so it has one verdict
+pub one_verdict : OneVerdict
+one_verdict block index (Whole n) (Whole m) (xs, w, e) (ys, u, f) =
+    e ∙ ap length (one_given_there block xs ys w.file u.file) ∙ sym f
+one_verdict block index (Whole n) (Differs q d) (xs, w, e) f = pair_stands block index xs q (damage_view d) w f
+one_verdict block index (Differs p d) (Whole m) f (xs, w, e) = pair_stands block index xs p (damage_view d) w f
+one_verdict block index (Differs p d) (Differs q e) f g = one_failure block index p q (damage_view d) (damage_view e) f g

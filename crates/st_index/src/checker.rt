@@ -12,7 +12,7 @@ mod packets;
 mod values;
 mod walk;
 
-pub use laws::{one_failure, whole_unhurt};
+pub use laws::{one_failure, one_verdict, whole_unhurt};
 use crate::maker::IndexMaker;
 use crate::row_list::RowList;
 use index::judge_index;

@@ -10,5 +10,5 @@ mod row_list;
 mod summary;
 mod write;
 
-pub use checker::{CheckErr, Part, Verdict, check, one_failure, whole_unhurt};
+pub use checker::{CheckErr, Part, Verdict, check, one_failure, one_verdict, whole_unhurt};
 pub use maker::IndexMaker;
