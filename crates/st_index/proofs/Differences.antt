@@ -83,6 +83,7 @@ same_rows r q h e =
     left : (o p : Option (ℕ × ℕ)) → option_or o p ≡ None → o ≡ None
     left None p h = refl
     left (Some x) p h = cc
+
     right : (o p : Option (ℕ × ℕ)) → option_or o p ≡ None → p ≡ None
     right None p h = h
     right (Some x) p h = cc

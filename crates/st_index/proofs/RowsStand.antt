@@ -62,6 +62,7 @@ row_stands given k row fit is =
     no_wrong n b e t =
         let zero : nat_eq n 0 ≡ true = grind (arith, nat_tests) in
         rw (zero, t) refl
+
     either : (b : Bool) → positions_wrong row.1 ≡ None → ◌≡◌ {A = Option DamageView} (if b then None else positions_wrong row.1) None
     either true h = refl
     either false h = h

@@ -80,8 +80,8 @@ abbrev pub Judges : List ℕ → List ℕ → Verdict → Type 0
 Judges block index (Whole packets) = IsWholeOf block index packets
 Judges block index (Differs p d) = Fails block index p (damage_view d)
 
--- a count of faults never falls, a verdict that the pair is whole leaves it as it was, and this error
--- comes only if it rose
+-- a count of faults never falls, a verdict that the pair is whole leaves it as it was, and this
+-- error comes only if it rose
 pub record HasVerdictCause {E : Type 0} (error : E) (before now : ℕ) (result : Result Verdict E)
     : Type 0 where
   pub later : before ≤ now

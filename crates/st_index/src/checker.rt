@@ -12,10 +12,10 @@ mod packets;
 mod values;
 mod walk;
 
-pub use laws::{one_failure, one_verdict, whole_unhurt};
 use crate::maker::IndexMaker;
 use crate::row_list::RowList;
 use index::judge_index;
+pub use laws::{one_failure, one_verdict, whole_unhurt};
 use packets::{make_index, packets_of};
 use st_base::{Damage, Reader};
 use st_block::BlockErr;

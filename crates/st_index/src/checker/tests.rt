@@ -23,7 +23,8 @@ const FIRST: &[u8] = b"\x00\x00\x00\x30";
 const ROWS: [(&[u8], &[u8]); 7] = [
     (
         b"\x00",
-        b"\x00\x00\x00\x01\x00\x00\x00\x01\x3b\x9a\xca\x00\x07\x5b\xca\x00\x3b\x9a\xca\x00\x07\x5b\xca\x00",
+        b"\x00\x00\x00\x01\x00\x00\x00\x01\x3b\x9a\xca\x00\x07\x5b\xca\x00\
+\x3b\x9a\xca\x00\x07\x5b\xca\x00",
     ),
     (b"\x01\x11", FIRST),
     (b"\x02\x00\x35", FIRST),
@@ -34,7 +35,8 @@ const ROWS: [(&[u8], &[u8]); 7] = [
 ];
 
 /// The index of docs/FORMAT.md.
-const INDEX: &[u8] = b"\x00\x01\x18\x00\x00\x00\x00\x01\x00\x00\x00\x01\x3b\x9a\xca\x00\x07\x5b\xca\x00\
+const INDEX: &[u8] =
+    b"\x00\x01\x18\x00\x00\x00\x00\x01\x00\x00\x00\x01\x3b\x9a\xca\x00\x07\x5b\xca\x00\
 \x3b\x9a\xca\x00\x07\x5b\xca\x00\x00\x02\x04\x01\x11\x00\x00\x00\x30\x00\x03\x04\x02\x00\x35\x00\
 \x00\x00\x30\x01\x02\x04\x30\x39\x00\x00\x00\x30\x00\x05\x04\x04\x0a\x00\x00\x01\x00\x00\x00\x30\
 \x04\x01\x04\x02\x00\x00\x00\x30\x00\x05\x04\x07\x3b\x9a\xca\x00\x00\x00\x00\x30\x00\x00\x00\x00\
@@ -125,7 +127,9 @@ fn fails(
         return Err("whole")?;
     };
     if part != wanted || damage.place != place || damage.found != found || damage.want != want {
-        return Err(format!(in alloc; "{part:?} {damage:?} for {wanted:?} {place} {found} {want}")?)?;
+        return Err(format!(in alloc;
+            "{part:?} {damage:?} for {wanted:?} {place} {found} {want}"
+        )?)?;
     }
     Ok(())
 }
@@ -140,7 +144,15 @@ fn block_fails(
     want: u64,
 ) -> Result<(), Fail> {
     let block = patched(alloc, block_file(alloc)?.as_slice(), at, part)?;
-    fails(alloc, block.as_slice(), INDEX, Part::Block, place, found, want)
+    fails(
+        alloc,
+        block.as_slice(),
+        INDEX,
+        Part::Block,
+        place,
+        found,
+        want,
+    )
 }
 
 /// The index with a part replaced, and its sum with it, fails this check.
@@ -156,7 +168,15 @@ fn index_fails(
 ) -> Result<(), Fail> {
     let index = patched(alloc, INDEX, at, part)?;
     let index = patched(alloc, index.as_slice(), sum_at, sum)?;
-    fails(alloc, block_file(alloc)?.as_slice(), index.as_slice(), Part::Index, place, found, want)
+    fails(
+        alloc,
+        block_file(alloc)?.as_slice(),
+        index.as_slice(),
+        Part::Index,
+        place,
+        found,
+        want,
+    )
 }
 
 #[test]
@@ -169,7 +189,15 @@ fn the_pair_of_the_format_is_whole(rt: HostRuntime) -> Result<(), Fail> {
 #[test]
 fn a_damaged_block_file_is_named(rt: HostRuntime) -> Result<(), Fail> {
     let alloc = rt.alloc();
-    fails(alloc, b"\x01\x00\x00\x00\x00\x10\x00", INDEX, Part::Block, 0, 7, 4096)?;
+    fails(
+        alloc,
+        b"\x01\x00\x00\x00\x00\x10\x00",
+        INDEX,
+        Part::Block,
+        0,
+        7,
+        4096,
+    )?;
     fails(alloc, FILLED, INDEX, Part::Block, 0, 142, 4096)?;
     block_fails(alloc, 0, b"\x02", 0, 2, 1)?;
     block_fails(alloc, 4, b"\x88\x13", 4, 5000, 4096)?;
@@ -244,28 +272,81 @@ fn rows_fail(
     want: u64,
 ) -> Result<(), Fail> {
     let sink = table_of(alloc, from, to, put)?;
-    fails(alloc, block_file(alloc)?.as_slice(), sink.bytes(), part, place, found, want)
+    fails(
+        alloc,
+        block_file(alloc)?.as_slice(),
+        sink.bytes(),
+        part,
+        place,
+        found,
+        want,
+    )
 }
 
 #[test]
 fn what_a_damaged_row_says_is_named(rt: HostRuntime) -> Result<(), Fail> {
     let alloc = rt.alloc();
     rows_fail(alloc, 0, 1, &[], Part::Index, 0, 0, 1)?;
-    rows_fail(alloc, 0, 1, &[(b"\x00", b"\x00\x00\x00\x01")], Part::Index, 0, 4, 24)?;
+    rows_fail(
+        alloc,
+        0,
+        1,
+        &[(b"\x00", b"\x00\x00\x00\x01")],
+        Part::Index,
+        0,
+        4,
+        24,
+    )?;
     index_fails(alloc, 7, b"\x02", 97, b"\x56\x99\x3d\x80", 0, 2, 1)?;
-    rows_fail(alloc, 1, 2, &[(b"\x01\x11", b"\x00\x00\x00\x30\x00")], Part::Index, 0, 1, 0)?;
+    rows_fail(
+        alloc,
+        1,
+        2,
+        &[(b"\x01\x11", b"\x00\x00\x00\x30\x00")],
+        Part::Index,
+        0,
+        1,
+        0,
+    )?;
     let twice = b"\x00\x00\x00\x30\x00\x00\x00\x30";
     rows_fail(alloc, 1, 2, &[(b"\x01\x11", twice)], Part::Index, 0, 0, 1)?;
     // the summary row before the positions, and these before the rows
-    rows_fail(alloc, 0, 2, &[(b"\x00", b""), (b"\x01\x11", twice)], Part::Index, 0, 0, 24)?;
-    rows_fail(alloc, 1, 3, &[(b"\x02\x00\x35", twice)], Part::Index, 0, 0, 1)
+    rows_fail(
+        alloc,
+        0,
+        2,
+        &[(b"\x00", b""), (b"\x01\x11", twice)],
+        Part::Index,
+        0,
+        0,
+        24,
+    )?;
+    rows_fail(
+        alloc,
+        1,
+        3,
+        &[(b"\x02\x00\x35", twice)],
+        Part::Index,
+        0,
+        0,
+        1,
+    )
 }
 
 #[test]
 fn a_row_that_differs_is_named(rt: HostRuntime) -> Result<(), Fail> {
     let alloc = rt.alloc();
     // a row too many, in the midst, at the end, and before the summary row
-    rows_fail(alloc, 3, 3, &[(b"\x02\x00\x50", FIRST)], Part::Rows, 3, 0, 48)?;
+    rows_fail(
+        alloc,
+        3,
+        3,
+        &[(b"\x02\x00\x50", FIRST)],
+        Part::Rows,
+        3,
+        0,
+        48,
+    )?;
     rows_fail(alloc, 7, 7, &[(b"\x08", FIRST)], Part::Rows, 7, 0, 256)?;
     rows_fail(alloc, 0, 0, &[(b"", FIRST)], Part::Rows, 0, 0, 1)?;
     // a row too few, in the midst and at the end
@@ -273,13 +354,26 @@ fn a_row_that_differs_is_named(rt: HostRuntime) -> Result<(), Fail> {
     rows_fail(alloc, 6, 7, &[], Part::Rows, 6, 256, 0)?;
     // a position missing, another one, and one too many
     rows_fail(alloc, 1, 2, &[(b"\x01\x11", b"")], Part::Rows, 1, 256, 0)?;
-    rows_fail(alloc, 1, 2, &[(b"\x01\x11", b"\x00\x00\x00\x31")], Part::Rows, 1, 49, 48)?;
+    rows_fail(
+        alloc,
+        1,
+        2,
+        &[(b"\x01\x11", b"\x00\x00\x00\x31")],
+        Part::Rows,
+        1,
+        49,
+        48,
+    )?;
     let more = b"\x00\x00\x00\x30\x00\x00\x00\x60";
     rows_fail(alloc, 1, 2, &[(b"\x01\x11", more)], Part::Rows, 1, 0, 256)?;
     // a summary of two packets, and one with a wrong least time
-    let two = b"\x00\x00\x00\x01\x00\x00\x00\x02\x3b\x9a\xca\x00\x07\x5b\xca\x00\x3b\x9a\xca\x00\x07\x5b\xca\x00";
+    let two =
+        b"\x00\x00\x00\x01\x00\x00\x00\x02\x3b\x9a\xca\x00\x07\x5b\xca\x00\
+\x3b\x9a\xca\x00\x07\x5b\xca\x00";
     rows_fail(alloc, 0, 1, &[(b"\x00", two)], Part::Rows, 0, 2, 1)?;
-    let early = b"\x00\x00\x00\x01\x00\x00\x00\x01\x3b\x9a\xc9\x00\x07\x5b\xca\x00\x3b\x9a\xca\x00\x07\x5b\xca\x00";
+    let early =
+        b"\x00\x00\x00\x01\x00\x00\x00\x01\x3b\x9a\xc9\x00\x07\x5b\xca\x00\
+\x3b\x9a\xca\x00\x07\x5b\xca\x00";
     rows_fail(alloc, 0, 1, &[(b"\x00", early)], Part::Rows, 0, 201, 202)
 }
 
@@ -305,6 +399,9 @@ fn a_read_that_fails_is_no_damage(rt: HostRuntime) -> Result<(), Fail> {
     assert_eq!(rt; failing(alloc, &[], &[0])?, Err(CheckErr::ReadFault));
     assert_eq!(rt; failing(alloc, &[], &[1])?, Err(CheckErr::ReadFault));
     assert_eq!(rt; failing(alloc, &[], &[2])?, Err(CheckErr::ReadFault));
-    assert_eq!(rt; failing(alloc, &[2], &[3])?, Ok(Verdict::Whole { packets: 1 }));
+    assert_eq!(rt;
+        failing(alloc, &[2], &[3])?,
+        Ok(Verdict::Whole { packets: 1 })
+    );
     Ok(())
 }
