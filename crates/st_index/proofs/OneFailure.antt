@@ -1,7 +1,6 @@
 -- A pair fails in one way at most.
 use Rattle.std.proofs.Common.{◌≡◌, ℕ, List, length, Option, Some, None, refl, sym, ap, ◌∙◌, subst, inl, inr}
 use Rattle.st_base.specs.Damages.{DamageView, damage_view}
-use Rattle.st_tblock.specs.Block.{RowView}
 use Rattle.st_block.specs.Checks.{file_wrong}
 use Rattle.st_block.specs.Scan.{PositionedRecord}
 use Rattle.st_block.proofs.Unhurt.{file_unhurt, one_given_there}
@@ -12,7 +11,6 @@ use Rattle.st_index.specs.CheckRows.{content_wrong, rows_wrong}
 use Rattle.st_index.specs.Verdict.{FailsAsIndex, FailsInRows}
 use Rattle.st_index.specs.CheckLaws.{OneFailure, OneVerdict}
 use Rattle.st_index.specs.declared.checker.Part.TheVariants as part
-use Rattle.st_index.specs.declared.checker.Verdict.{Verdict}
 use Rattle.st_index.specs.declared.checker.Verdict.TheVariants.{Whole, Differs}
 use Rattle.st_index.proofs.TableStands.{table_stands}
 use Rattle.st_index.proofs.PairStands.{pair_stands}

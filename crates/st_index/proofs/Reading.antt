@@ -1,12 +1,12 @@
 -- Readings of a table, step after step.
-use Rattle.std.proofs.Common.{◌≡◌, ℕ, zero, suc, ◌+◌, false, List, [], ◌∷◌, ◌++◌, append-nil, length, length-append, take, drop, All, Option, Some, None, Result, Ok, Err, refl, sym, ap, ◌∙◌, subst, inl, arith}
-use Rattle.std.proofs.lemmas.List.{take_at, take-append-drop}
+use Rattle.std.proofs.Common.{◌≡◌, ℕ, zero, suc, false, List, [], ◌∷◌, ◌++◌, append-nil, length, take, drop, All, Option, Some, None, Result, refl, sym, ap, ◌∙◌, subst, inl}
+use Rattle.std.proofs.lemmas.List.{take_at}
 use Rattle.std.proofs.Math.Seq.{take-add}
 use Rattle.std.specs.Prelude.{IsTrue}
 use Rattle.std.proofs.lemmas.List.Elements.{All-nil, All-cons}
 use Rattle.st_table.specs.TableFile.{footer_at}
 use Rattle.st_table.specs.Index.{Entered, Decodes, holds_handle}
-use Rattle.st_table.specs.Cursor.{CursorView, Goes, IsDone, RefusesNext, Steps}
+use Rattle.st_table.specs.Cursor.{CursorView, Goes, RefusesNext, Steps}
 use Rattle.st_table.specs.declared.errors.TableErr.{TableErr}
 use Rattle.st_table.specs.declared.errors.TableErr.TheVariants as table_err
 use Rattle.st_table.specs.declared.index.IndexEntry.{IndexEntry}

@@ -1,24 +1,20 @@
 -- The rows of packets hold all checks.
-use Rattle.std.proofs.Common.{◌≡◌, ℕ, ◌+◌, ◌-◌, ◌*◌, ◌%◌, ◌<◌, ◌≤◌, ◌^◌, Bool, true, false, ◌&&◌, nat_eq, nat_lt, List, [], ◌∷◌, ◌++◌, length, length-append, All, AllPairs, Contains, Option, Some, None, refl, sym, ap, ◌∙◌, subst, lit<, arith}
-use Rattle.std.specs.Prelude.{IsTrue, option_map, if◌then◌else◌}
+use Rattle.std.proofs.Common.{◌≡◌, ℕ, ◌+◌, ◌-◌, ◌*◌, ◌%◌, ◌<◌, ◌^◌, Bool, true, false, nat_eq, nat_lt, List, [], ◌∷◌, ◌++◌, length, length-append, All, Contains, Option, Some, None, refl, sym, ap, ◌∙◌, subst, lit<, arith}
+use Rattle.std.specs.Prelude.{option_map, if◌then◌else◌}
 use Rattle.std.specs.Option.{option_or}
-use Rattle.std.specs.List.{flat_map}
 use Rattle.std.proofs.lemmas.Bool.Decides.{nat_tests}
 use Rattle.std.proofs.lemmas.List.Elements.{All-head, All-tail, All-contains, All-nil, All-cons, All-weaker}
-use Rattle.byteorder.specs.Endian.{big_bytes, big_number}
-use Rattle.byteorder.specs.Numbers.{big_number-reads_back, length-bytes_high_first}
 use Rattle.st_base.specs.Damages.{DamageView, unmet}
 use Rattle.st_tblock.specs.Block.{RowView}
 use Rattle.st_block.specs.BlockText.{HasBytes}
 use Rattle.st_block.specs.Scan.{PositionedRecord}
 use Rattle.st_walk.specs.declared.text.Key.{Key}
-use Rattle.st_walk.specs.declared.text.Key.TheVariants.{Proto, Port, Vlan, V4, Mpls, V6, Second}
 use Rattle.st_walk.specs.KeyText.{key_text, Fits}
-use Rattle.st_rows.specs.Positions.{has, Rising, positions_value, positions_in}
-use Rattle.st_rows.specs.Rows.{SummaryView, summary_key, summary_value, IsKeyRow, AreKeyRows, AreRowsOf, AllFit, HasAt}
+use Rattle.st_rows.specs.Positions.{positions_in}
+use Rattle.st_rows.specs.Rows.{SummaryView, summary_key, summary_value, IsKeyRow, AreRowsOf, AllFit}
 use Rattle.st_rows.proofs.Values.{values_say}
 use Rattle.st_rows.proofs.OneList.{Sorted, sorted_from, here, there, has_from}
-use Rattle.st_index.specs.CheckRows.{is_summary_key, summary_in, summary_wrong, rises, positions_wrong, value_wrong, values_wrong, content_wrong, rows_wrong, row_wrong, length_text, row_text, first_difference}
+use Rattle.st_index.specs.CheckRows.{is_summary_key, summary_wrong, rises, positions_wrong, value_wrong, values_wrong, content_wrong, rows_wrong, row_wrong, length_text, row_text, first_difference}
 use Rattle.st_index.proofs.RowsOf.{text_size, value_size}
 use Rattle.st_index.proofs.Differences.{no_difference, no_difference_itself, same_rows, length_size}
 

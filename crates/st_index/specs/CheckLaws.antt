@@ -1,9 +1,9 @@
 -- Laws of what `check` answers, which the functions of `laws` ensure.
-use Rattle.std.specs.Prelude.{◌≡◌, ◌<◌, ℕ, List, All, ◌⊎◌}
+use Rattle.std.specs.Prelude.{◌≡◌, ℕ, List}
 use Rattle.st_base.specs.Damages.{DamageView, damage_view}
 use Rattle.st_block.specs.Scan.{PositionedRecord}
 use Rattle.st_rows.specs.Whole.{IsWhole}
-use Rattle.st_index.specs.Verdict.{Fails, IsWholeOf, Judges}
+use Rattle.st_index.specs.Verdict.{Fails, Judges}
 use Rattle.st_index.specs.declared.checker.Part.{Part}
 use Rattle.st_index.specs.declared.checker.Verdict.{Verdict}
 use Rattle.st_index.specs.declared.checker.Verdict.TheVariants.{Whole, Differs}

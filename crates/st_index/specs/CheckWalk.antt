@@ -1,5 +1,5 @@
 -- What reading the rows of an index against those that are wanted gives, by `walk`.
-use Rattle.std.specs.Prelude.{◌≡◌, ℕ, ◌<◌, ◌-◌, ◌^◌, List, [], ◌∷◌, ◌++◌, length, Option, None, Some, option_map, Result, Ok, Err}
+use Rattle.std.specs.Prelude.{◌≡◌, ℕ, List, [], ◌++◌, Option, option_map, Result, Ok, Err}
 use Rattle.std.specs.Option.{option_or}
 use Rattle.st_base.specs.Damages.{DamageView, damage_view}
 use Rattle.st_tblock.specs.Block.{RowView}
