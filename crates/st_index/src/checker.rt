@@ -1,7 +1,9 @@
 //! Whether a block file and an index are a whole pair.
 
-ghost use Rattle.std.specs.Prelude.{◌≡◌, List, ℕ, Some, IfOk};
+ghost use Rattle.std.specs.Prelude.{◌≡◌, List, ℕ, length, Some, IfOk};
 ghost use Rattle.st_base.specs.PlacedReads.{IsSameFile};
+ghost use Rattle.st_block.specs.Scan.{PositionedRecord};
+ghost use Rattle.st_rows.specs.Whole.{IsWhole};
 ghost use Rattle.st_index.specs.Verdict.{Judges, HasCauseOfEither};
 
 mod content;
@@ -66,8 +68,12 @@ pub fn check<R: Reader, Q: Reader>(
     block: &mut R,
     index: &mut Q,
 ) -> Result<Verdict, CheckErr>
+    // What comes, where the bytes of both files are known.
     ensures judges { (blocks bytes : List ℕ) → R.content block.old ≡ Some blocks
         → Q.content index.old ≡ Some bytes → IfOk result (Judges blocks bytes) }
+    ensures whole { (blocks bytes : List ℕ) (given : List PositionedRecord)
+        → R.content block.old ≡ Some blocks → Q.content index.old ≡ Some bytes
+        → IsWhole blocks bytes given → IfOk result (λ v. v ≡ Verdict.Whole (length given)) }
     // What becomes of the files.
     ensures cause { HasCauseOfEither CheckErr.ReadFault (R.faults block.old) (R.faults block.new)
         (Q.faults index.old) (Q.faults index.new) result }
