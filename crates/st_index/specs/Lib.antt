@@ -1,4 +1,11 @@
+pub mod CheckRows
+pub mod CheckContent
+pub mod CheckWalk
+pub mod Verdict
+pub mod CheckIndex
+pub mod CheckLaws
 pub mod NumberedLists
+pub mod CheckPackets
 pub mod PositionLists
 pub mod Summaries
 pub mod EntryLists
