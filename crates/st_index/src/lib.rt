@@ -9,7 +9,8 @@
 //! # What it promises
 //!
 //! - A maker has exactly the packets that were added, in their order (`IndexMaker::new`,
-//!   `IndexMaker::add`). A refusal, which comes only without memory, leaves it the same packets.
+//!   `IndexMaker::add`), or those of a whole block file (`make_index`). A refusal of `add`, which
+//!   comes only without memory, leaves it the same packets.
 //! - Writing gives a table of exactly the rows of these packets, and returns its length in bytes
 //!   (`IndexMaker::write`); after an error a prefix of it is there. `WriteFault` comes only if the
 //!   sink's count rose.
@@ -42,5 +43,7 @@ mod summary;
 mod tests;
 mod write;
 
-pub use checker::{CheckErr, Part, Verdict, check, one_failure, one_verdict, whole_unhurt};
+pub use checker::{
+    CheckErr, Part, Verdict, check, make_index, one_failure, one_verdict, whole_unhurt,
+};
 pub use maker::IndexMaker;
