@@ -1,0 +1,2 @@
+pub mod AnswerOrder
+pub mod Limits

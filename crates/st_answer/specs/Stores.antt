@@ -1,0 +1,71 @@
+-- What a store's calls ensure.
+use Rattle.std.specs.Prelude.{◌≡◌, ◌<◌, ℕ, List, length, Option, Some, option_map, slice_index_or, Result, MatchResult}
+use Rattle.st_base.specs.Faults.{CountsOn}
+use Rattle.st_disk.specs.declared.naming.Kind.{Kind}
+use Rattle.st_disk.specs.Pairs.{Entry}
+use Rattle.st_disk.specs.Events.{Event}
+use Rattle.st_shelf.specs.Origins.{FileOrigin}
+use Rattle.st_shelf.specs.Loans.{LoansView, lend}
+use Rattle.st_spool.specs.History.{set_of}
+use Rattle.st_answer.specs.Sets.{KeepsSets, AddsSet, DropsSet, GoesOn}
+
+-- What a store knows of its holds: how many were taken, the events that it has seen and those that
+-- the last hold took, and the sets that are held. What isn't known is `None`.
+pub record HoldsView : Type 0 where
+  pub asks : ℕ
+  pub seen : Option (List Event)
+  pub took : Option (List Event)
+  pub out : Option (List (List Entry))
+
+-- the set that the last hold took
+abbrev pub asked : HoldsView → Option (List Entry)
+asked h = option_map set_of h.took
+
+-- no hold was taken and none was given back; more may have been seen
+pub record KeepsHolds (before after : HoldsView) : Type 0 where
+  pub asks : after.asks ≡ before.asks
+  pub took : after.took ≡ before.took
+  pub seen : GoesOn before.seen after.seen
+  pub out : after.out ≡ before.out
+
+-- this set was held: that of events which begin with all that were seen before
+pub record TakesHold (set : Option (List Entry)) (before after : HoldsView) : Type 0 where
+  pub asks : CountsOn before.asks after.asks 1
+  pub asked : set ≡ asked after
+  pub took : GoesOn before.seen after.took
+  pub seen : GoesOn before.seen after.seen
+  pub out : AddsSet set before.out after.out
+
+-- this set is no longer held
+pub record GivesBack (set : Option (List Entry)) (before after : HoldsView) : Type 0 where
+  pub asks : after.asks ≡ before.asks
+  pub took : after.took ≡ before.took
+  pub seen : GoesOn before.seen after.seen
+  pub out : DropsSet set before.out after.out
+
+-- the holds of a store stay what they are
+pub record StayHeld {H : Type 0} (is_held_before is_held_after : H → Type 0)
+    (size_before size_after : H → ℕ) (set_before set_after : H → Option (List Entry)) : Type 0 where
+  pub held : (h : H) → is_held_before h → is_held_after h
+  pub size : (h : H) → is_held_before h → size_after h ≡ size_before h
+  pub set : (h : H) → is_held_before h → set_after h ≡ set_before h
+
+-- a file of this kind that this store has just lent
+pub record IsFresh (read asked_for failed : ℕ) (origin : FileOrigin) (wanted : Kind) (id : ℕ) : Type 0
+  where
+    pub reads : read ≡ 0
+    pub asked : asked_for ≡ 0
+    pub faults : failed ≡ 0
+    pub kind : origin.kind ≡ wanted
+    pub home : origin.home ≡ id
+
+-- the store stays the same; one file more is lent, or after an error none is
+abbrev pub LendsOne : {T E : Type 0} → ℕ → ℕ → LoansView → LoansView → Result T E → Type 0
+LendsOne id_before id_after before after result =
+    (id_after ≡ id_before)
+    × MatchResult result (λ _. after ≡ lend before) (λ _. after ≡ before)
+
+-- of the entry of this number of a set, if the set is known
+abbrev pub OfEntry : Option (List Entry) → ℕ → (Entry → Type 0) → Type 0
+OfEntry held i P =
+    (set : List Entry) (d : Entry) → held ≡ Some set → i < length set → P (slice_index_or set i d)
