@@ -6,3 +6,4 @@ pub mod Stores
 pub mod Sets
 pub mod Replies
 pub mod Laws
+pub mod SlicePairs

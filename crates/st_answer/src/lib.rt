@@ -3,8 +3,10 @@
 
 mod errors;
 mod laws;
+mod slice_pair;
 mod store;
 
 pub use errors::{AnswerErr, Told};
 pub use laws::{one_answer, one_reply};
+pub use slice_pair::{SliceHold, SlicePair, SLICE_STAMP};
 pub use store::Store;
