@@ -1,2 +1,3 @@
 pub mod AnswerOrder
 pub mod Limits
+pub mod Heading

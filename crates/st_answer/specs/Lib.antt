@@ -7,3 +7,5 @@ pub mod Sets
 pub mod Replies
 pub mod Laws
 pub mod SlicePairs
+pub mod Picks
+pub mod Heads

@@ -50,6 +50,14 @@ pub record StayHeld {H : Type 0} (is_held_before is_held_after : H → Type 0)
   pub size : (h : H) → is_held_before h → size_after h ≡ size_before h
   pub set : (h : H) → is_held_before h → set_after h ≡ set_before h
 
+-- a call that takes no hold and gives none back leaves the store and its holds what they are
+pub record IsSameStore {H : Type 0} (id_before id_after : ℕ) (before after : HoldsView)
+    (is_held_before is_held_after : H → Type 0) (size_before size_after : H → ℕ)
+    (set_before set_after : H → Option (List Entry)) : Type 0 where
+  pub id : id_after ≡ id_before
+  pub holds : KeepsHolds before after
+  pub others : StayHeld is_held_before is_held_after size_before size_after set_before set_after
+
 -- a file of this kind that this store has just lent
 pub record IsFresh (read asked_for failed : ℕ) (origin : FileOrigin) (wanted : Kind) (id : ℕ) : Type 0
   where
@@ -59,11 +67,9 @@ pub record IsFresh (read asked_for failed : ℕ) (origin : FileOrigin) (wanted :
     pub kind : origin.kind ≡ wanted
     pub home : origin.home ≡ id
 
--- the store stays the same; one file more is lent, or after an error none is
-abbrev pub LendsOne : {T E : Type 0} → ℕ → ℕ → LoansView → LoansView → Result T E → Type 0
-LendsOne id_before id_after before after result =
-    (id_after ≡ id_before)
-    × MatchResult result (λ _. after ≡ lend before) (λ _. after ≡ before)
+-- one file more is lent, or after an error none is
+abbrev pub LendsOne : {T E : Type 0} → LoansView → LoansView → Result T E → Type 0
+LendsOne before after result = MatchResult result (λ _. after ≡ lend before) (λ _. after ≡ before)
 
 -- of the entry of this number of a set, if the set is known
 abbrev pub OfEntry : Option (List Entry) → ℕ → (Entry → Type 0) → Type 0

@@ -2,7 +2,9 @@
 #![tactic(auto)]
 
 mod errors;
+mod heads;
 mod laws;
+mod picked;
 mod slice_pair;
 mod store;
 

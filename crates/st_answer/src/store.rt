@@ -6,7 +6,7 @@ ghost use Rattle.st_shelf.specs.Origins.{FileOrigin};
 ghost use Rattle.st_shelf.specs.Loans.{LoansView, lend, take_back};
 ghost use Rattle.st_shelf.specs.Ends.{TakesFaults};
 ghost use Rattle.st_answer.specs.Sets.{GoesOn};
-ghost use Rattle.st_answer.specs.Stores.{HoldsView, KeepsHolds, TakesHold, GivesBack, StayHeld, OfEntry, IsFresh, LendsOne};
+ghost use Rattle.st_answer.specs.Stores.{HoldsView, KeepsHolds, TakesHold, GivesBack, StayHeld, IsSameStore, OfEntry, IsFresh, LendsOne};
 
 use st_base::{Failed, NoMemory, Reader};
 
@@ -68,11 +68,11 @@ pub trait Store {
         requires { is_held self.old hold.now }
         ensures count { result ≡ size self.old hold.now }
         // what stays
-        ensures holds { KeepsHolds (holds self.old) (holds self.new) }
-        ensures others { StayHeld (is_held self.old) (is_held self.new)
-            (size self.old) (size self.new) (set self.old) (set self.new) }
+        ensures stays { IsSameStore (id self.old) (id self.new) (holds self.old) (holds self.new)
+            (is_held self.old) (is_held self.new) (size self.old) (size self.new)
+            (set self.old) (set self.new) }
         ensures faults { faults self.old ≤ faults self.new }
-        ensures rest { (id self.new ≡ id self.old) × (loans self.new ≡ loans self.old) };
+        ensures loans { loans self.new ≡ loans self.old };
 
     /// The `i`-th least stamp of the held set, counted from 0.
     fn stamp_of(&mut self, hold: &Self::Held, i: usize) -> u64
@@ -80,11 +80,11 @@ pub trait Store {
         requires below { i < size self.old hold.now }
         ensures stamp { OfEntry (set self.old hold.now) i (λ e. result ≡ e.stamp) }
         // what stays
-        ensures holds { KeepsHolds (holds self.old) (holds self.new) }
-        ensures others { StayHeld (is_held self.old) (is_held self.new)
-            (size self.old) (size self.new) (set self.old) (set self.new) }
+        ensures stays { IsSameStore (id self.old) (id self.new) (holds self.old) (holds self.new)
+            (is_held self.old) (is_held self.new) (size self.old) (size self.new)
+            (set self.old) (set self.new) }
         ensures faults { faults self.old ≤ faults self.new }
-        ensures rest { (id self.new ≡ id self.old) × (loans self.new ≡ loans self.old) };
+        ensures loans { loans self.new ≡ loans self.old };
 
     /// Lends the block file of the entry with the `i`-th least stamp. Its counts begin at 0.
     ///
@@ -98,13 +98,12 @@ pub trait Store {
         ensures fresh { IfOk result (λ f. IsFresh (Self.File.reads f) (Self.File.asked f)
             (Self.File.faults f) (origin f) kind.Block (id self.old)) }
         // what stays
-        ensures holds { KeepsHolds (holds self.old) (holds self.new) }
-        ensures others { StayHeld (is_held self.old) (is_held self.new)
-            (size self.old) (size self.new) (set self.old) (set self.new) }
+        ensures stays { IsSameStore (id self.old) (id self.new) (holds self.old) (holds self.new)
+            (is_held self.old) (is_held self.new) (size self.old) (size self.new)
+            (set self.old) (set self.new) }
         // the counts
         ensures cause { HasCause (faults self.old) (faults self.new) result }
-        ensures loans { LendsOne (id self.old) (id self.new) (loans self.old) (loans self.new)
-            result };
+        ensures loans { LendsOne (loans self.old) (loans self.new) result };
 
     /// Lends the index of the entry with the `i`-th least stamp. Its counts begin at 0.
     ///
@@ -118,13 +117,12 @@ pub trait Store {
         ensures fresh { IfOk result (λ f. IsFresh (Self.File.reads f) (Self.File.asked f)
             (Self.File.faults f) (origin f) kind.Index (id self.old)) }
         // what stays
-        ensures holds { KeepsHolds (holds self.old) (holds self.new) }
-        ensures others { StayHeld (is_held self.old) (is_held self.new)
-            (size self.old) (size self.new) (set self.old) (set self.new) }
+        ensures stays { IsSameStore (id self.old) (id self.new) (holds self.old) (holds self.new)
+            (is_held self.old) (is_held self.new) (size self.old) (size self.new)
+            (set self.old) (set self.new) }
         // the counts
         ensures cause { HasCause (faults self.old) (faults self.new) result }
-        ensures loans { LendsOne (id self.old) (id self.new) (loans self.old) (loans self.new)
-            result };
+        ensures loans { LendsOne (loans self.old) (loans self.new) result };
 
     /// Takes back a file that this store lent. If the file's count of faults had risen, `faults`
     /// rises.
@@ -132,10 +130,9 @@ pub trait Store {
         requires home { (origin file).home ≡ id self.old }
         requires lent { 0 < (loans self.old).lent }
         // what stays
-        ensures holds { KeepsHolds (holds self.old) (holds self.new) }
-        ensures others { StayHeld (is_held self.old) (is_held self.new)
-            (size self.old) (size self.new) (set self.old) (set self.new) }
-        ensures id { id self.new ≡ id self.old }
+        ensures stays { IsSameStore (id self.old) (id self.new) (holds self.old) (holds self.new)
+            (is_held self.old) (is_held self.new) (size self.old) (size self.new)
+            (set self.old) (set self.new) }
         // the counts
         ensures cause { TakesFaults (Self.File.faults file) (faults self.old) (faults self.new) }
         ensures loans { loans self.new ≡ take_back (origin file).kind
