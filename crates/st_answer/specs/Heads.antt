@@ -28,6 +28,13 @@ IsReadErr stamp error.DiskFault = Unit {0}
 IsReadErr stamp (error.Damaged s damage) = s ≡ stamp
 IsReadErr stamp error.NoMemory = Unit {0}
 
+-- an error that names damage names that of the pair with this stamp
+abbrev pub NamesStamp : ℕ → AnswerErr → Type 0
+NamesStamp stamp error.WriteFault = Unit {0}
+NamesStamp stamp error.DiskFault = Unit {0}
+NamesStamp stamp (error.Damaged s damage) = s ≡ stamp
+NamesStamp stamp error.NoMemory = Unit {0}
+
 -- an error that names no damage
 abbrev pub IsNoDamage : AnswerErr → Type 0
 IsNoDamage error.WriteFault = Unit {0}

@@ -9,3 +9,4 @@ pub mod Laws
 pub mod SlicePairs
 pub mod Picks
 pub mod Heads
+pub mod Sending

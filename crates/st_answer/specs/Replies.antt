@@ -1,7 +1,7 @@
 -- What an answer sends, and how it may end.
-use Rattle.std.specs.Prelude.{◌≡◌, ℕ, ◌-◌, ◌^◌, ◌⊎◌, min, List, length, take, Option, Some, Result, Ok, Err, Contains, sum_by}
+use Rattle.std.specs.Prelude.{◌≡◌, ℕ, ◌-◌, ◌^◌, ◌≤◌, ◌⊎◌, min, List, length, take, Option, Some, Result, MatchResult, IfErr, IsErrOf, Contains, sum_by}
 use Rattle.st_base.specs.Records.{Rec}
-use Rattle.st_base.specs.Faults.{CountsOn}
+use Rattle.st_base.specs.Faults.{CountsOn, Rose}
 use Rattle.st_base.specs.Outlets.{SentAll, SentPart}
 use Rattle.st_base.specs.declared.limits.Limits.{Limits}
 use Rattle.st_pcap.specs.declared.forms.Unit as unit
@@ -41,47 +41,55 @@ SendsSome after old new q set =
     (new ≡ old)
     ⊎ ((rs : List Rec) × IsReply q set rs × (n : ℕ) × SentAll after old new (Pieces (take n rs) q.unit))
 
--- The pieces of the reply were sent. After a failure of the outlet a part of them was; after any
--- other error nothing was, or the pieces of a prefix.
-abbrev pub Replies : {S : Type 0} → (S → List ℕ → S) → (S → List ℕ) → Option S → Option S → Question → List Entry → Result Told AnswerErr → Type 0
-Replies after gone old new q set (Ok told) =
-    (rs : List Rec) × IsReply q set rs × SentAll after old new (Pieces rs q.unit) × Tells q.unit rs told
-Replies after gone old new q set (Err error.WriteFault) =
+-- an error ends it: after a failure of the outlet a part of the reply was sent; after any other
+-- nothing was, or the pieces of a prefix
+abbrev pub BreaksOff : {S : Type 0} → (S → List ℕ → S) → (S → List ℕ) → Option S → Option S → Question → List Entry → AnswerErr → Type 0
+BreaksOff after gone old new q set error.WriteFault =
     (rs : List Rec) × IsReply q set rs × SentPart after gone old new (Pieces rs q.unit)
-Replies after gone old new q set (Err error.DiskFault) = SendsSome after old new q set
-Replies after gone old new q set (Err (error.Damaged stamp damage)) = SendsSome after old new q set
-Replies after gone old new q set (Err error.NoMemory) = SendsSome after old new q set
+BreaksOff after gone old new q set error.DiskFault = SendsSome after old new q set
+BreaksOff after gone old new q set (error.Damaged stamp damage) = SendsSome after old new q set
+BreaksOff after gone old new q set error.NoMemory = SendsSome after old new q set
+
+-- the pieces of the reply were sent, and their number is told; or an error ended it
+abbrev pub Replies : {S : Type 0} → (S → List ℕ → S) → (S → List ℕ) → Option S → Option S → Question → List Entry → Result Told AnswerErr → Type 0
+Replies after gone old new q set result =
+    MatchResult result
+    (λ told. (rs : List Rec) × IsReply q set rs × SentAll after old new (Pieces rs q.unit) × Tells q.unit rs told)
+    (BreaksOff after gone old new q set)
 
 -- if the set that was held is known, and all its pairs are whole
 abbrev pub RepliesFor : {S : Type 0} → (S → List ℕ → S) → (S → List ℕ) → Option S → Option S → Question → Option (List Entry) → Result Told AnswerErr → Type 0
 RepliesFor after gone old new q asked result =
     (set : List Entry) → asked ≡ Some set → IsWholeSet set → Replies after gone old new q set result
 
--- if the error names damage, a pair of the set with its stamp isn't whole
-abbrev pub DamagedIn : {T : Type 0} → List Entry → Result T AnswerErr → Type 0
-DamagedIn set (Ok t) = Unit {0}
-DamagedIn set (Err error.WriteFault) = Unit {0}
-DamagedIn set (Err error.DiskFault) = Unit {0}
-DamagedIn set (Err (error.Damaged stamp damage)) =
+-- an error that names damage names a pair of the set that isn't whole, by its stamp
+abbrev pub BlamesIn : List Entry → AnswerErr → Type 0
+BlamesIn set error.WriteFault = Unit {0}
+BlamesIn set error.DiskFault = Unit {0}
+BlamesIn set (error.Damaged stamp damage) =
     (e : Entry) × Contains set e × (e.stamp ≡ stamp) × (IsWholePair e → ⊥)
-DamagedIn set (Err error.NoMemory) = Unit {0}
+BlamesIn set error.NoMemory = Unit {0}
 
 -- if the set that was held is known
-abbrev pub NamesDamage : {T : Type 0} → Option (List Entry) → Result T AnswerErr → Type 0
-NamesDamage {T} asked result =
-    (set : List Entry) → asked ≡ Some set → DamagedIn set result
+abbrev pub Blames : {T : Type 0} → Option (List Entry) → Result T AnswerErr → Type 0
+Blames asked result = (set : List Entry) → asked ≡ Some set → IfErr result (BlamesIn set)
 
--- the result is neither Ok nor a failure of the outlet
-abbrev pub IsOther : {T : Type 0} → Result T AnswerErr → Type 0
-IsOther (Ok t) = ⊥
-IsOther (Err error.WriteFault) = ⊥
-IsOther (Err error.DiskFault) = Unit {0}
-IsOther (Err (error.Damaged stamp damage)) = Unit {0}
-IsOther (Err error.NoMemory) = Unit {0}
+-- the error is no failure of the outlet
+abbrev pub IsNoWrite : AnswerErr → Type 0
+IsNoWrite error.WriteFault = ⊥
+IsNoWrite error.DiskFault = Unit {0}
+IsNoWrite (error.Damaged stamp damage) = Unit {0}
+IsNoWrite error.NoMemory = Unit {0}
 
--- one hold was taken, of all that was seen before; or none was, after an error, and nothing was
--- sent
+-- one hold was taken, of all that was seen before; or none was, after an error other than of the
+-- outlet, and nothing was sent
 abbrev pub AsksOnce : {S T : Type 0} → HoldsView → HoldsView → Option S → Option S → Result T AnswerErr → Type 0
 AsksOnce before after old new result =
     (CountsOn before.asks after.asks 1 × GoesOn before.seen after.took)
-    ⊎ ((after.asks ≡ before.asks) × (after.took ≡ before.took) × IsOther result × (new ≡ old))
+    ⊎ ((after.asks ≡ before.asks) × (after.took ≡ before.took) × (new ≡ old)
+    × MatchResult result (λ t. ⊥) IsNoWrite)
+
+-- the store's own failure: its count never falls, and a fault of the disk comes only if it rose
+pub record HasDiskCause {T : Type 0} (before now : ℕ) (result : Result T AnswerErr) : Type 0 where
+  pub later : before ≤ now
+  pub failed : IsErrOf result error.DiskFault → Rose before now

@@ -5,6 +5,7 @@ mod errors;
 mod heads;
 mod laws;
 mod picked;
+mod sending;
 mod slice_pair;
 mod store;
 
