@@ -1,3 +1,6 @@
 pub mod AnswerOrder
 pub mod Limits
 pub mod Heading
+pub mod Files
+pub mod Sent
+pub mod Picking

@@ -9,6 +9,7 @@ ghost use Rattle.st_block.specs.declared.format.TheConstants.{MAX_NSEC};
 ghost use Rattle.st_query.specs.declared.nodes.Node.{Node};
 ghost use Rattle.st_disk.specs.Pairs.{Entry};
 ghost use Rattle.st_answer.specs.Packets.{IsWholePair};
+ghost use Rattle.st_answer.specs.declared.picked.Picked.{Picked};
 ghost use Rattle.st_answer.specs.Picks.{pick_of, picked_records, IsPlaced};
 ghost use Rattle.st_answer.specs.Heads.{IsReadErr, NamesStamp, Unhurt};
 ghost use Rattle.st_answer.specs.Replies.{BlamesIn};
@@ -121,4 +122,41 @@ fn send_one<F: Reader, O: Outlet>(
         Ok(()) => Ok(()),
         Err(_) => Err(AnswerErr::WriteFault),
     }
+}
+
+/// Sends the records of these picks, each of the file at its place, with one read of each body.
+pub fn send_records<F: Reader, O: Outlet>(
+    files: &mut [F],
+    picked: &[Picked],
+    unit: Unit,
+    buffer: &mut Vec<u8>,
+    outlet: &mut O,
+) -> Result<(), AnswerErr>
+    requires { All (IsPlaced (length files.old)) picked.now }
+    // what is sent, and how it fails
+    ensures sends { (q : Node) (now : ℕ) (set : List Entry)
+        → ArePickedOf q now set (map F.content files.old) picked.now → All IsWholePair set
+        → SendsRecords O.after O.gone (O.state outlet.old) (O.state outlet.new)
+        (body_pieces unit) (picked_records set picked.now) result }
+    ensures blames { (q : Node) (now : ℕ) (set : List Entry)
+        → ArePickedOf q now set (map F.content files.old) picked.now
+        → IfErr result (BlamesIn set) }
+    ensures write { HasCauseOf AnswerErr.WriteFault (O.faults outlet.old)
+        (O.faults outlet.new) result }
+    ensures disk { IsErrOf result AnswerErr.DiskFault → 0 < sum_by F.faults files.new }
+    // what the files were asked
+    ensures reads { sum_by F.reads files.new ≤ sum_by F.reads files.old + length picked.now }
+    ensures asked { sum_by F.asked files.new
+        ≤ sum_by F.asked files.old + sum_by (λ (p : Picked). p.len) picked.now }
+    // what stays
+    ensures same { map F.beside files.new ≡ map F.beside files.old }
+    ensures rest { O.beside outlet.new ≡ O.beside outlet.old }
+{
+    'records: for pick in picked {
+        match send_one(&mut files[pick.place], *pick, unit, buffer, outlet) {
+            Ok(()) => {}
+            Err(error) => return Err(error),
+        }
+    }
+    Ok(())
 }
