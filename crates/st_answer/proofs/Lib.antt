@@ -4,3 +4,5 @@ pub mod Heading
 pub mod Files
 pub mod Sent
 pub mod Picking
+pub mod Lending
+pub mod Staying

@@ -10,3 +10,5 @@ pub mod SlicePairs
 pub mod Picks
 pub mod Heads
 pub mod Sending
+pub mod Order
+pub mod Lending

@@ -1,9 +1,11 @@
 //! The answer: the packets of a held file set that match a query, as a pcap.
 #![tactic(auto)]
 
+mod closing;
 mod errors;
 mod heads;
 mod laws;
+mod order;
 mod picked;
 mod sending;
 mod slice_pair;

@@ -160,3 +160,37 @@ pub fn send_records<F: Reader, O: Outlet>(
     }
     Ok(())
 }
+
+/// Sends the file head, and then the records of these picks.
+pub fn send_all<F: Reader, O: Outlet>(
+    files: &mut [F],
+    picked: &[Picked],
+    unit: Unit,
+    buffer: &mut Vec<u8>,
+    outlet: &mut O,
+) -> Result<(), AnswerErr>
+    requires { All (IsPlaced (length files.old)) picked.now }
+    // what is sent, and how it fails
+    ensures sends { (q : Node) (now : ℕ) (set : List Entry)
+        → ArePickedOf q now set (map F.content files.old) picked.now → All IsWholePair set
+        → SendsRecords O.after O.gone (O.state outlet.old) (O.state outlet.new)
+        (λ rs. Pieces rs unit) (picked_records set picked.now) result }
+    ensures blames { (q : Node) (now : ℕ) (set : List Entry)
+        → ArePickedOf q now set (map F.content files.old) picked.now
+        → IfErr result (BlamesIn set) }
+    ensures write { HasCauseOf AnswerErr.WriteFault (O.faults outlet.old)
+        (O.faults outlet.new) result }
+    ensures disk { IsErrOf result AnswerErr.DiskFault → 0 < sum_by F.faults files.new }
+    // what the files were asked
+    ensures reads { sum_by F.reads files.new ≤ sum_by F.reads files.old + length picked.now }
+    ensures asked { sum_by F.asked files.new
+        ≤ sum_by F.asked files.old + sum_by (λ (p : Picked). p.len) picked.now }
+    // what stays
+    ensures same { map F.beside files.new ≡ map F.beside files.old }
+    ensures rest { O.beside outlet.new ≡ O.beside outlet.old }
+{
+    match outlet.piece(&file_head(unit)) {
+        Ok(()) => send_records(files, picked, unit, buffer, outlet),
+        Err(_) => Err(AnswerErr::WriteFault),
+    }
+}
