@@ -12,3 +12,5 @@ pub mod Heads
 pub mod Sending
 pub mod Order
 pub mod Lending
+pub mod Matching
+pub mod Gathering

@@ -3,6 +3,7 @@
 
 mod closing;
 mod errors;
+mod gather;
 mod heads;
 mod laws;
 mod order;

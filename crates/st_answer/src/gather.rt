@@ -1,0 +1,97 @@
+ghost use Rattle.std.specs.Prelude.{Option, ◌≡◌, ◌<◌, ◌≤◌, ◌+◌, ℕ, List, Some, [], length, map, All, IfOk, IfErr, OnOk, MatchResult, sum_by};
+ghost use Rattle.st_disk.specs.Pairs.{Entry};
+ghost use Rattle.st_shelf.specs.Loans.{LoansView};
+ghost use Rattle.st_block.specs.Scan.{PositionedRecord};
+ghost use Rattle.st_rows.specs.Whole.{IsWhole};
+ghost use Rattle.st_answer.specs.Matching.{AreMatching};
+ghost use Rattle.st_answer.specs.Picks.{IsPlaced};
+ghost use Rattle.st_answer.specs.Heads.{IsReadErr, Unhurt};
+ghost use Rattle.st_answer.specs.Stores.{IsSameStore, OfEntry};
+ghost use Rattle.st_answer.specs.Lending.{LendsMore, LendsIndex};
+ghost use Rattle.st_answer.specs.Replies.{Blames, IsNoWrite, HasDiskCause};
+ghost use Rattle.st_answer.specs.Gathering.{PicksPair, AddsOfPair, AddsFile, HasFaultCause, PicksFound, PicksSet};
+
+use crate::errors::AnswerErr;
+use crate::heads::heads;
+use crate::picked::Picked;
+use crate::store::Store;
+use st_query::Query;
+use std::alloc::Global;
+
+/// The positions of the packets of the `i`-th pair that match.
+fn choose<S: Store>(
+    alloc: Global,
+    store: &mut S,
+    hold: &S::Held,
+    i: usize,
+    stamp: u64,
+    query: &Query,
+    now: u64,
+) -> Result<Vec<u32>, AnswerErr>
+    requires held { S.is_held store.old hold.now }
+    requires below { i < S.size store.old hold.now }
+    // what comes
+    ensures chooses { OfEntry (S.set store.old hold.now) i (λ e. (given : List PositionedRecord)
+        → IsWhole e.block e.index given
+        → Unhurt (λ v. AreMatching query.now now given v.items) result) }
+    ensures fails { IfErr result (IsReadErr stamp) }
+    ensures cause { HasDiskCause (S.faults store.old) (S.faults store.new) result }
+    // what stays
+    ensures loans { LendsIndex (S.loans store.old) (S.loans store.new) }
+    ensures stays { IsSameStore (S.id store.old) (S.id store.new)
+        (S.holds store.old) (S.holds store.new) (S.is_held store.old) (S.is_held store.new)
+        (S.size store.old) (S.size store.new) (S.set store.old) (S.set store.new) }
+{
+    Err(AnswerErr::NoMemory)
+}
+
+/// Lends the block file of the `i`-th pair and reads the heads of its packets that match.
+fn gather_one<S: Store>(
+    alloc: Global,
+    store: &mut S,
+    hold: &S::Held,
+    i: usize,
+    query: &Query,
+    now: u64,
+    files: &mut Vec<S::File>,
+    picked: &mut Vec<Picked>,
+) -> Result<(), AnswerErr>
+    requires held { S.is_held store.old hold.now }
+    requires below { i < S.size store.old hold.now }
+    // what comes
+    ensures adds { AddsOfPair (S.set store.old hold.now) i picked.old.items picked.new.items
+        result }
+    ensures picks { OfEntry (S.set store.old hold.now) i (λ e. (given : List PositionedRecord)
+        → IsWhole e.block e.index given
+        → PicksPair query.now now given i e.stamp picked.old.items picked.new.items
+        (sum_by S.File.reads files.old.items) (sum_by S.File.reads files.new.items)
+        (sum_by S.File.asked files.old.items) (sum_by S.File.asked files.new.items) result) }
+    ensures file { AddsFile S.File.content (λ f. (S.origin f).home) (S.id store.old)
+        (S.set store.old hold.now) i files.old.items files.new.items result }
+    ensures cause { HasFaultCause (S.faults store.old) (S.faults store.new)
+        (sum_by S.File.faults files.new.items) result }
+    // what stays
+    ensures loans { (start : LoansView) → LendsMore (length files.old.items) start (S.loans store.old)
+        → LendsMore (length files.new.items) start (S.loans store.new) }
+    ensures stays { IsSameStore (S.id store.old) (S.id store.new)
+        (S.holds store.old) (S.holds store.new) (S.is_held store.old) (S.is_held store.new)
+        (S.size store.old) (S.size store.new) (S.set store.old) (S.set store.new) }
+{
+    let stamp = store.stamp_of(hold, i);
+    if files.reserve(1).is_err() {
+        return Err(AnswerErr::NoMemory);
+    }
+    let positions = match choose(alloc, store, hold, i, stamp, query, now) {
+        Ok(positions) => positions,
+        Err(error) => return Err(error),
+    };
+    match store.block_of(hold, i) {
+        Ok(file) => {
+            let mut file = file;
+            let result = heads(&mut file, i, stamp, positions.as_slice(), picked);
+            files.push_reserved(file);
+            result
+        }
+        Err(_) => Err(AnswerErr::DiskFault),
+    }
+}
