@@ -105,3 +105,7 @@ stops_unhurt after gone a b ps error.WriteFault h = tt
 stops_unhurt after gone a b ps error.DiskFault h = tt
 stops_unhurt after gone a b ps (error.Damaged s d) h = h
 stops_unhurt after gone a b ps error.NoMemory h = tt
+
+-- packets of a whole block file are at their positions
+pub packets_stand : (bytes : List ℕ) (given xs : List PositionedRecord) → IsFile bytes given → All (Contains given) xs → All (λ (x : PositionedRecord). IsRecordAt (Some bytes) x.0 x.1) xs
+packets_stand bytes given xs file all k d lt = packet_at bytes given (get_or xs k d) file (all k d lt)

@@ -8,6 +8,8 @@ use Rattle.st_block.specs.Scan.{PositionedRecord, positions_in, IsFile}
 use Rattle.st_query.specs.declared.nodes.Node.{Node}
 use Rattle.st_query.specs.Meaning.{Matches}
 use Rattle.st_rows.specs.Positions.{has, Rising}
+use Rattle.st_rows.proofs.OneList.{has_from, has_to}
+use Rattle.st_rows.proofs.Packets.{one_packet_at, file_packets}
 use Rattle.st_answer.specs.Matching.{MatchesAt, AreMatching}
 use Rattle.st_answer.specs.Gathering.{AreSome, HasEach}
 
@@ -32,12 +34,9 @@ packets_at q now given (p ∷ ps) all =
       each = All-cons (λ (x : PositionedRecord). Contains given x × Matches q now x.1) (p, r) rest.xs (there, matches) rest.each;
     }
 
--- a position that is among some is one of them
-has_contains : (ps : List ℕ) (p : ℕ) → IsTrue (has ps p) → Contains ps p
-has_contains ps p h = ?
-
-contains_has : (ps : List ℕ) (p : ℕ) → Contains ps p → IsTrue (has ps p)
-contains_has ps p h = ?
+-- a pair by its parts
+pair_is : (y x : PositionedRecord) → y.0 ≡ x.0 → y.1 ≡ x.1 → y ≡ x
+pair_is y x e f = ap (λ (n : ℕ). (n, y.1)) e ∙ ap (λ (r : Rec). (x.0, r)) f
 
 -- the packets that match, by position
 pub record Selected (q : Node) (now : ℕ) (given : List PositionedRecord) (ps : List ℕ) : Type 0 where
@@ -47,22 +46,22 @@ pub record Selected (q : Node) (now : ℕ) (given : List PositionedRecord) (ps :
   pub every : HasEach q now given xs
 
 pub selected : (q : Node) (now : ℕ) (bytes : List ℕ) (given : List PositionedRecord) (ps : List ℕ)
-    → ((p : ℕ) (r s : Rec) → Contains given (p, r) → Contains given (p, s) → r ≡ s)
-    → AreMatching q now given ps → Selected q now given ps
-selected q now bytes given ps one are =
-    let at = packets_at q now given ps (λ k d lt. (are.exact (get_or ps k d)).0 (contains_has ps (get_or ps k d) (Contains-get_or ps k d lt))) in
+    → IsFile bytes given → AreMatching q now given ps → Selected q now given ps
+selected q now bytes given ps file are =
+    let (rise, fit) = file_packets bytes given file in
+    let at = packets_at q now given ps (λ k d lt. (are.exact (get_or ps k d)).0 (has_from ps (get_or ps k d) (Contains-get_or ps k d lt))) in
     record {
       xs = at.xs;
       order = at.order;
       some = record { rising = subst Rising at.order are.rising; each = at.each };
       every = λ x there matches.
-          let here : Contains ps x.0 = has_contains ps x.0 ((are.exact x.0).1 (x.1, there, matches)) in
+          let here : Contains ps x.0 = has_to ps x.0 ((are.exact x.0).1 (x.1, there, matches)) in
           let (k, lt, is) = here in
           let count : length ps ≡ length at.xs = ap length at.order ∙ length-map at.xs (λ (y : PositionedRecord). y.0) in
           let lt' : k < length at.xs = omega (arith, lt, count) in
           let y = get_or at.xs k x in
           let place : y.0 ≡ x.0 = sym (get_or-map (λ (z : PositionedRecord). z.0) at.xs k x x.0 lt') ∙ (ap (λ (z : List ℕ). get_or z k x.0) (sym at.order) ∙ is) in
           let other = (at.each k x lt').0 in
-          let body : y.1 ≡ x.1 = one x.0 y.1 x.1 (subst (λ p. Contains given (p, y.1)) place other) there in
-          (k, lt', cc);
+          let body : y.1 ≡ x.1 = one_packet_at given x.0 y.1 x.1 rise (subst (λ p. Contains given (p, y.1)) place other) there in
+          (k, lt', pair_is y x place body);
     }
