@@ -4,6 +4,7 @@ pub mod Heading
 pub mod Files
 pub mod Sent
 pub mod Picking
+pub mod Distinct
 pub mod Results
 pub mod Selecting
 pub mod Lending
