@@ -5,6 +5,7 @@ pub mod Files
 pub mod Sent
 pub mod Picking
 pub mod Distinct
+pub mod Found
 pub mod Results
 pub mod Selecting
 pub mod Lending
