@@ -15,8 +15,11 @@ use Rattle.st_block.proofs.Unhurt.{one_given_there}
 use Rattle.st_rows.specs.Whole.{IsWhole}
 use Rattle.st_answer.specs.declared.picked.Picked.{Picked}
 use Rattle.st_answer.specs.Packets.{Packet, IsWholePair, IsPacketOf, IsPacketIn, IsWholeSet}
-use Rattle.st_answer.specs.Picks.{pick_of, picks_of, record_in, packet_in, blocks_of, IsPickOf, IsFoundIn, IsFound, HasAllOf, AreReadFor, AreDistinct}
-use Rattle.st_answer.specs.Heads.{IsOf}
+use Rattle.st_answer.specs.Picks.{pick_of, picks_of, record_in, packet_in, blocks_of, IsPickOf, IsFoundIn, IsFound, IsPlaced, HasAllOf, AreReadFor, AreDistinct}
+use Rattle.st_answer.specs.declared.errors.AnswerErr.{AnswerErr}
+use Rattle.st_answer.specs.declared.errors.AnswerErr.TheVariants as error
+use Rattle.st_answer.specs.Replies.{IsNoWrite}
+use Rattle.st_answer.specs.Heads.{IsOf, AddsPicks, IsReadErr, NamesStamp}
 use Rattle.st_answer.specs.Gathering.{AreSome, HasEach}
 use Rattle.st_answer.proofs.Picking.{no_entry, packet_at, block_at, record_at}
 use Rattle.st_answer.proofs.Distinct.{distinct_more, stamps_rise}
@@ -152,3 +155,46 @@ has_more q now set i given xs ps lt whole some every all x (e, there, is) matche
           let inside : Contains (map f new) x = picked_in set i given xs lt whole some x stamp (k, below, here) in
           subst (λ z. Contains z x) (sym split) (Contains-append_right (map f ps) (map f new) x inside)
     ]
+
+-- picks that were added lie in one file more
+pub placed_next : (i s : ℕ) (old new : List Picked) → AddsPicks i s old new → All (IsPlaced i) old → All (IsPlaced (i + 1)) new
+placed_next i s old new (more, is, all) placed =
+    subst (All (IsPlaced (i + 1))) (sym is) (All-append (IsPlaced (i + 1)) old more
+    (All-weaker (IsPlaced i) (IsPlaced (i + 1)) (λ p h. record { place = omega (arith, h.place); nsec = h.nsec }) old placed)
+    (All-weaker (IsOf i s) (IsPlaced (i + 1)) (λ p h. record { place = omega (arith, h.place); nsec = h.nsec }) more all))
+
+-- what a whole pair's picks are
+pub record PicksOf (q : Node) (now : ℕ) (e : Entry) (place : ℕ) (given : List PositionedRecord) (old new : List Picked) : Type 0 where
+  pub xs : List PositionedRecord
+  pub some : AreSome q now given xs
+  pub is : new ≡ old ++ picks_of place e.stamp xs
+
+pub found_next : (q : Node) (now : ℕ) (set : List Entry) (i s : ℕ) (old new : List Picked) → i < length set → s ≡ (get_or set i no_entry).stamp → AddsPicks i s old new → All (IsFound q now set) old
+    → ((given : List PositionedRecord) → IsWhole (get_or set i no_entry).block (get_or set i no_entry).index given → PicksOf q now (get_or set i no_entry) i given old new)
+    → All (IsFound q now set) new
+found_next q now set i s old new lt stamp (more, is, all) found picks =
+    let e = get_or set i no_entry in
+    let more_found = found_new q now set i more lt (subst (λ s. All (IsOf i s) more) stamp all) (λ (given, whole).
+        let one = picks given whole in
+        subst (All (IsPickOf q now e)) (added_is old new more (picks_of i e.stamp one.xs) is one.is) (are_picks q now e given whole one.xs one.some i e.stamp)) in
+    subst (All (IsFound q now set)) (sym is) (All-append (IsFound q now set) old more found more_found)
+
+-- errors of reading
+pub read_names : (s : ℕ) (e : AnswerErr) → IsReadErr s e → NamesStamp s e
+read_names s error.WriteFault h = tt
+read_names s error.DiskFault h = tt
+read_names s (error.Damaged t d) h = h
+read_names s error.NoMemory h = tt
+
+pub read_no_write : (s : ℕ) (e : AnswerErr) → IsReadErr s e → IsNoWrite e
+read_no_write s error.WriteFault h = h
+read_no_write s error.DiskFault h = tt
+read_no_write s (error.Damaged t d) h = tt
+read_no_write s error.NoMemory h = tt
+
+-- the block of one entry more
+pub blocks_next : (set : List Entry) (i : ℕ) (now new : List (Option (List ℕ))) → i < length set → now ≡ map Some (blocks_of (take i set)) → new ≡ now ++ Some (get_or set i no_entry).block ∷ [] → new ≡ map Some (blocks_of (take (i + 1) set))
+blocks_next set i now new lt had more =
+    let f = λ (e : Entry). e.block in
+    let b = (get_or set i no_entry).block in
+    more ∙ (ap (λ z. z ++ Some b ∷ []) had ∙ (sym (map_push Some (map f (take i set)) b) ∙ ap (map Some) (sym (map_more f set i no_entry lt))))

@@ -15,6 +15,7 @@ use Rattle.st_answer.specs.Packets.{IsWholeSet}
 use Rattle.st_answer.specs.Picks.{picks_of, blocks_of, IsPlaced, IsFound, HasAllOf, AreReadFor}
 use Rattle.st_answer.specs.Heads.{AddsPicks, IsReadErr, Unhurt}
 use Rattle.st_answer.specs.Stores.{OfEntry}
+use Rattle.st_answer.specs.Replies.{IsNoWrite, BlamesIn}
 use Rattle.st_answer.specs.Sending.{ArePickedOf}
 
 -- these are packets of the pair that match, each once, by position
@@ -65,9 +66,18 @@ abbrev pub PicksFound : Node → ℕ → Option (List Entry) → List (Option (L
 PicksFound q now held contents ps =
     (set : List Entry) → held ≡ Some set → ArePickedOf q now set contents ps
 
--- of a whole set: only heads of packets that match were read, and after an Ok they were all picked
-abbrev pub PicksSet : Node → ℕ → Option (List Entry) → ℕ → ℕ → Result (List Picked) AnswerErr → Type 0
-PicksSet q now held reads asked result =
+-- of a whole set, only heads of packets that match were read
+abbrev pub ReadsSet : Node → ℕ → Option (List Entry) → ℕ → ℕ → Type 0
+ReadsSet q now held reads asked =
     (set : List Entry) → held ≡ Some set → IsWholeSet set
     → (ps : List Picked) × AreReadFor q now set reads asked ps
-    × MatchResult result (λ v. (v ≡ ps) × HasAllOf q now set set ps) (λ e. Unit {0})
+
+-- of a whole set, the packets that match were picked, each once
+abbrev pub PicksSet : Node → ℕ → Option (List Entry) → ℕ → ℕ → List Picked → Type 0
+PicksSet q now held reads asked ps =
+    (set : List Entry) → held ≡ Some set → IsWholeSet set
+    → AreReadFor q now set reads asked ps × HasAllOf q now set set ps
+
+-- an error is no failure of the outlet, and names a pair of the set that isn't whole
+abbrev pub FailsIn : Option (List Entry) → AnswerErr → Type 0
+FailsIn held e = IsNoWrite e × ((set : List Entry) → held ≡ Some set → BlamesIn set e)

@@ -8,8 +8,8 @@ ghost use Rattle.st_answer.specs.Picks.{IsPlaced};
 ghost use Rattle.st_answer.specs.Heads.{IsReadErr, Unhurt};
 ghost use Rattle.st_answer.specs.Stores.{IsSameStore, OfEntry};
 ghost use Rattle.st_answer.specs.Lending.{LendsMore, LendsIndex};
-ghost use Rattle.st_answer.specs.Replies.{Blames, IsNoWrite, HasDiskCause};
-ghost use Rattle.st_answer.specs.Gathering.{PicksPair, AddsOfPair, AddsFile, HasFaultCause, PicksFound, PicksSet};
+ghost use Rattle.st_answer.specs.Replies.{HasDiskCause};
+ghost use Rattle.st_answer.specs.Gathering.{PicksPair, AddsOfPair, AddsFile, HasFaultCause, PicksFound, ReadsSet, PicksSet, FailsIn};
 
 use crate::errors::AnswerErr;
 use crate::heads::heads;
@@ -94,4 +94,46 @@ fn gather_one<S: Store>(
         }
         Err(_) => Err(AnswerErr::DiskFault),
     }
+}
+
+/// Lends the block files of all pairs of the held set, and reads the heads of the packets that
+/// match, each by one read.
+pub fn gather<S: Store>(
+    alloc: Global,
+    store: &mut S,
+    hold: &S::Held,
+    query: &Query,
+    now: u64,
+    files: &mut Vec<S::File>,
+) -> Result<Vec<Picked>, AnswerErr>
+    requires held { S.is_held store.old hold.now }
+    requires none { files.old.items ≡ [] }
+    // what comes
+    ensures found { IfOk result (λ v. All (IsPlaced (length files.new.items)) v.items
+        × PicksFound query.now now (S.set store.old hold.now)
+        (map S.File.content files.new.items) v.items) }
+    ensures picks { IfOk result (λ v. PicksSet query.now now (S.set store.old hold.now)
+        (sum_by S.File.reads files.new.items) (sum_by S.File.asked files.new.items) v.items) }
+    ensures fails { IfErr result (FailsIn (S.set store.old hold.now)) }
+    ensures cause { HasFaultCause (S.faults store.old) (S.faults store.new)
+        (sum_by S.File.faults files.new.items) result }
+    // what the files were asked
+    ensures reads { ReadsSet query.now now (S.set store.old hold.now)
+        (sum_by S.File.reads files.new.items) (sum_by S.File.asked files.new.items) }
+    ensures home { All (λ f. (S.origin f).home ≡ S.id store.old) files.new.items }
+    // what stays
+    ensures loans { LendsMore (length files.new.items) (S.loans store.old) (S.loans store.new) }
+    ensures stays { IsSameStore (S.id store.old) (S.id store.new)
+        (S.holds store.old) (S.holds store.new) (S.is_held store.old) (S.is_held store.new)
+        (S.size store.old) (S.size store.new) (S.set store.old) (S.set store.new) }
+{
+    let mut picked = Vec::new(alloc);
+    let count = store.count(hold);
+    'entries: for i in 0..count {
+        match gather_one(alloc, store, hold, i, query, now, files, &mut picked) {
+            Ok(()) => {}
+            Err(error) => return Err(error),
+        }
+    }
+    Ok(picked)
 }
