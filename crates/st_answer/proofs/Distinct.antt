@@ -87,7 +87,7 @@ distinct_none s n = omega arith
 pub distinct_permutation : (ps qs : List Picked) → IsPermutation ps qs → AreDistinct ps → AreDistinct qs
 distinct_permutation ps qs same distinct s n = omega (arith, sum_by-IsPermutation (is_at s n) ps qs same, distinct s n)
 
-distinct_tail : (p : Picked) (ps : List Picked) → AreDistinct (p ∷ ps) → AreDistinct ps
+pub distinct_tail : (p : Picked) (ps : List Picked) → AreDistinct (p ∷ ps) → AreDistinct ps
 distinct_tail p ps distinct s n = omega (arith, sum_by-cons (is_at s n) p ps, distinct s n)
 
 -- the first is at no other's position

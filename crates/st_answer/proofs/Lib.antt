@@ -5,6 +5,8 @@ pub mod Files
 pub mod Sent
 pub mod Picking
 pub mod Distinct
+pub mod Replying
+pub mod Telling
 pub mod Found
 pub mod Results
 pub mod Selecting

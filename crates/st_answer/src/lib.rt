@@ -1,6 +1,7 @@
 //! The answer: the packets of a held file set that match a query, as a pcap.
 #![tactic(auto)]
 
+mod answering;
 mod closing;
 mod errors;
 mod gather;
