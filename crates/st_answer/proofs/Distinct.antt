@@ -125,3 +125,23 @@ no_more f keeps (p ∷ ps) ys distinct all =
           | inr later ↦ later
         ]) in
     omega (arith, count, rest)
+
+-- nor are their lengths together
+pub no_longer : (f : Picked → Packet) → ((p : Picked) → ((f p).stamp ≡ p.stamp) × ((f p).position ≡ p.position)) → (w : Packet → ℕ) (ps : List Picked) (ys : List Packet)
+    → AreDistinct ps → All (λ p. Contains ys (f p)) ps → sum_by (λ p. w (f p)) ps ≤ sum_by w ys
+no_longer f keeps w [] ys distinct all = omega arith
+no_longer f keeps w (p ∷ ps) ys distinct all =
+    let (k, lt, is) = All-head (λ p. Contains ys (f p)) p ps all in
+    let moved = IsPermutation-remove ys k (f p) lt (sym is) in
+    let sums = sum_by-IsPermutation w ys (f p ∷ remove ys k) moved in
+    let split = sum_by-cons w (f p) (remove ys k) in
+    let mine = sum_by-cons (λ p. w (f p)) p ps in
+    let rest = no_longer f keeps w ps (remove ys k) (distinct_tail p ps distinct) (λ j d lt'.
+        let q = get_or ps j d in
+        let there = Contains-permutation ys (f p ∷ remove ys k) (f q) moved (All-tail (λ p. Contains ys (f p)) p ps all j d lt') in
+        elim (in_cases (f p) (remove ys k) (f q) there) [
+          | inl same ↦ absurd (distinct_head p q ps distinct (Contains-get_or ps j d lt')
+              (sym (keeps p).0 ∙ (ap (λ (x : Packet). x.stamp) same ∙ (keeps q).0)) (sym (keeps p).1 ∙ (ap (λ (x : Packet). x.position) same ∙ (keeps q).1)))
+          | inr later ↦ later
+        ]) in
+    omega (arith, sums, split, mine, rest)

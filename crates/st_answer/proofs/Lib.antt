@@ -6,6 +6,8 @@ pub mod Sent
 pub mod Picking
 pub mod Distinct
 pub mod Replying
+pub mod Reading
+pub mod Holding
 pub mod Telling
 pub mod Found
 pub mod Results

@@ -29,3 +29,10 @@ abbrev pub ReadsForAnswer : Node → ℕ → Option (List Entry) → LoansView �
 ReadsForAnswer q now asked before after =
     (set : List Entry) (ps : List Packet) → asked ≡ Some set → IsWholeSet set → IsAnswer q now set ps
     → ReadsAtMost before after ps
+
+-- if the set that was held is known and its pairs are whole, files were read so often, for so many
+-- bytes, as its answer allows
+abbrev pub ReadsUpTo : Node → ℕ → Option (List Entry) → ℕ → ℕ → Type 0
+ReadsUpTo q now held reads asked =
+    (set : List Entry) (ps : List Packet) → held ≡ Some set → IsWholeSet set → IsAnswer q now set ps
+    → (reads ≤ most_reads ps) × (asked ≤ most_asked ps)

@@ -7,6 +7,7 @@ use Rattle.st_disk.specs.Events.{Event}
 use Rattle.st_shelf.specs.Origins.{FileOrigin}
 use Rattle.st_shelf.specs.Loans.{LoansView, lend}
 use Rattle.st_spool.specs.History.{set_of}
+use Rattle.st_answer.specs.Lending.{LendsNone}
 use Rattle.st_answer.specs.Sets.{KeepsSets, AddsSet, DropsSet, GoesOn}
 
 -- What a store knows of its holds: how many were taken, the events that it has seen and those that
@@ -70,6 +71,15 @@ pub record IsFresh (read asked_for failed : ℕ) (origin : FileOrigin) (wanted :
 -- one file more is lent, or after an error none is
 abbrev pub LendsOne : {T E : Type 0} → LoansView → LoansView → Result T E → Type 0
 LendsOne before after result = MatchResult result (λ _. after ≡ lend before) (λ _. after ≡ before)
+
+-- the holds and files that a call took are given back: the store is the same, more may have been
+-- seen, the same sets are held, and no more files are lent
+pub record IsSpent (id_before id_after : ℕ) (before after : HoldsView)
+    (loans_before loans_after : LoansView) : Type 0 where
+  pub id : id_after ≡ id_before
+  pub seen : GoesOn before.seen after.seen
+  pub out : KeepsSets before.out after.out
+  pub lent : LendsNone loans_before loans_after
 
 -- of the entry of this number of a set, if the set is known
 abbrev pub OfEntry : Option (List Entry) → ℕ → (Entry → Type 0) → Type 0

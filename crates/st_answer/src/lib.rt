@@ -13,6 +13,7 @@ mod sending;
 mod slice_pair;
 mod store;
 
+pub use answering::answer;
 pub use errors::{AnswerErr, Told};
 pub use laws::{one_answer, one_reply};
 pub use slice_pair::{SliceHold, SlicePair, SLICE_STAMP};
