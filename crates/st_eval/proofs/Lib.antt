@@ -1,0 +1,11 @@
+pub mod NetRanges
+pub mod PrimitiveRanges
+pub mod Joining
+pub mod Risings
+pub mod ValueTexts
+pub mod Gathering
+pub mod Reading
+pub mod SoundValues
+pub mod SummaryRows
+pub mod Evaluating
+pub mod NodeSizes
