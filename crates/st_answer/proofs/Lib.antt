@@ -7,6 +7,7 @@ pub mod Picking
 pub mod Distinct
 pub mod Replying
 pub mod Reading
+pub mod Indexes
 pub mod Holding
 pub mod Telling
 pub mod Found

@@ -10,7 +10,7 @@ use Rattle.st_query.specs.Meaning.{Matches}
 use Rattle.st_rows.specs.Positions.{has, Rising}
 use Rattle.st_rows.proofs.OneList.{has_from, has_to}
 use Rattle.st_rows.proofs.Packets.{one_packet_at, file_packets}
-use Rattle.st_answer.specs.Matching.{MatchesAt, AreMatching}
+use Rattle.st_eval.specs.Selection.{MatchesAt, AreMatching}
 use Rattle.st_answer.specs.Gathering.{AreSome, HasEach}
 
 -- no packet

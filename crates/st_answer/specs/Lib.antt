@@ -12,5 +12,4 @@ pub mod Heads
 pub mod Sending
 pub mod Order
 pub mod Lending
-pub mod Matching
 pub mod Gathering

@@ -3,7 +3,6 @@ ghost use Rattle.st_disk.specs.Pairs.{Entry};
 ghost use Rattle.st_shelf.specs.Loans.{LoansView};
 ghost use Rattle.st_block.specs.Scan.{PositionedRecord};
 ghost use Rattle.st_rows.specs.Whole.{IsWhole};
-ghost use Rattle.st_answer.specs.Matching.{AreMatching};
 ghost use Rattle.st_answer.specs.Picks.{IsPlaced};
 ghost use Rattle.st_answer.specs.Heads.{IsReadErr, Unhurt};
 ghost use Rattle.st_answer.specs.Stores.{IsSameStore, OfEntry};
@@ -11,39 +10,13 @@ ghost use Rattle.st_answer.specs.Lending.{LendsMore, LendsIndex};
 ghost use Rattle.st_answer.specs.Replies.{HasDiskCause};
 ghost use Rattle.st_answer.specs.Gathering.{PicksPair, AddsOfPair, AddsFile, HasFaultCause, PicksFound, ReadsSet, PicksSet, FailsIn};
 
+use crate::choosing::choose;
 use crate::errors::AnswerErr;
 use crate::heads::heads;
 use crate::picked::Picked;
 use crate::store::Store;
 use st_query::Query;
 use std::alloc::Global;
-
-/// The positions of the packets of the `i`-th pair that match.
-fn choose<S: Store>(
-    alloc: Global,
-    store: &mut S,
-    hold: &S::Held,
-    i: usize,
-    stamp: u64,
-    query: &Query,
-    now: u64,
-) -> Result<Vec<u32>, AnswerErr>
-    requires held { S.is_held store.old hold.now }
-    requires below { i < S.size store.old hold.now }
-    // what comes
-    ensures chooses { OfEntry (S.set store.old hold.now) i (λ e. (given : List PositionedRecord)
-        → IsWhole e.block e.index given
-        → Unhurt (λ v. AreMatching query.now now given v.items) result) }
-    ensures fails { IfErr result (IsReadErr stamp) }
-    ensures cause { HasDiskCause (S.faults store.old) (S.faults store.new) result }
-    // what stays
-    ensures loans { LendsIndex (S.loans store.old) (S.loans store.new) }
-    ensures stays { IsSameStore (S.id store.old) (S.id store.new)
-        (S.holds store.old) (S.holds store.new) (S.is_held store.old) (S.is_held store.new)
-        (S.size store.old) (S.size store.new) (S.set store.old) (S.set store.new) }
-{
-    Err(AnswerErr::NoMemory)
-}
 
 /// Lends the block file of the `i`-th pair and reads the heads of its packets that match.
 fn gather_one<S: Store>(
@@ -88,7 +61,7 @@ fn gather_one<S: Store>(
     match store.block_of(hold, i) {
         Ok(file) => {
             let mut file = file;
-            let result = heads(&mut file, i, stamp, positions.as_slice(), picked);
+            let result = heads(&mut file, i, stamp, positions.items(), picked);
             files.push_reserved(file);
             result
         }

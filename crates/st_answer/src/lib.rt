@@ -2,6 +2,7 @@
 #![tactic(auto)]
 
 mod answering;
+mod choosing;
 mod closing;
 mod errors;
 mod gather;
