@@ -39,7 +39,7 @@ pub own : (q : Node) (now : ℕ) (set : List Entry) (p : Picked) → IsWholeSet 
 own q now set p whole lt found =
     let e = get_or set p.place no_entry in
     let at = found no_entry lt in
-    let is = at.pick (whole.whole p.place no_entry lt) in
+    let is = at.pick (whole p.place no_entry lt) in
     let same : record_in e.block p ≡ (packet_in set p).packet = sym (record_at set p lt) in
     record {
       there = (e, Contains-get_or set p.place no_entry lt, record {

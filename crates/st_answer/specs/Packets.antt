@@ -1,7 +1,7 @@
 -- The packets of a file set whose pairs are whole.
 use Rattle.std.specs.Prelude.{◌≡◌, ℕ, List, map, All, Contains}
 use Rattle.st_base.specs.Records.{Rec}
-use Rattle.st_disk.specs.Pairs.{Entry, IsFileSet}
+use Rattle.st_disk.specs.Pairs.{Entry}
 use Rattle.st_block.specs.Scan.{PositionedRecord}
 use Rattle.st_rows.specs.Whole.{IsWhole}
 
@@ -31,7 +31,6 @@ pub record IsPacketOf (e : Entry) (p : Packet) : Type 0 where
 abbrev pub IsPacketIn : List Entry → Packet → Type 0
 IsPacketIn set p = (e : Entry) × Contains set e × IsPacketOf e p
 
--- a file set of whole pairs
-pub record IsWholeSet (set : List Entry) : Type 0 where
-  pub rises : IsFileSet set
-  pub whole : All IsWholePair set
+-- all pairs of the set are whole
+abbrev pub IsWholeSet : List Entry → Type 0
+IsWholeSet set = All IsWholePair set

@@ -81,13 +81,13 @@ IsNoWrite error.DiskFault = Unit {0}
 IsNoWrite (error.Damaged stamp damage) = Unit {0}
 IsNoWrite error.NoMemory = Unit {0}
 
--- one hold was taken, of all that was seen before; or none was, after an error other than of the
--- outlet, and nothing was sent
+-- one hold was taken, of all that was seen before and maybe more; or there was no memory for one,
+-- and nothing was sent
 abbrev pub AsksOnce : {S T : Type 0} → HoldsView → HoldsView → Option S → Option S → Result T AnswerErr → Type 0
 AsksOnce before after old new result =
     (CountsOn before.asks after.asks 1 × GoesOn before.seen after.took)
     ⊎ ((after.asks ≡ before.asks) × (after.took ≡ before.took) × (new ≡ old)
-    × MatchResult result (λ t. ⊥) IsNoWrite)
+    × IsErrOf result error.NoMemory)
 
 -- the store's own failure: its count never falls, and a fault of the disk comes only if it rose
 pub record HasDiskCause {T : Type 0} (before now : ℕ) (result : Result T AnswerErr) : Type 0 where

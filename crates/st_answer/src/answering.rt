@@ -10,7 +10,7 @@ ghost use Rattle.st_answer.specs.Bounds.{ReadsUpTo, ReadsForAnswer};
 ghost use Rattle.st_answer.specs.Gathering.{HasFaultCause};
 ghost use Rattle.st_answer.specs.Lending.{LendsMore, LendsNone};
 ghost use Rattle.st_answer.specs.Sets.{KeepsSets, GoesOn};
-ghost use Rattle.st_answer.specs.Stores.{IsSameStore, IsSpent, asked};
+ghost use Rattle.st_answer.specs.Stores.{IsSameStore, IsSpent, StayHeld, asked};
 ghost use Rattle.st_answer.specs.Replies.{Replies, RepliesFor, Blames, BlamesIn, AsksOnce, HasDiskCause};
 
 use crate::closing::close_all;
@@ -83,7 +83,7 @@ fn work<S: Store, O: Outlet>(
     files: &mut Vec<S::File>,
     outlet: &mut O,
 ) -> Result<Told, AnswerErr>
-    requires held { S.is_held store.old hold.now }
+    requires held { 0 < S.times_held store.old hold.now }
     requires none { files.old.items ≡ [] }
     // what is sent, and how it fails
     ensures replies { RepliesFor O.after O.gone (O.state outlet.old) (O.state outlet.new)
@@ -100,8 +100,8 @@ fn work<S: Store, O: Outlet>(
     // what stays
     ensures files { All (λ f. (S.origin f).home ≡ S.id store.old) files.new.items
         × LendsMore (length files.new.items) (S.loans store.old) (S.loans store.new) }
-    ensures stays { IsSameStore (S.id store.old) (S.id store.new)
-        (S.holds store.old) (S.holds store.new) (S.is_held store.old) (S.is_held store.new)
+    ensures stays { IsSameStore (S.becomes store.old store.new) (S.id store.old) (S.id store.new)
+        (S.holds store.old) (S.holds store.new) (S.times_held store.old) (S.times_held store.new)
         (S.size store.old) (S.size store.new) (S.set store.old) (S.set store.new) }
     ensures rest { O.beside outlet.new ≡ O.beside outlet.old }
 {
@@ -135,8 +135,10 @@ pub fn answer<S: Store, O: Outlet>(
     ensures reads { ReadsForAnswer query.now now (asked (S.holds store.new))
         (S.loans store.old) (S.loans store.new) }
     // what stays
-    ensures spent { IsSpent (S.id store.old) (S.id store.new) (S.holds store.old)
-        (S.holds store.new) (S.loans store.old) (S.loans store.new) }
+    ensures spent { IsSpent (S.becomes store.old store.new) (S.id store.old) (S.id store.new)
+        (S.holds store.old) (S.holds store.new) (S.loans store.old) (S.loans store.new)
+        × StayHeld (S.times_held store.old) (S.times_held store.new)
+        (S.size store.old) (S.size store.new) (S.set store.old) (S.set store.new) }
     ensures rest { O.beside outlet.new ≡ O.beside outlet.old }
 {
     match store.hold() {

@@ -105,7 +105,7 @@ pub fn choose<S: Store>(
     query: &Query,
     now: u64,
 ) -> Result<Positions, AnswerErr>
-    requires held { S.is_held store.old hold.now }
+    requires held { 0 < S.times_held store.old hold.now }
     requires below { i < S.size store.old hold.now }
     // what comes
     ensures chooses { OfEntry (S.set store.old hold.now) i (λ e. (given : List PositionedRecord)
@@ -115,8 +115,8 @@ pub fn choose<S: Store>(
     ensures cause { HasDiskCause (S.faults store.old) (S.faults store.new) result }
     // what stays
     ensures loans { LendsIndex (S.loans store.old) (S.loans store.new) }
-    ensures stays { IsSameStore (S.id store.old) (S.id store.new)
-        (S.holds store.old) (S.holds store.new) (S.is_held store.old) (S.is_held store.new)
+    ensures stays { IsSameStore (S.becomes store.old store.new) (S.id store.old) (S.id store.new)
+        (S.holds store.old) (S.holds store.new) (S.times_held store.old) (S.times_held store.new)
         (S.size store.old) (S.size store.new) (S.set store.old) (S.set store.new) }
 {
     match store.index_of(hold, i) {

@@ -16,8 +16,8 @@ pub fn close_all<S: Store>(store: &mut S, files: Vec<S::File>)
     ensures faults { TakesFaults (sum_by S.File.faults files.items)
         (S.faults store.old) (S.faults store.new) }
     // what stays
-    ensures stays { IsSameStore (S.id store.old) (S.id store.new)
-        (S.holds store.old) (S.holds store.new) (S.is_held store.old) (S.is_held store.new)
+    ensures stays { IsSameStore (S.becomes store.old store.new) (S.id store.old) (S.id store.new)
+        (S.holds store.old) (S.holds store.new) (S.times_held store.old) (S.times_held store.new)
         (S.size store.old) (S.size store.new) (S.set store.old) (S.set store.new) }
 {
     let mut files = files;

@@ -29,7 +29,7 @@ fn gather_one<S: Store>(
     files: &mut Vec<S::File>,
     picked: &mut Vec<Picked>,
 ) -> Result<(), AnswerErr>
-    requires held { S.is_held store.old hold.now }
+    requires held { 0 < S.times_held store.old hold.now }
     requires below { i < S.size store.old hold.now }
     // what comes
     ensures adds { AddsOfPair (S.set store.old hold.now) i picked.old.items picked.new.items
@@ -46,8 +46,8 @@ fn gather_one<S: Store>(
     // what stays
     ensures loans { (start : LoansView) → LendsMore (length files.old.items) start (S.loans store.old)
         → LendsMore (length files.new.items) start (S.loans store.new) }
-    ensures stays { IsSameStore (S.id store.old) (S.id store.new)
-        (S.holds store.old) (S.holds store.new) (S.is_held store.old) (S.is_held store.new)
+    ensures stays { IsSameStore (S.becomes store.old store.new) (S.id store.old) (S.id store.new)
+        (S.holds store.old) (S.holds store.new) (S.times_held store.old) (S.times_held store.new)
         (S.size store.old) (S.size store.new) (S.set store.old) (S.set store.new) }
 {
     let stamp = store.stamp_of(hold, i);
@@ -79,7 +79,7 @@ pub fn gather<S: Store>(
     now: u64,
     files: &mut Vec<S::File>,
 ) -> Result<Vec<Picked>, AnswerErr>
-    requires held { S.is_held store.old hold.now }
+    requires held { 0 < S.times_held store.old hold.now }
     requires none { files.old.items ≡ [] }
     // what comes
     ensures found { IfOk result (λ v. All (IsPlaced (length files.new.items)) v.items
@@ -96,8 +96,8 @@ pub fn gather<S: Store>(
     ensures home { All (λ f. (S.origin f).home ≡ S.id store.old) files.new.items }
     // what stays
     ensures loans { LendsMore (length files.new.items) (S.loans store.old) (S.loans store.new) }
-    ensures stays { IsSameStore (S.id store.old) (S.id store.new)
-        (S.holds store.old) (S.holds store.new) (S.is_held store.old) (S.is_held store.new)
+    ensures stays { IsSameStore (S.becomes store.old store.new) (S.id store.old) (S.id store.new)
+        (S.holds store.old) (S.holds store.new) (S.times_held store.old) (S.times_held store.new)
         (S.size store.old) (S.size store.new) (S.set store.old) (S.set store.new) }
 {
     let mut picked = Vec::new(alloc);

@@ -23,7 +23,7 @@ returns-in-Ok-clause-replies g c q now set are whole distinct all =
     (
       picked_records set slice,
       reply_of q now set c.args.limits c.args.unit found c.in_order-picked.result.items slice ordered is mine distinct all,
-      c.in-Ok.ensures.sends q now set (record { known = are.known; found = sent }) whole.whole,
+      c.in-Ok.ensures.sends q now set (record { known = are.known; found = sent }) whole,
       tells_of c.args.unit q now set slice c.told_of-told.result (sent_all (IsOwn q now set) c.args.limits found c.in_order-picked.result.items slice ordered is mine) told,
     )
 
@@ -38,7 +38,7 @@ returns-clause-replies g c q now set are whole distinct all =
     let sent = sent_all (IsFound q now set) c.args.limits found c.in_order-picked.result.items slice ordered is are.found in
     breaks_off g.O.Outlet.after g.O.Outlet.gone (g.O.Outlet.state c.args.outlet.now) (g.O.Outlet.state c.send_all.new.outlet) (record { node = q; now = now; limits = c.args.limits; unit = c.args.unit }) set (picked_records set slice) c.in-Err.error
     (reply_of q now set c.args.limits c.args.unit found c.in_order-picked.result.items slice ordered is mine distinct all)
-    (c.in-Err.ensures.sends q now set (record { known = are.known; found = sent }) whole.whole)
+    (c.in-Err.ensures.sends q now set (record { known = are.known; found = sent }) whole)
 
 pub returns-clause-blames : goal.returns-clause-blames
 returns-clause-blames g c q now set are =

@@ -15,7 +15,7 @@ invariant-files g l = record {
   asked : (g.S.Store.loans l.store).block_asked + sum_by g.S.File.Reader.asked l.files.items ≤ (g.S.Store.loans l.fn.store).block_asked + sum_by g.S.File.Reader.asked l.fn.files.items;
   later : g.S.Store.faults l.fn.store ≤ g.S.Store.faults l.store;
   rose : 0 < sum_by g.S.File.Reader.faults l.fn.files.items → (Rose (g.S.Store.faults l.fn.store) (g.S.Store.faults l.store)) ⊎ (0 < sum_by g.S.File.Reader.faults l.files.items);
-  same : IsSameStore (g.S.Store.id l.fn.store) (g.S.Store.id l.store) (g.S.Store.holds l.fn.store) (g.S.Store.holds l.store) (g.S.Store.is_held l.fn.store) (g.S.Store.is_held l.store)
+  same : IsSameStore (g.S.Store.becomes l.fn.store l.store) (g.S.Store.id l.fn.store) (g.S.Store.id l.store) (g.S.Store.holds l.fn.store) (g.S.Store.holds l.store) (g.S.Store.times_held l.fn.store) (g.S.Store.times_held l.store)
       (g.S.Store.size l.fn.store) (g.S.Store.size l.store) (g.S.Store.set l.fn.store) (g.S.Store.set l.store);
 }
 

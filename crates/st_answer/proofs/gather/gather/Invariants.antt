@@ -20,6 +20,6 @@ invariant-entries g l = record {
   home : All (λ f. (g.S.Store.origin f).home ≡ g.S.Store.id l.fn.store) l.files.items;
   later : g.S.Store.faults l.fn.store ≤ g.S.Store.faults l.store;
   loans : LendsMore (length l.files.items) (g.S.Store.loans l.fn.store) (g.S.Store.loans l.store);
-  same : IsSameStore (g.S.Store.id l.fn.store) (g.S.Store.id l.store) (g.S.Store.holds l.fn.store) (g.S.Store.holds l.store) (g.S.Store.is_held l.fn.store) (g.S.Store.is_held l.store)
+  same : IsSameStore (g.S.Store.becomes l.fn.store l.store) (g.S.Store.id l.fn.store) (g.S.Store.id l.store) (g.S.Store.holds l.fn.store) (g.S.Store.holds l.store) (g.S.Store.times_held l.fn.store) (g.S.Store.times_held l.store)
       (g.S.Store.size l.fn.store) (g.S.Store.size l.store) (g.S.Store.set l.fn.store) (g.S.Store.set l.store);
 }

@@ -12,7 +12,7 @@ use Rattle.st_answer.specs.Gathering.{AreSome, HasEach}
 use Rattle.st_answer.proofs.Results.{on_ok, unhurt_map}
 use Rattle.st_answer.proofs.Selecting.{none_read, selected}
 use Rattle.st_answer.proofs.Picking.{packets_stand}
-use Rattle.st_answer.proofs.Staying.{store_trans}
+use Rattle.st_answer.proofs.Staying.{store_trans, still_held}
 use Rattle.st_answer.proofs.gather.gather_one.Goals as goal
 
 pub returns-in-Err-clause-picks : goal.returns-in-Err-clause-picks
@@ -47,7 +47,7 @@ returns-in-Ok-block_of-clause-picks g c set d told lt given whole =
     let e = get_or set c.args.i d in
     let q = c.args.query.now in
     let stays = c.stamp_of-stamp.ensures.stays.others in
-    let held1 = stays.held h c.requires.held in
+    let held1 = still_held stays h c.requires.held in
     let told1 = stays.set h c.requires.held ∙ told in
     let told2 = c.choose.ensures.stays.others.set h held1 ∙ told1 in
     let stamp = c.stamp_of-stamp.ensures.stamp set d told lt in
@@ -79,7 +79,7 @@ returns-in-Ok-block_of-clause-file g c =
     let file = c.heads-result.new.file in
     let old = c.args.files.now.items in
     let stays = c.stamp_of-stamp.ensures.stays in
-    let held1 = stays.others.held h c.requires.held in
+    let held1 = still_held stays.others h c.requires.held in
     let items = c.push_reserved.ensures.items ∙ ap (λ z. z ++ file ∷ []) c.reserve.ensures.items in
     let origin = g.met.S.Store.keeps file c.in-Ok-block_of.file c.heads-result.ensures.same.beside in
     let home = ap (λ o. o.home) origin ∙ (c.in-Ok-block_of.ensures.fresh.home ∙ (c.choose.ensures.stays.id ∙ stays.id)) in
@@ -96,4 +96,4 @@ returns-in-Ok-block_of-clause-file g c =
 
 pub returns-in-Ok-block_of-clause-stays : goal.returns-in-Ok-block_of-clause-stays
 returns-in-Ok-block_of-clause-stays g c =
-    store_trans c.stamp_of-stamp.ensures.stays (store_trans c.choose.ensures.stays c.block_of.ensures.stays)
+    store_trans (g.met.S.Store.becomes_later _ _ _) c.stamp_of-stamp.ensures.stays (store_trans (g.met.S.Store.becomes_later _ _ _) c.choose.ensures.stays c.block_of.ensures.stays)
