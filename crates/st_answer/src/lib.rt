@@ -13,6 +13,8 @@ mod picked;
 mod sending;
 mod slice_pair;
 mod store;
+#[cfg(test)]
+mod tests;
 
 pub use answering::answer;
 pub use errors::{AnswerErr, Told};

@@ -11,6 +11,7 @@ pub const SLICE_STAMP: u64 = 1;
 
 /// A store of one pair over bytes that lie in memory already, for tests. It takes no memory, and
 /// no file of it fails. It holds its set until 2^64 - 1 holds are out.
+#[derive(Drop)]
 pub struct SlicePair<'a> {
     block: &'a [u8],
     index: &'a [u8],
