@@ -1,5 +1,5 @@
 -- A list in ascending order is the only one with its members.
-use Rattle.std.proofs.Common.{◌≡◌, ℕ, ◌<◌, List, [], ◌∷◌, refl, sym, subst, ap, arith, inl, inr, ◌⊎◌, ◌∙◌, get_or, zero, suc, Contains, map}
+use Rattle.std.proofs.Common.{◌≡◌, ℕ, ◌<◌, List, [], ◌∷◌, refl, sym, subst, arith, inl, inr, ◌⊎◌, ◌∙◌, get_or, zero, suc, Contains}
 use Rattle.std.proofs.lemmas.List.Elements.{All-contains, Contains-append_cases, Contains-append_left, Contains-append_right, Contains-push}
 use Rattle.st_answer.specs.Packets.{Packet}
 use Rattle.st_answer.specs.Answer.{Precedes, IsAscending}

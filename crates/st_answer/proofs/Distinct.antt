@@ -1,6 +1,6 @@
 -- Picks of which no two are of one position.
-use Rattle.std.proofs.Common.{◌≡◌, ◌≢◌, ℕ, zero, suc, ◌+◌, ◌*◌, ◌<◌, ◌≤◌, List, [], ◌∷◌, ◌++◌, length, map, get_or, refl, sym, ap, ◌∙◌, subst, arith, Contains, nat_eq, Bool, true, false, cond, ◌&&◌, ◌⊎◌, inl, inr}
-use Rattle.std.specs.Prelude.{All, AllPairs, sum_by}
+use Rattle.std.proofs.Common.{◌≡◌, ◌≢◌, ℕ, zero, suc, ◌<◌, ◌≤◌, List, [], ◌∷◌, ◌++◌, length, get_or, sym, ap, ◌∙◌, arith, Contains, ◌⊎◌, inl, inr}
+use Rattle.std.specs.Prelude.{All, sum_by}
 use Rattle.std.proofs.lemmas.Bool.Decides.{nat_tests}
 use Rattle.std.proofs.lemmas.List.{length-map, get_or-map}
 use Rattle.std.proofs.lemmas.List.Elements.{All-map, All-append, All-head, All-tail, All-contains, Contains-get_or}
@@ -117,13 +117,13 @@ no_more f keeps (p ∷ ps) ys distinct all =
     let moved = IsPermutation-remove ys k (f p) lt (sym is) in
     let count = length_permutation ys (f p ∷ remove ys k) moved in
     let rest = no_more f keeps ps (remove ys k) (distinct_tail p ps distinct) (λ j d lt'.
-        let q = get_or ps j d in
-        let there = Contains-permutation ys (f p ∷ remove ys k) (f q) moved (All-tail (λ p. Contains ys (f p)) p ps all j d lt') in
-        elim (in_cases (f p) (remove ys k) (f q) there) [
-          | inl same ↦ absurd (distinct_head p q ps distinct (Contains-get_or ps j d lt')
-              (sym (keeps p).0 ∙ (ap (λ (x : Packet). x.stamp) same ∙ (keeps q).0)) (sym (keeps p).1 ∙ (ap (λ (x : Packet). x.position) same ∙ (keeps q).1)))
-          | inr later ↦ later
-        ]) in
+    let q = get_or ps j d in
+    let there = Contains-permutation ys (f p ∷ remove ys k) (f q) moved (All-tail (λ p. Contains ys (f p)) p ps all j d lt') in
+    elim (in_cases (f p) (remove ys k) (f q) there) [
+      | inl same ↦ absurd (distinct_head p q ps distinct (Contains-get_or ps j d lt')
+          (sym (keeps p).0 ∙ (ap (λ (x : Packet). x.stamp) same ∙ (keeps q).0)) (sym (keeps p).1 ∙ (ap (λ (x : Packet). x.position) same ∙ (keeps q).1)))
+      | inr later ↦ later
+    ]) in
     omega (arith, count, rest)
 
 -- nor are their lengths together
@@ -137,11 +137,11 @@ no_longer f keeps w (p ∷ ps) ys distinct all =
     let split = sum_by-cons w (f p) (remove ys k) in
     let mine = sum_by-cons (λ p. w (f p)) p ps in
     let rest = no_longer f keeps w ps (remove ys k) (distinct_tail p ps distinct) (λ j d lt'.
-        let q = get_or ps j d in
-        let there = Contains-permutation ys (f p ∷ remove ys k) (f q) moved (All-tail (λ p. Contains ys (f p)) p ps all j d lt') in
-        elim (in_cases (f p) (remove ys k) (f q) there) [
-          | inl same ↦ absurd (distinct_head p q ps distinct (Contains-get_or ps j d lt')
-              (sym (keeps p).0 ∙ (ap (λ (x : Packet). x.stamp) same ∙ (keeps q).0)) (sym (keeps p).1 ∙ (ap (λ (x : Packet). x.position) same ∙ (keeps q).1)))
-          | inr later ↦ later
-        ]) in
+    let q = get_or ps j d in
+    let there = Contains-permutation ys (f p ∷ remove ys k) (f q) moved (All-tail (λ p. Contains ys (f p)) p ps all j d lt') in
+    elim (in_cases (f p) (remove ys k) (f q) there) [
+      | inl same ↦ absurd (distinct_head p q ps distinct (Contains-get_or ps j d lt')
+          (sym (keeps p).0 ∙ (ap (λ (x : Packet). x.stamp) same ∙ (keeps q).0)) (sym (keeps p).1 ∙ (ap (λ (x : Packet). x.position) same ∙ (keeps q).1)))
+      | inr later ↦ later
+    ]) in
     omega (arith, sums, split, mine, rest)

@@ -1,27 +1,26 @@
 -- Picks of a pair more, in a set.
-use Rattle.std.proofs.Common.{Option, ◌≡◌, ℕ, zero, suc, ◌+◌, ◌*◌, ◌<◌, ◌≤◌, List, [], ◌∷◌, ◌++◌, Some, Result, Ok, Err, length, map, take, drop, get_or, refl, sym, ap, ◌∙◌, subst, arith, Contains, ◌⊎◌, inl, inr}
+use Rattle.std.proofs.Common.{Option, ◌≡◌, ℕ, zero, suc, ◌+◌, ◌*◌, ◌<◌, ◌≤◌, List, [], ◌∷◌, ◌++◌, Some, length, map, take, drop, get_or, refl, sym, ap, ◌∙◌, subst, arith, Contains, ◌⊎◌, inl, inr}
 use Rattle.std.specs.Prelude.{All}
-use Rattle.std.specs.List.{sum_by}
-use Rattle.std.proofs.lemmas.List.{map_more, map_push, take_more, length-append, length-map, length-take, get_or-map, get_or_default, map-append, append_cancel_left}
-use Rattle.std.proofs.lemmas.List.Elements.{All-map, All-append, All-weaker, Contains-get_or, Contains-append_cases, Contains-append_left, Contains-append_right}
+use Rattle.std.proofs.lemmas.List.{map_more, map_push, take_more, length-append, length-map, get_or-map, get_or_default, map-append, append_cancel_left}
+use Rattle.std.proofs.lemmas.List.Elements.{All-map, All-append, All-weaker, Contains-append_cases, Contains-append_left, Contains-append_right}
 use Rattle.st_base.specs.Records.{Rec}
 use Rattle.st_disk.specs.Pairs.{Entry, IsFileSet}
 use Rattle.st_query.specs.declared.nodes.Node.{Node}
 use Rattle.st_query.specs.Meaning.{Matches}
 use Rattle.st_block.specs.declared.format.TheConstants.{RECORD_HEAD}
-use Rattle.st_block.specs.Scan.{PositionedRecord, positions_in}
+use Rattle.st_block.specs.Scan.{PositionedRecord}
 use Rattle.st_block.proofs.Finding.{record_bytes}
 use Rattle.st_block.proofs.Unhurt.{one_given_there}
 use Rattle.st_rows.specs.Whole.{IsWhole}
 use Rattle.st_answer.specs.declared.picked.Picked.{Picked}
-use Rattle.st_answer.specs.Packets.{Packet, IsWholePair, IsPacketOf, IsPacketIn, IsWholeSet}
-use Rattle.st_answer.specs.Picks.{pick_of, picks_of, record_in, packet_in, blocks_of, IsPickOf, IsFoundIn, IsFound, IsPlaced, HasAllOf, AreReadFor, AreDistinct}
+use Rattle.st_answer.specs.Packets.{Packet, IsWholePair}
+use Rattle.st_answer.specs.Picks.{pick_of, picks_of, record_in, packet_in, blocks_of, IsPickOf, IsFoundIn, IsFound, IsPlaced, HasAllOf, AreReadFor}
 use Rattle.st_answer.specs.declared.errors.AnswerErr.{AnswerErr}
 use Rattle.st_answer.specs.declared.errors.AnswerErr.TheVariants as error
 use Rattle.st_answer.specs.Replies.{IsNoWrite}
 use Rattle.st_answer.specs.Heads.{IsOf, AddsPicks, IsReadErr, NamesStamp}
 use Rattle.st_answer.specs.Gathering.{AreSome, HasEach}
-use Rattle.st_answer.proofs.Picking.{no_entry, packet_at, block_at, record_at}
+use Rattle.st_answer.proofs.Picking.{no_entry, packet_at, record_at}
 use Rattle.st_answer.proofs.Distinct.{distinct_more, stamps_rise}
 
 -- the body in the block file is that of the packet
@@ -88,10 +87,12 @@ reads_more q now set i reads asked reads' asked' given xs ps rises lt whole some
     record {
       found = All-append P ps new are.found (λ k d below.
           let p = get_or new k d in
-          let (place, stamp) = of k d below in
-          (omega (arith, place, lt), λ d' inside.
-              let same : get_or set p.place d' ≡ e = ap (λ n. get_or set n d') place ∙ get_or_default set i d' no_entry lt in
-              subst (λ e. IsFoundIn q now e p) (sym same) (record { stamp = stamp; pick = λ pair. picks k d below })));
+          let (place, stamp) = of k d below in (
+            omega (arith, place, lt),
+            λ d' inside.
+                let same : get_or set p.place d' ≡ e = ap (λ n. get_or set n d') place ∙ get_or_default set i d' no_entry lt in
+                subst (λ e. IsFoundIn q now e p) (sym same) (record { stamp = stamp; pick = λ pair. picks k d below }),
+          ));
       distinct = distinct_more i e.stamp ps xs (low_stamps q now set i ps rises lt places (All-weaker P (IsFound q now set) (λ p h. h.1) ps are.found)) are.distinct some.rising;
       reads_most = omega (arith, count, many, are.reads_most, less);
       asked_most = omega (arith, count, many, are.asked_most, lower);
@@ -175,8 +176,8 @@ pub found_next : (q : Node) (now : ℕ) (set : List Entry) (i s : ℕ) (old new 
 found_next q now set i s old new lt stamp (more, is, all) found picks =
     let e = get_or set i no_entry in
     let more_found = found_new q now set i more lt (subst (λ s. All (IsOf i s) more) stamp all) (λ (given, whole).
-        let one = picks given whole in
-        subst (All (IsPickOf q now e)) (added_is old new more (picks_of i e.stamp one.xs) is one.is) (are_picks q now e given whole one.xs one.some i e.stamp)) in
+    let one = picks given whole in
+    subst (All (IsPickOf q now e)) (added_is old new more (picks_of i e.stamp one.xs) is one.is) (are_picks q now e given whole one.xs one.some i e.stamp)) in
     subst (All (IsFound q now set)) (sym is) (All-append (IsFound q now set) old more found more_found)
 
 -- errors of reading

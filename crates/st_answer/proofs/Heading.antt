@@ -1,11 +1,9 @@
 -- Heads that are read one after another.
-use Rattle.std.proofs.Common.{Option, ◌≡◌, ℕ, ◌+◌, ◌<◌, List, [], ◌∷◌, ◌++◌, Some, Result, Ok, Err, length, map, take, get_or, refl, sym, ap, ◌∙◌, subst, append_assoc, arith}
+use Rattle.std.proofs.Common.{Option, ◌≡◌, ℕ, ◌+◌, ◌<◌, List, [], ◌∷◌, ◌++◌, length, map, take, get_or, sym, ap, ◌∙◌, subst, append_assoc, arith}
 use Rattle.std.proofs.lemmas.List.{map_more, get_or-map, length-map}
 use Rattle.std.proofs.lemmas.List.Elements.{All-push}
-use Rattle.std.proofs.lemmas.Grind.{common_steps}
-use Rattle.std.specs.Prelude.{All}
 use Rattle.st_block.specs.Record.{IsRecordAt}
-use Rattle.st_block.specs.Scan.{PositionedRecord, positions_in}
+use Rattle.st_block.specs.Scan.{PositionedRecord}
 use Rattle.st_answer.specs.declared.picked.Picked.{Picked}
 use Rattle.st_answer.specs.Picks.{pick_of, picks_of}
 use Rattle.st_answer.specs.Heads.{IsOf, AddsPicks, AreAt}

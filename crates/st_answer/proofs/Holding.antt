@@ -1,6 +1,5 @@
 -- A set that was held and given back.
-use Rattle.std.proofs.Common.{Option, ◌≡◌, ℕ, List, ◌∷◌, Some, Bool, true, false, cond, refl, sym, ap, ◌∙◌, arith}
-use Rattle.std.specs.Prelude.{count_by}
+use Rattle.std.proofs.Common.{Option, ◌≡◌, List, cond, ◌∙◌, arith}
 use Rattle.std.proofs.lemmas.List.Sums.{sum_by-cons}
 use Rattle.st_disk.specs.Pairs.{Entry}
 use Rattle.st_answer.specs.Sets.{KeepsSets, AddsSet, DropsSet}

@@ -1,23 +1,21 @@
 -- The index of a whole pair.
-use Rattle.std.proofs.Common.{Option, ◌≡◌, ℕ, zero, suc, ◌+◌, ◌*◌, ◌^◌, ◌<◌, ◌≤◌, List, [], ◌∷◌, Some, None, Bool, length, map, take, drop, get_or, refl, sym, ap, ◌∙◌, subst, arith, Contains}
+use Rattle.std.proofs.Common.{Option, ◌≡◌, ℕ, zero, suc, ◌*◌, ◌^◌, ◌<◌, ◌≤◌, List, [], ◌∷◌, Some, None, Bool, length, get_or, sym, ap, ◌∙◌, arith}
 use Rattle.std.proofs.Math.Nat.{mul-le-mul}
-use Rattle.std.proofs.lemmas.List.{length-map, get_or-map}
 use Rattle.std.proofs.lemmas.List.Elements.{Contains-get_or}
-use Rattle.st_base.specs.Records.{Rec}
 use Rattle.st_tblock.specs.Block.{RowView}
 use Rattle.st_table.specs.TableFile.{IsTable, footer_at}
 use Rattle.st_table.specs.Index.{Entered}
 use Rattle.st_table.specs.Marks.{Checked}
 use Rattle.st_table.specs.declared.index.IndexEntry.{IndexEntry}
-use Rattle.st_block.specs.declared.format.TheConstants.{MAX_BLOCKS, MAX_BLOCK, RECORD_HEAD}
-use Rattle.st_block.specs.BlockText.{BlockText, blocks}
+use Rattle.st_block.specs.declared.format.TheConstants.{MAX_BLOCKS, MAX_BLOCK}
+use Rattle.st_block.specs.BlockText.{blocks}
 use Rattle.st_block.specs.Scan.{PositionedRecord, IsFile, records_in}
 use Rattle.st_block.proofs.Finding.{record_bytes}
 use Rattle.st_block.proofs.Rising.{file_length}
-use Rattle.st_rows.specs.Rows.{PositionsRise, AreRowsOf}
+use Rattle.st_rows.specs.Rows.{PositionsRise}
 use Rattle.st_rows.specs.Whole.{IsWhole}
 use Rattle.st_rows.proofs.Packets.{file_packets}
-use Rattle.st_eval.specs.Selection.{IsEntered, IsOver, IsIndexOf}
+use Rattle.st_eval.specs.Selection.{IsOver, IsIndexOf}
 use Rattle.st_answer.proofs.Heading.{no_record}
 use Rattle.st_answer.proofs.Picking.{packet_at}
 

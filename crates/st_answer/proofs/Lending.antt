@@ -1,8 +1,8 @@
 -- Files that are lent and come back, in a store's counts.
-use Rattle.std.proofs.Common.{◌≡◌, ℕ, ◌+◌, ◌-◌, ◌^◌, ◌<◌, ◌≤◌, refl, arith}
+use Rattle.std.proofs.Common.{ℕ, ◌<◌, refl, arith}
 use Rattle.st_disk.specs.declared.naming.Kind.{Kind}
 use Rattle.st_disk.specs.declared.naming.Kind.TheVariants as kind
-use Rattle.st_shelf.specs.Loans.{LoansView, lend, take_back}
+use Rattle.st_shelf.specs.Loans.{LoansView, take_back}
 use Rattle.st_answer.specs.Lending.{TakesBack, LendsMore, LendsNone}
 
 -- one file came back

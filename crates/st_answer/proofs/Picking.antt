@@ -1,10 +1,9 @@
 -- What a pick of a set stands for.
-use Rattle.std.proofs.Common.{Option, ◌≡◌, ℕ, ◌+◌, ◌<◌, List, [], ◌∷◌, ◌++◌, Some, length, map, take, drop, get_or, refl, sym, ap, ◌∙◌, subst, arith, Contains}
-use Rattle.std.specs.Prelude.{All, slice_get}
+use Rattle.std.proofs.Common.{Option, ◌≡◌, ℕ, ◌<◌, List, [], Some, length, map, get_or, refl, sym, ap, ◌∙◌, subst, arith, Contains}
+use Rattle.std.specs.Prelude.{All}
 use Rattle.std.proofs.lemmas.Option.{slice_get-get_or}
 use Rattle.std.proofs.lemmas.List.Elements.{Contains-get_or}
 use Rattle.std.proofs.lemmas.List.{get_or-map, length-map}
-use Rattle.st_base.specs.Records.{Rec}
 use Rattle.st_disk.specs.Pairs.{Entry}
 use Rattle.st_query.specs.declared.nodes.Node.{Node}
 use Rattle.st_block.specs.Record.{IsRecordAt}
@@ -18,7 +17,7 @@ use Rattle.st_answer.specs.Heads.{NamesStamp, IsNoDamage}
 use Rattle.st_answer.specs.Replies.{BlamesIn}
 use Rattle.st_answer.specs.Sending.{ArePickedOf, StopsAtOne}
 use Rattle.st_answer.proofs.Files.{known_at}
-use Rattle.st_answer.specs.Picks.{pick_of, record_in, packet_in, blocks_of, picked_records, IsPickOf, IsFoundIn, IsFound}
+use Rattle.st_answer.specs.Picks.{pick_of, record_in, packet_in, blocks_of, picked_records, IsPickOf, IsFoundIn}
 
 -- a pick, and an entry, for where a list has none
 abbrev pub no_pick : Picked

@@ -1,12 +1,11 @@
 -- What is read is read for the answer.
-use Rattle.std.proofs.Common.{◌≡◌, ℕ, ◌+◌, ◌*◌, ◌<◌, ◌≤◌, List, [], ◌∷◌, length, map, get_or, refl, sym, ap, ◌∙◌, subst, arith, Contains}
+use Rattle.std.proofs.Common.{◌≡◌, ℕ, ◌+◌, ◌≤◌, List, [], ◌∷◌, length, get_or, refl, arith, Contains}
 use Rattle.std.specs.Prelude.{All, sum_by}
 use Rattle.std.proofs.lemmas.List.Sums.{sum_by-cons}
 use Rattle.std.proofs.lemmas.List.Elements.{All-head, All-tail}
 use Rattle.st_base.specs.Records.{Rec}
 use Rattle.st_disk.specs.Pairs.{Entry}
 use Rattle.st_query.specs.declared.nodes.Node.{Node}
-use Rattle.st_block.specs.declared.format.TheConstants.{RECORD_HEAD}
 use Rattle.st_answer.specs.declared.picked.Picked.{Picked}
 use Rattle.st_answer.specs.Packets.{Packet, IsWholeSet, records_of}
 use Rattle.st_answer.specs.Answer.{IsAnswer}

@@ -1,7 +1,6 @@
 -- Picks in order are the answer, and their records the reply.
-use Rattle.std.proofs.Common.{Option, ◌≡◌, ℕ, zero, suc, ◌+◌, ◌*◌, ◌-◌, ◌^◌, ◌<◌, ◌≤◌, List, [], ◌∷◌, ◌++◌, Some, Result, Ok, Err, length, map, take, get_or, refl, sym, ap, ◌∙◌, subst, arith, Contains, ◌⊎◌, inl, inr, min, false}
+use Rattle.std.proofs.Common.{Option, ◌≡◌, ℕ, suc, ◌+◌, ◌<◌, ◌≤◌, List, [], ◌∷◌, Some, length, map, take, get_or, refl, sym, ap, ◌∙◌, subst, arith, Contains, ◌⊎◌, inl, inr, false}
 use Rattle.std.specs.Prelude.{All, sum_by}
-use Rattle.std.specs.List.{flat_map}
 use Rattle.std.specs.Ordering.{is_lt}
 use Rattle.std.specs.List.Sorted.{IsPermutation}
 use Rattle.std.proofs.lemmas.Bool.Decides.{nat_tests}
@@ -20,7 +19,7 @@ use Rattle.st_answer.specs.declared.picked.Picked.{Picked}
 use Rattle.st_answer.specs.contracts.picked.PickedOrd.TheImpl as derived
 use Rattle.st_answer.specs.Packets.{Packet, IsPacketIn, IsWholeSet, records_of}
 use Rattle.st_answer.specs.Answer.{Precedes, IsAscending, IsAnswer}
-use Rattle.st_answer.specs.Picks.{record_in, packet_in, picked_records, IsPickOf, IsFound, IsPlaced, blocks_of, AreDistinct, HasAllOf}
+use Rattle.st_answer.specs.Picks.{record_in, packet_in, picked_records, IsFound, IsPlaced, blocks_of, AreDistinct, HasAllOf}
 use Rattle.st_answer.specs.Limited.{Limited}
 use Rattle.st_pcap.specs.declared.forms.Unit as unit
 use Rattle.st_answer.specs.Order.{AreInOrder, HaveLengths, AreWithin, IsOrdered}
@@ -42,12 +41,16 @@ own q now set p whole lt found =
     let is = at.pick (whole p.place no_entry lt) in
     let same : record_in e.block p ≡ (packet_in set p).packet = sym (record_at set p lt) in
     record {
-      there = (e, Contains-get_or set p.place no_entry lt, record {
-        stamp = at.stamp;
-        given = is.given;
-        whole = is.whole;
-        there = subst (λ r. Contains is.given (p.position, r)) same is.there;
-      });
+      there = (
+        e,
+        Contains-get_or set p.place no_entry lt,
+        record {
+          stamp = at.stamp;
+          given = is.given;
+          whole = is.whole;
+          there = subst (λ r. Contains is.given (p.position, r)) same is.there;
+        },
+      );
       matches = subst (Matches q now) same is.matches;
       len = is.len ∙ ap (λ (r : Rec). length r.body) same;
     }

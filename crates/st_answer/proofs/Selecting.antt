@@ -1,13 +1,13 @@
 -- The packets at the positions that match.
-use Rattle.std.proofs.Common.{◌≡◌, ℕ, zero, suc, ◌+◌, ◌<◌, ◌≤◌, List, [], ◌∷◌, length, map, get_or, refl, sym, ap, ◌∙◌, subst, arith, Contains, IsTrue, nat_eq, Bool, true, false, inl, inr}
+use Rattle.std.proofs.Common.{◌≡◌, ℕ, ◌<◌, List, [], ◌∷◌, length, get_or, refl, sym, ap, ◌∙◌, subst, arith, Contains}
 use Rattle.std.specs.Prelude.{All}
 use Rattle.std.proofs.lemmas.List.{get_or-map, length-map}
-use Rattle.std.proofs.lemmas.List.Elements.{All-contains, All-cons, All-nil, All-head, All-tail, Contains-get_or}
+use Rattle.std.proofs.lemmas.List.Elements.{All-cons, All-nil, All-head, All-tail, Contains-get_or}
 use Rattle.st_base.specs.Records.{Rec}
 use Rattle.st_block.specs.Scan.{PositionedRecord, positions_in, IsFile}
 use Rattle.st_query.specs.declared.nodes.Node.{Node}
 use Rattle.st_query.specs.Meaning.{Matches}
-use Rattle.st_rows.specs.Positions.{has, Rising}
+use Rattle.st_rows.specs.Positions.{Rising}
 use Rattle.st_rows.proofs.OneList.{has_from, has_to}
 use Rattle.st_rows.proofs.Packets.{one_packet_at, file_packets}
 use Rattle.st_eval.specs.Selection.{MatchesAt, AreMatching}

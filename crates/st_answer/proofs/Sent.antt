@@ -1,5 +1,5 @@
 -- One record more was sent, or none.
-use Rattle.std.proofs.Common.{Option, ◌≡◌, ℕ, ◌+◌, ◌<◌, List, [], ◌∷◌, ◌++◌, Some, length, map, take, drop, get_or, refl, sym, ap, ◌∙◌, subst, Result, Ok, Err}
+use Rattle.std.proofs.Common.{Option, ◌≡◌, ℕ, ◌+◌, ◌<◌, List, [], ◌∷◌, ◌++◌, length, take, drop, get_or, sym, subst, Result, Ok, Err}
 use Rattle.std.specs.List.{flat_map}
 use Rattle.st_base.specs.Records.{Rec}
 use Rattle.st_base.specs.Outlets.{IsPrefix, SentAll, SentPart}

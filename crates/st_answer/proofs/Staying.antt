@@ -1,5 +1,5 @@
 -- A store that stays what it is over two calls.
-use Rattle.std.proofs.Common.{Option, ◌≡◌, ℕ, List, [], ◌++◌, Some, ◌+◌, ◌<◌, ◌⊎◌, inl, inr, refl, sym, ap, ◌∙◌, append_assoc, append-nil, arith}
+use Rattle.std.proofs.Common.{Option, ◌≡◌, ℕ, List, [], ◌++◌, Some, ◌<◌, inl, inr, sym, ap, ◌∙◌, append_assoc, append-nil, arith}
 use Rattle.st_disk.specs.Pairs.{Entry}
 use Rattle.st_disk.specs.Events.{Event}
 use Rattle.st_answer.specs.Sets.{GoesOn}
@@ -43,24 +43,24 @@ pub held_back : {H : Type 0} (one : H) {ta tb tc td : H → ℕ} {sa sb sc sd : 
     → HoldsOneMore one ta tb sa sb ea eb → StayHeld tb tc sb sc eb ec → HoldsOneLess one tc td sc sd ec ed → StayHeld ta td sa sd ea ed
 held_back {H} one {ta} {tb} {tc} {td} more stay less =
     let times : (h : H) → td h ≡ ta h = λ h.
-        elim (more.others h) [
-          | inl is ↦
-              let first = ap ta is in
-              let last = ap td is in
-              omega (arith, first, last, more.more, stay.times one, less.less)
-          | inr same ↦ elim (less.others h) [
-            | inl is ↦
-                let first = ap ta is in
-                let last = ap td is in
-                omega (arith, first, last, more.more, stay.times one, less.less)
-            | inr same' ↦ omega (arith, same, stay.times h, same')
-          ]
-        ] in
+    elim (more.others h) [
+      | inl is ↦
+          let first = ap ta is in
+          let last = ap td is in
+          omega (arith, first, last, more.more, stay.times one, less.less)
+      | inr same ↦ elim (less.others h) [
+        | inl is ↦
+            let first = ap ta is in
+            let last = ap td is in
+            omega (arith, first, last, more.more, stay.times one, less.less)
+        | inr same' ↦ omega (arith, same, stay.times h, same')
+      ]
+    ] in
     let grew : (h : H) → 0 < ta h → 0 < tb h = λ h out.
-        elim (more.others h) [
-          | inl is ↦ let first = ap ta is in let now = ap tb is in omega (arith, first, now, more.more, out)
-          | inr same ↦ omega (arith, same, out)
-        ] in
+    elim (more.others h) [
+      | inl is ↦ let first = ap ta is in let now = ap tb is in omega (arith, first, now, more.more, out)
+      | inr same ↦ omega (arith, same, out)
+    ] in
     record {
       times = times;
       size = λ h out. less.size h (omega (arith, times h, out)) ∙ (stay.size h (grew h out) ∙ more.size h out);

@@ -1,12 +1,11 @@
 -- How many bytes the pieces have.
-use Rattle.std.proofs.Common.{Option, ◌≡◌, ℕ, ◌+◌, ◌-◌, ◌*◌, ◌^◌, ◌≤◌, List, [], ◌∷◌, ◌++◌, Some, Result, Ok, Err, length, map, take, refl, sym, ap, ◌∙◌, subst, arith, min, inl, inr}
+use Rattle.std.proofs.Common.{Option, ◌≡◌, ℕ, ◌+◌, List, [], ◌∷◌, length, refl, sym, ◌∙◌, arith, inr}
 use Rattle.std.specs.Prelude.{All, sum_by}
 use Rattle.std.specs.List.{flat_map}
 use Rattle.std.proofs.lemmas.List.{length-map}
 use Rattle.std.proofs.lemmas.List.Elements.{All-head, All-tail}
 use Rattle.std.proofs.lemmas.List.Sums.{sum_by-append, sum_by-cons}
 use Rattle.st_base.specs.Records.{Rec}
-use Rattle.st_base.specs.Outlets.{SentAll}
 use Rattle.st_disk.specs.Pairs.{Entry}
 use Rattle.st_query.specs.declared.nodes.Node.{Node}
 use Rattle.st_pcap.specs.declared.forms.Unit as unit

@@ -27,8 +27,8 @@ pub record ReadsAtMost (before now : LoansView) (ps : List Packet) : Type 0 wher
 -- answer and no more
 abbrev pub ReadsForAnswer : Node → ℕ → Option (List Entry) → LoansView → LoansView → Type 0
 ReadsForAnswer q now asked before after =
-    (set : List Entry) (ps : List Packet) → asked ≡ Some set → IsWholeSet set → IsAnswer q now set ps
-    → ReadsAtMost before after ps
+    (set : List Entry) (ps : List Packet) → asked ≡ Some set → IsWholeSet set
+    → IsAnswer q now set ps → ReadsAtMost before after ps
 
 -- if the set that was held is known and its pairs are whole, files were read so often, for so many
 -- bytes, as its answer allows

@@ -1,5 +1,5 @@
 -- What gathering the picks of a held set gives.
-use Rattle.std.specs.Prelude.{◌≡◌, ℕ, ◌+◌, ◌*◌, ◌<◌, ◌≤◌, ◌⊎◌, List, [], ◌∷◌, ◌++◌, length, map, take, All, Contains, Option, Some, Result, MatchResult, OnOk, IfErr, IsErrOf}
+use Rattle.std.specs.Prelude.{◌≡◌, ℕ, ◌+◌, ◌*◌, ◌<◌, ◌≤◌, ◌⊎◌, List, [], ◌∷◌, ◌++◌, length, map, All, Contains, Option, Some, Result, OnOk, IfErr, IsErrOf}
 use Rattle.st_base.specs.Faults.{Rose}
 use Rattle.st_block.specs.declared.format.TheConstants.{RECORD_HEAD}
 use Rattle.st_block.specs.Scan.{PositionedRecord, positions_in}
@@ -7,12 +7,11 @@ use Rattle.st_disk.specs.Pairs.{Entry}
 use Rattle.st_query.specs.declared.nodes.Node.{Node}
 use Rattle.st_query.specs.Meaning.{Matches}
 use Rattle.st_rows.specs.Positions.{Rising}
-use Rattle.st_rows.specs.Whole.{IsWhole}
 use Rattle.st_answer.specs.declared.picked.Picked.{Picked}
 use Rattle.st_answer.specs.declared.errors.AnswerErr.{AnswerErr}
 use Rattle.st_answer.specs.declared.errors.AnswerErr.TheVariants as error
 use Rattle.st_answer.specs.Packets.{IsWholeSet}
-use Rattle.st_answer.specs.Picks.{picks_of, blocks_of, IsPlaced, IsFound, HasAllOf, AreReadFor}
+use Rattle.st_answer.specs.Picks.{picks_of, HasAllOf, AreReadFor}
 use Rattle.st_answer.specs.Heads.{AddsPicks, IsReadErr, Unhurt}
 use Rattle.st_answer.specs.Stores.{OfEntry}
 use Rattle.st_answer.specs.Replies.{IsNoWrite, BlamesIn}
@@ -48,21 +47,22 @@ pub record AddsOfPair {T : Type 0} (held : Option (List Entry)) (place : ℕ) (o
 
 -- the block file of the pair at this place was lent, and is the last of the files
 pub record AddsFile {T F : Type 0} (content : F → Option (List ℕ)) (home : F → ℕ) (id : ℕ)
-    (held : Option (List Entry)) (place : ℕ) (old new : List F) (result : Result T AnswerErr) : Type 0
-    where
+    (held : Option (List Entry)) (place : ℕ) (old new : List F)
+    (result : Result T AnswerErr) : Type 0 where
   pub at_home : All (λ f. home f ≡ id) old → All (λ f. home f ≡ id) new
   pub more : OnOk result (length new ≡ length old + 1)
   pub last : OnOk result
       (OfEntry held place (λ e. map content new ≡ map content old ++ Some e.block ∷ []))
 
 -- a fault of the disk was the store's, or that of a file that is still to be closed
-pub record HasFaultCause {T : Type 0} (before now of_files : ℕ) (result : Result T AnswerErr) : Type 0
-    where
+pub record HasFaultCause {T : Type 0} (before now of_files : ℕ)
+    (result : Result T AnswerErr) : Type 0 where
   pub later : before ≤ now
   pub failed : IsErrOf result error.DiskFault → Rose before now ⊎ (0 < of_files)
 
 -- if the set is known, the picks are of its packets that match, and lie in the files
-abbrev pub PicksFound : Node → ℕ → Option (List Entry) → List (Option (List ℕ)) → List Picked → Type 0
+abbrev pub PicksFound :
+    Node → ℕ → Option (List Entry) → List (Option (List ℕ)) → List Picked → Type 0
 PicksFound q now held contents ps =
     (set : List Entry) → held ≡ Some set → ArePickedOf q now set contents ps
 

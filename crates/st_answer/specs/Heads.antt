@@ -1,13 +1,12 @@
 -- What reading the heads of one block file gives.
-use Rattle.std.specs.Prelude.{◌≡◌, ℕ, ◌+◌, ◌*◌, ◌≤◌, List, [], ◌∷◌, ◌++◌, length, All, Option, Result, MatchResult}
-use Rattle.st_base.specs.Records.{Rec}
+use Rattle.std.specs.Prelude.{◌≡◌, ℕ, ◌≤◌, List, ◌++◌, All, Option, Result, MatchResult}
 use Rattle.st_block.specs.declared.format.TheConstants.{MAX_NSEC}
 use Rattle.st_block.specs.Scan.{PositionedRecord, positions_in}
 use Rattle.st_block.specs.Record.{IsRecordAt}
 use Rattle.st_answer.specs.declared.picked.Picked.{Picked}
 use Rattle.st_answer.specs.declared.errors.AnswerErr.{AnswerErr}
 use Rattle.st_answer.specs.declared.errors.AnswerErr.TheVariants as error
-use Rattle.st_answer.specs.Picks.{pick_of, picks_of}
+use Rattle.st_answer.specs.Picks.{picks_of}
 
 -- a pick of the pair at this place, with this stamp
 pub record IsOf (pair_place pair_stamp : ℕ) (p : Picked) : Type 0 where
@@ -47,13 +46,15 @@ abbrev pub Unhurt : {T : Type 0} → (T → Type 0) → Result T AnswerErr → T
 Unhurt P result = MatchResult result P IsNoDamage
 
 -- these records are at these positions of a file with this content
-pub record AreAt (content : Option (List ℕ)) (positions : List ℕ) (xs : List PositionedRecord) : Type 0
-    where
+pub record AreAt (content : Option (List ℕ)) (positions : List ℕ)
+    (xs : List PositionedRecord) : Type 0 where
   pub order : positions ≡ positions_in xs
   pub each : All (λ (x : PositionedRecord). IsRecordAt content x.0 x.1) xs
 
 -- if the file has these records at these positions, their picks were added
-abbrev pub PicksRecords : {T : Type 0} → ℕ → ℕ → Option (List ℕ) → List ℕ → List Picked → List Picked → Result T AnswerErr → Type 0
+abbrev pub PicksRecords :
+    {T : Type 0} → ℕ → ℕ → Option (List ℕ) → List ℕ → List Picked → List Picked
+    → Result T AnswerErr → Type 0
 PicksRecords place stamp content positions old new result =
     (xs : List PositionedRecord) → AreAt content positions xs
     → Unhurt (λ t. new ≡ old ++ picks_of place stamp xs) result

@@ -16,4 +16,5 @@ OneAnswer =
 -- and one reply at most
 abbrev pub OneReply : Type 0
 OneReply =
-    (q : Question) (set : List Entry) (rs qs : List Rec) → IsReply q set rs → IsReply q set qs → rs ≡ qs
+    (q : Question) (set : List Entry) (rs qs : List Rec)
+    → IsReply q set rs → IsReply q set qs → rs ≡ qs

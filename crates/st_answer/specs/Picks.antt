@@ -1,13 +1,11 @@
 -- The packets whose heads were read, as numbers beside the bytes of their block files.
-use Rattle.std.specs.Prelude.{◌≡◌, ℕ, ◌+◌, ◌*◌, ◌<◌, ◌≤◌, List, [], ◌∷◌, ◌++◌, length, take, drop, map, All, Contains, Option, Some, slice_index_or, sum_by, cond, nat_eq, ◌&&◌}
+use Rattle.std.specs.Prelude.{◌≡◌, ℕ, ◌+◌, ◌*◌, ◌<◌, ◌≤◌, List, [], length, take, drop, map, All, Contains, slice_index_or, sum_by, cond, nat_eq, ◌&&◌}
 use Rattle.st_base.specs.Records.{Rec}
 use Rattle.st_disk.specs.Pairs.{Entry}
 use Rattle.st_query.specs.declared.nodes.Node.{Node}
 use Rattle.st_query.specs.Meaning.{Matches}
 use Rattle.st_block.specs.declared.format.TheConstants.{RECORD_HEAD, MAX_NSEC}
-use Rattle.st_block.specs.Scan.{PositionedRecord, positions_in}
-use Rattle.st_block.specs.Record.{IsRecordAt}
-use Rattle.st_rows.specs.Positions.{Rising}
+use Rattle.st_block.specs.Scan.{PositionedRecord}
 use Rattle.st_rows.specs.Whole.{IsWhole}
 use Rattle.st_answer.specs.declared.picked.Picked.{Picked}
 use Rattle.st_answer.specs.Packets.{Packet, IsWholePair, IsPacketIn}
@@ -71,7 +69,8 @@ pub record IsFoundIn (q : Node) (now : ℕ) (e : Entry) (p : Picked) : Type 0 wh
 
 -- the pick is so of the pair at its place in the set
 abbrev pub IsFound : Node → ℕ → List Entry → Picked → Type 0
-IsFound q now set p = (d : Entry) → p.place < length set → IsFoundIn q now (slice_index_or set p.place d) p
+IsFound q now set p =
+    (d : Entry) → p.place < length set → IsFoundIn q now (slice_index_or set p.place d) p
 
 -- the pick's place is one of so many, and its nanoseconds are less than a second
 pub record IsPlaced (n : ℕ) (p : Picked) : Type 0 where
@@ -89,12 +88,13 @@ AreDistinct ps = (stamp position : ℕ) → sum_by (is_at stamp position) ps ≤
 -- each packet of the entries that matches is picked
 abbrev pub HasAllOf : Node → ℕ → List Entry → List Entry → List Picked → Type 0
 HasAllOf q now set entries ps =
-    (x : Packet) → IsPacketIn entries x → Matches q now x.packet → Contains (map (packet_in set) ps) x
+    (x : Packet) → IsPacketIn entries x → Matches q now x.packet
+    → Contains (map (packet_in set) ps) x
 
 -- picks for which so many reads were made, for so many bytes: of packets of the set that match, no
 -- two at one position
-pub record AreReadFor (q : Node) (now : ℕ) (set : List Entry) (reads asked : ℕ) (ps : List Picked) : Type 0
-    where
+pub record AreReadFor (q : Node) (now : ℕ) (set : List Entry) (reads asked : ℕ)
+    (ps : List Picked) : Type 0 where
   pub found : All (λ p. (p.place < length set) × IsFound q now set p) ps
   pub distinct : AreDistinct ps
   pub reads_most : reads ≤ length ps

@@ -36,14 +36,18 @@ pub record Tells (u : unit.Unit) (rs : List Rec) (told : Told) : Type 0 where
   pub bytes : told.bytes ≡ min (sum_by length (Pieces rs u)) (2 ^ 64 - 1)
 
 -- nothing was sent, or exactly the pieces of a prefix of the reply
-abbrev pub SendsSome : {S : Type 0} → (S → List ℕ → S) → Option S → Option S → Question → List Entry → Type 0
+abbrev pub SendsSome :
+    {S : Type 0} → (S → List ℕ → S) → Option S → Option S → Question → List Entry → Type 0
 SendsSome after old new q set =
     (new ≡ old)
-    ⊎ ((rs : List Rec) × IsReply q set rs × (n : ℕ) × SentAll after old new (Pieces (take n rs) q.unit))
+    ⊎ ((rs : List Rec) × IsReply q set rs
+    × (n : ℕ) × SentAll after old new (Pieces (take n rs) q.unit))
 
 -- an error ends it: after a failure of the outlet a part of the reply was sent; after any other
 -- nothing was, or the pieces of a prefix
-abbrev pub BreaksOff : {S : Type 0} → (S → List ℕ → S) → (S → List ℕ) → Option S → Option S → Question → List Entry → AnswerErr → Type 0
+abbrev pub BreaksOff :
+    {S : Type 0} → (S → List ℕ → S) → (S → List ℕ) → Option S → Option S → Question → List Entry
+    → AnswerErr → Type 0
 BreaksOff after gone old new q set error.WriteFault =
     (rs : List Rec) × IsReply q set rs × SentPart after gone old new (Pieces rs q.unit)
 BreaksOff after gone old new q set error.DiskFault = SendsSome after old new q set
@@ -51,14 +55,19 @@ BreaksOff after gone old new q set (error.Damaged stamp damage) = SendsSome afte
 BreaksOff after gone old new q set error.NoMemory = SendsSome after old new q set
 
 -- the pieces of the reply were sent, and their number is told; or an error ended it
-abbrev pub Replies : {S : Type 0} → (S → List ℕ → S) → (S → List ℕ) → Option S → Option S → Question → List Entry → Result Told AnswerErr → Type 0
+abbrev pub Replies :
+    {S : Type 0} → (S → List ℕ → S) → (S → List ℕ) → Option S → Option S → Question → List Entry
+    → Result Told AnswerErr → Type 0
 Replies after gone old new q set result =
     MatchResult result
-    (λ told. (rs : List Rec) × IsReply q set rs × SentAll after old new (Pieces rs q.unit) × Tells q.unit rs told)
+    (λ told. (rs : List Rec) × IsReply q set rs
+    × SentAll after old new (Pieces rs q.unit) × Tells q.unit rs told)
     (BreaksOff after gone old new q set)
 
 -- if the set that was held is known, and all its pairs are whole
-abbrev pub RepliesFor : {S : Type 0} → (S → List ℕ → S) → (S → List ℕ) → Option S → Option S → Question → Option (List Entry) → Result Told AnswerErr → Type 0
+abbrev pub RepliesFor :
+    {S : Type 0} → (S → List ℕ → S) → (S → List ℕ) → Option S → Option S → Question
+    → Option (List Entry) → Result Told AnswerErr → Type 0
 RepliesFor after gone old new q asked result =
     (set : List Entry) → asked ≡ Some set → IsWholeSet set → Replies after gone old new q set result
 
@@ -83,7 +92,8 @@ IsNoWrite error.NoMemory = Unit {0}
 
 -- one hold was taken, of all that was seen before and maybe more; or there was no memory for one,
 -- and nothing was sent
-abbrev pub AsksOnce : {S T : Type 0} → HoldsView → HoldsView → Option S → Option S → Result T AnswerErr → Type 0
+abbrev pub AsksOnce :
+    {S T : Type 0} → HoldsView → HoldsView → Option S → Option S → Result T AnswerErr → Type 0
 AsksOnce before after old new result =
     (CountsOn before.asks after.asks 1 × GoesOn before.seen after.took)
     ⊎ ((after.asks ≡ before.asks) × (after.took ≡ before.took) × (new ≡ old)

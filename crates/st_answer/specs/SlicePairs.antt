@@ -1,7 +1,7 @@
 -- What a store over two slices has: one pair, found from the start.
-use Rattle.std.specs.Prelude.{◌≡◌, ℕ, List, [], ◌∷◌, Option, Some, None}
+use Rattle.std.specs.Prelude.{◌≡◌, ℕ, List, [], ◌∷◌, Some, None}
 use Rattle.st_disk.specs.Pairs.{Entry}
-use Rattle.st_disk.specs.Events.{Event, Found}
+use Rattle.st_disk.specs.Events.{Found}
 use Rattle.st_shelf.specs.Loans.{LoansView, no_loans}
 use Rattle.st_answer.specs.declared.slice_pair.TheConstants.{SLICE_STAMP}
 use Rattle.st_answer.specs.Stores.{HoldsView}

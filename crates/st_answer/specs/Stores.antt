@@ -87,13 +87,13 @@ pub record HasFailed {T E : Type 0} (before now : ℕ) (result : Result T E) : T
   pub failed : OnErr result (Rose before now)
 
 -- a file of this kind that this store has just lent
-pub record IsFresh (read asked_for failed : ℕ) (origin : FileOrigin) (wanted : Kind) (id : ℕ) : Type 0
-  where
-    pub reads : read ≡ 0
-    pub asked : asked_for ≡ 0
-    pub faults : failed ≡ 0
-    pub kind : origin.kind ≡ wanted
-    pub home : origin.home ≡ id
+pub record IsFresh (read asked_for failed : ℕ) (origin : FileOrigin) (wanted : Kind)
+    (id : ℕ) : Type 0 where
+  pub reads : read ≡ 0
+  pub asked : asked_for ≡ 0
+  pub faults : failed ≡ 0
+  pub kind : origin.kind ≡ wanted
+  pub home : origin.home ≡ id
 
 -- one file more is lent, or after an error none is
 abbrev pub LendsOne : {T E : Type 0} → LoansView → LoansView → Result T E → Type 0

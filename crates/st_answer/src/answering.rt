@@ -59,13 +59,7 @@ fn reply<F: Reader, O: Outlet>(
     let picked = in_order(found, limits);
     let told = told_of(picked.as_slice());
     let mut buffer = Vec::new(alloc);
-    match send_all(
-        files,
-        picked.as_slice(),
-        unit,
-        &mut buffer,
-        outlet,
-    ) {
+    match send_all(files, picked.as_slice(), unit, &mut buffer, outlet) {
         Ok(()) => Ok(told),
         Err(error) => Err(error),
     }
@@ -111,7 +105,18 @@ fn work<S: Store, O: Outlet>(
     }
 }
 
-/// Sends the packets of the store's file set that match `query`, as a pcap in `unit`.
+/// Sends the packets of the store's file set that match `query`, as a pcap in `unit`, where the
+/// clock stands at `now` microseconds since 1970.
+///
+/// The set is held, each summary row is read, and each pair's packets that match are found by its
+/// index. The answer is sorted by second, nanosecond, stamp and position, and cut at the first
+/// packet that passes a limit. Then the file head goes out as one piece, and each packet as a piece
+/// of 16 bytes and, unless it is empty, one of its body, which is read then.
+///
+/// `WriteFault` comes only if the outlet failed, and a part of the answer is then sent; `DiskFault`
+/// only if the store or a file of it failed. `Damaged` names a pair that isn't whole. After these
+/// and after `NoMemory` nothing is sent, or whole packets from the first on. The hold and the files
+/// are given back on every path.
 pub fn answer<S: Store, O: Outlet>(
     alloc: Global,
     store: &mut S,

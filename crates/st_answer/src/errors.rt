@@ -1,5 +1,3 @@
-//! How an answer ends.
-
 use st_base::Damage;
 
 /// What was sent: the number of packets, and the number of bytes of all pieces, the heads included.

@@ -44,7 +44,8 @@ fn gather_one<S: Store>(
     ensures cause { HasFaultCause (S.faults store.old) (S.faults store.new)
         (sum_by S.File.faults files.new.items) result }
     // what stays
-    ensures loans { (start : LoansView) → LendsMore (length files.old.items) start (S.loans store.old)
+    ensures loans { (start : LoansView)
+        → LendsMore (length files.old.items) start (S.loans store.old)
         → LendsMore (length files.new.items) start (S.loans store.new) }
     ensures stays { IsSameStore (S.becomes store.old store.new) (S.id store.old) (S.id store.new)
         (S.holds store.old) (S.holds store.new) (S.times_held store.old) (S.times_held store.new)

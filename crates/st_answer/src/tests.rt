@@ -1,5 +1,5 @@
-//! One pair, answered: the block file and the index of docs/FORMAT.md, "Block file" and "Table file",
-//! whose one packet is of UDP, from 10.0.0.1 port 12345 to 10.0.0.2 port 53, at second
+//! One pair, answered: the block file and the index of docs/FORMAT.md, "Block file" and "Table
+//! file", whose one packet is of UDP, from 10.0.0.1 port 12345 to 10.0.0.2 port 53, at second
 //! 1,000,000,000 and 123,456 microseconds.
 
 use super::*;
@@ -81,7 +81,13 @@ fn the_packet_of_port_53_is_sent(rt: HostRuntime) -> Result<(), Fail> {
     let (result, prefix, len) = answered(rt.alloc(), INDEX, b"port 53", ALL, &[])?;
     assert!(rt; prefix);
     assert_eq!(rt; len, ANSWER.len());
-    assert_eq!(rt; result, Ok(Told { packets: 1, bytes: 86 }));
+    assert_eq!(rt;
+        result,
+        Ok(Told {
+            packets: 1,
+            bytes: 86
+        })
+    );
     Ok(())
 }
 
@@ -90,7 +96,13 @@ fn no_packet_of_port_54_is_sent(rt: HostRuntime) -> Result<(), Fail> {
     let (result, prefix, len) = answered(rt.alloc(), INDEX, b"port 54", ALL, &[])?;
     assert!(rt; prefix);
     assert_eq!(rt; len, HEAD);
-    assert_eq!(rt; result, Ok(Told { packets: 0, bytes: 24 }));
+    assert_eq!(rt;
+        result,
+        Ok(Told {
+            packets: 0,
+            bytes: 24
+        })
+    );
     Ok(())
 }
 
@@ -103,7 +115,13 @@ fn a_packet_past_the_limit_is_not_sent(rt: HostRuntime) -> Result<(), Fail> {
     let (result, prefix, len) = answered(rt.alloc(), INDEX, b"port 53", limits, &[])?;
     assert!(rt; prefix);
     assert_eq!(rt; len, HEAD);
-    assert_eq!(rt; result, Ok(Told { packets: 0, bytes: 24 }));
+    assert_eq!(rt;
+        result,
+        Ok(Told {
+            packets: 0,
+            bytes: 24
+        })
+    );
     Ok(())
 }
 

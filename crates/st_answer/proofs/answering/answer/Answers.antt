@@ -1,4 +1,4 @@
-use Rattle.std.proofs.Common.{◌≡◌, ◌+◌, ◌<◌, sym, ap, ◌∙◌, subst, arith}
+use Rattle.std.proofs.Common.{◌<◌, sym, ◌∙◌, subst, arith}
 use Rattle.st_answer.specs.Lending.{LendsNone}
 use Rattle.st_answer.proofs.Staying.{goes_on_trans, store_trans, held_back}
 use Rattle.st_answer.proofs.Lending.{lends_none}
@@ -12,8 +12,7 @@ returns-in-Ok-clause-spent g c =
     let stays = store_trans (later _ _ _) c.work-result.ensures.stays c.close_all.ensures.stays in
     let gives = c.release.ensures.holds in
     let none = lends_none _ _ _ _ _ _ c.work-result.ensures.files.1 c.close_all.ensures.loans in
-    let out : 0 < g.S.Store.times_held c.hold.new.self c.in-Ok.hold = omega (arith, c.in-Ok.ensures.held.more) in
-    (
+    let out : 0 < g.S.Store.times_held c.hold.new.self c.in-Ok.hold = omega (arith, c.in-Ok.ensures.held.more) in (
       record {
         became = later _ _ _ c.in-Ok.ensures.becomes (later _ _ _ stays.became c.release.ensures.becomes);
         id = c.release.ensures.rest.0 ∙ (stays.id ∙ c.in-Ok.ensures.rest.0);

@@ -1,6 +1,4 @@
-use Rattle.std.proofs.Common.{rules, arith, ◌≡◌, ◌+◌, length, map, sym, ap, ◌∙◌, subst}
-use Rattle.std.specs.Prelude.{All}
-use Rattle.st_answer.specs.declared.picked.Picked.{Picked}
+use Rattle.std.proofs.Common.{arith, length, sym, ◌∙◌, subst}
 use Rattle.st_answer.specs.Picks.{IsPlaced, IsFound, picked_records}
 use Rattle.st_answer.specs.Order.{TellsPicks}
 use Rattle.st_answer.proofs.Replying.{IsOwn, all_own, sent_all, reply_of, places_in, sent_count, sent_lens}
@@ -19,8 +17,7 @@ returns-in-Ok-clause-replies g c q now set are whole distinct all =
     let places = places_in g.F.Reader.content c.args.files.now q now set found are c.requires in
     let mine = all_own q now set found whole places are.found in
     let sent = sent_all (IsFound q now set) c.args.limits found c.in_order-picked.result.items slice ordered is are.found in
-    let told = subst (λ z. TellsPicks z c.told_of-told.result) (c.as_slice.ensures.value ∙ sym is) c.told_of-told.ensures in
-    (
+    let told = subst (λ z. TellsPicks z c.told_of-told.result) (c.as_slice.ensures.value ∙ sym is) c.told_of-told.ensures in (
       picked_records set slice,
       reply_of q now set c.args.limits c.args.unit found c.in_order-picked.result.items slice ordered is mine distinct all,
       c.in-Ok.ensures.sends q now set (record { known = are.known; found = sent }) whole,

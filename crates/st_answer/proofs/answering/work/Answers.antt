@@ -1,4 +1,4 @@
-use Rattle.std.proofs.Common.{rules, arith, ◌≡◌, ◌+◌, ◌++◌, length, map, take, drop, sym, ap, ◌∙◌, subst}
+use Rattle.std.proofs.Common.{rules, arith, ◌≡◌, length, map, sym, ap, ◌∙◌, subst}
 use Rattle.std.specs.Prelude.{All}
 use Rattle.std.specs.List.{sum_by}
 use Rattle.st_answer.specs.Lending.{LendsMore}
@@ -32,8 +32,7 @@ returns-in-Ok-clause-files g c =
     let rest = c.reply.ensures.same ∙ ap (map g.S.File.Reader.beside) c.as_mut_slice.ensures.value in
     let len = len_kept g.S.File.Reader.beside files.items c.reply.new.files rest in
     let back = put_back files.len files.items c.reply.new.files (search rules) len in
-    let id = g.S.Store.id c.args.store.now in
-    (
+    let id = g.S.Store.id c.args.store.now in (
       subst (All (λ f. (g.S.Store.origin f).home ≡ id)) (sym back) (home_kept g.S.File.Reader.beside (λ f. (g.S.Store.origin f).home) (λ a b e. ap (λ o. o.home) (g.met.S.Store.keeps a b e)) files.items c.reply.new.files id rest c.gather.ensures.home),
       subst (λ n. LendsMore n (g.S.Store.loans c.args.store.now) (g.S.Store.loans c.gather.new.store)) (sym (ap length back ∙ len)) c.gather.ensures.loans,
     )

@@ -1,5 +1,5 @@
-use Rattle.std.proofs.Common.{◌≡◌, Some, Ok, Err, sym, ap, ◌∙◌, subst}
-use Rattle.st_eval.specs.Selection.{IsOver, Selects, Summarizes}
+use Rattle.std.proofs.Common.{ap, ◌∙◌}
+use Rattle.st_eval.specs.Selection.{IsOver}
 use Rattle.st_answer.proofs.Indexes.{over}
 use Rattle.st_answer.proofs.choosing.select.Goals as goal
 

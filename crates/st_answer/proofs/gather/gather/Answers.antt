@@ -1,4 +1,4 @@
-use Rattle.std.proofs.Common.{rules, arith, ◌≡◌, ◌<◌, ◌+◌, ◌++◌, Some, length, get_or, map, take, ap, ◌∙◌, subst, sym, List}
+use Rattle.std.proofs.Common.{arith, ◌≡◌, ◌<◌, ◌+◌, ◌++◌, Some, length, get_or, map, take, ap, ◌∙◌, subst, sym}
 use Rattle.std.specs.Prelude.{All}
 use Rattle.std.specs.List.{sum_by}
 use Rattle.std.proofs.lemmas.List.{take_all}
@@ -13,8 +13,7 @@ use Rattle.st_answer.proofs.gather.gather.Goals as goal
 
 pub returns-in-Err-clause-fails : goal.returns-in-Err-clause-fails
 returns-in-Err-clause-fails g c =
-    let adds = c.in-Err.ensures.adds in
-    (
+    let adds = c.in-Err.ensures.adds in (
       read_no_write adds.stamp c.in-Err.error adds.fails,
       λ set told.
           let i = c.entries.i in
@@ -37,9 +36,10 @@ returns-in-Err-clause-reads g c set told whole =
     let (given, pair) = whole i no_entry lt in
     let one = c.in-Err.ensures.picks set no_entry told' lt given pair in
     let ps = c.entries.picked.items in
-    let places = All-weaker (IsPlaced i) (λ (p : Picked). p.place < i) (λ p h. h.place) ps c.entries.invariant.placed in
-    (ps ++ picks_of i (get_or set i no_entry).stamp one.xs,
-      reads_more c.args.query.now c.args.now set i _ _ _ _ given one.xs ps (g.met.S.Store.rises c.args.store.now h set c.requires.held told) lt pair one.some places (c.entries.invariant.reads set told whole) one.reads_most one.asked_most)
+    let places = All-weaker (IsPlaced i) (λ (p : Picked). p.place < i) (λ p h. h.place) ps c.entries.invariant.placed in (
+      ps ++ picks_of i (get_or set i no_entry).stamp one.xs,
+      reads_more c.args.query.now c.args.now set i _ _ _ _ given one.xs ps (g.met.S.Store.rises c.args.store.now h set c.requires.held told) lt pair one.some places (c.entries.invariant.reads set told whole) one.reads_most one.asked_most,
+    )
 
 pub returns-in-Err-clause-loans : goal.returns-in-Err-clause-loans
 returns-in-Err-clause-loans g c = c.gather_one.ensures.loans (g.S.Store.loans c.args.store.now) c.entries.invariant.loans
@@ -96,17 +96,16 @@ entries-preserved g c =
     }
 
 pub returns-clause-found : goal.returns-clause-found
-returns-clause-found g c =
-    (
-      subst (λ n. All (IsPlaced n) c.entries.picked.items) (sym c.entries.invariant.len) c.entries.invariant.placed,
-      λ set told.
-          let size = g.met.S.Store.sized c.args.store.now c.args.hold.now set c.requires.held told in
-          let all : take c.entries.i set ≡ set = take_all c.entries.i set (omega (arith, size, c.count-count.ensures.count, c.entries-test.false)) in
-          record {
-            known = c.entries.invariant.content set told ∙ ap (λ z. map Some (blocks_of z)) all;
-            found = c.entries.invariant.found set told;
-          },
-    )
+returns-clause-found g c = (
+  subst (λ n. All (IsPlaced n) c.entries.picked.items) (sym c.entries.invariant.len) c.entries.invariant.placed,
+  λ set told.
+      let size = g.met.S.Store.sized c.args.store.now c.args.hold.now set c.requires.held told in
+      let all : take c.entries.i set ≡ set = take_all c.entries.i set (omega (arith, size, c.count-count.ensures.count, c.entries-test.false)) in
+      record {
+        known = c.entries.invariant.content set told ∙ ap (λ z. map Some (blocks_of z)) all;
+        found = c.entries.invariant.found set told;
+      },
+)
 
 pub returns-clause-picks : goal.returns-clause-picks
 returns-clause-picks g c set told whole =

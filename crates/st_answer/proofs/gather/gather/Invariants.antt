@@ -1,4 +1,4 @@
-use Rattle.std.proofs.Common.{◌≡◌, ◌≤◌, ◌<◌, List, Some, map, take, length}
+use Rattle.std.proofs.Common.{◌≡◌, ◌≤◌, List, Some, map, take, length}
 use Rattle.std.specs.Prelude.{All}
 use Rattle.std.specs.List.{sum_by}
 use Rattle.st_disk.specs.Pairs.{Entry}

@@ -1,4 +1,4 @@
-use Rattle.std.proofs.Common.{rules, arith, ◌≡◌, ◌+◌, ◌∷◌, [], ◌++◌, Some, length, map, get_or, sym, ap, ◌∙◌, subst, Err, ℕ}
+use Rattle.std.proofs.Common.{arith, ◌≡◌, ◌∷◌, [], ◌++◌, length, map, get_or, sym, ap, ◌∙◌, subst}
 use Rattle.std.specs.Prelude.{All}
 use Rattle.std.specs.List.{sum_by}
 use Rattle.std.proofs.lemmas.List.{map_push, length-map}
@@ -6,9 +6,9 @@ use Rattle.std.proofs.lemmas.List.Elements.{All-push}
 use Rattle.std.proofs.lemmas.List.Sums.{sum_by_push}
 use Rattle.st_block.specs.Record.{IsRecordAt}
 use Rattle.st_block.specs.Scan.{PositionedRecord}
-use Rattle.st_answer.specs.Heads.{Unhurt, AreAt}
+use Rattle.st_answer.specs.Heads.{AreAt}
 use Rattle.st_answer.specs.Picks.{picks_of}
-use Rattle.st_answer.specs.Gathering.{AreSome, HasEach}
+use Rattle.st_answer.specs.Gathering.{HasEach}
 use Rattle.st_answer.proofs.Results.{on_ok, unhurt_map}
 use Rattle.st_answer.proofs.Selecting.{none_read, selected}
 use Rattle.st_answer.proofs.Picking.{packets_stand}

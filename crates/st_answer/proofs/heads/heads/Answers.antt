@@ -1,7 +1,7 @@
-use Rattle.std.proofs.Common.{rules, arith, ◌≡◌, ◌<◌, ◌+◌, ◌∷◌, [], ◌++◌, length, get_or, take, subst, sym, ap, ◌∙◌}
+use Rattle.std.proofs.Common.{rules, arith, ◌≡◌, ◌<◌, ◌∷◌, [], ◌++◌, length, get_or, subst, sym, ap, ◌∙◌}
 use Rattle.std.proofs.lemmas.Grind.{common_steps}
 use Rattle.st_block.specs.Record.{IsRecordAt}
-use Rattle.st_answer.specs.Picks.{pick_of, picks_of}
+use Rattle.st_answer.specs.Picks.{pick_of}
 use Rattle.st_answer.proofs.Heading.{no_record, count_at, position_at, picks_next, adds_next}
 use Rattle.st_answer.proofs.heads.heads.Goals as goal
 

@@ -1,4 +1,4 @@
-use Rattle.std.proofs.Common.{◌≡◌, ◌≤◌, ◌+◌, ◌*◌, ℕ, List, Some, take, ◌++◌}
+use Rattle.std.proofs.Common.{◌≡◌, ◌≤◌, ◌+◌, ◌*◌, List, take, ◌++◌}
 use Rattle.st_base.specs.PlacedReads.{IsSameFile}
 use Rattle.st_block.specs.declared.format.TheConstants.{RECORD_HEAD}
 use Rattle.st_block.specs.Scan.{PositionedRecord}

@@ -1,4 +1,4 @@
-use Rattle.std.proofs.Common.{subst, sym}
+use Rattle.std.proofs.Common.{subst}
 use Rattle.st_answer.specs.Order.{AreWithin}
 use Rattle.st_answer.proofs.order.in_order.Goals as goal
 

@@ -1,5 +1,4 @@
 use Rattle.std.proofs.Common.{◌≡◌, ◌<◌, ◌+◌, length, get_or, take, sym, ap, subst, ◌∙◌, arith, inl, inr}
-use Rattle.st_answer.specs.declared.picked.Picked.{Picked}
 use Rattle.st_answer.specs.Limited.{captured}
 use Rattle.st_answer.proofs.Limits.{stops, goes, count_lengths, captured_lengths, length_at}
 use Rattle.st_answer.proofs.Picking.{no_pick}

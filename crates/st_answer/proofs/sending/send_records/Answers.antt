@@ -1,5 +1,4 @@
-use Rattle.std.proofs.Common.{rules, arith, ◌≡◌, ◌<◌, ◌+◌, length, get_or, take, map, sym, ◌∙◌, ap, subst, Err, Ok}
-use Rattle.std.proofs.lemmas.Grind.{common_steps}
+use Rattle.std.proofs.Common.{rules, arith, ◌≡◌, ◌<◌, length, get_or, take, map, sym, ◌∙◌, subst}
 use Rattle.std.proofs.lemmas.List.{length-map, take_all}
 use Rattle.std.proofs.lemmas.List.Sums.{sum_by_more}
 use Rattle.st_base.specs.Outlets.{SentAll}
@@ -38,9 +37,9 @@ returns-in-Err-clause-blames g c q now set are =
     let at = entry_of content c.records.files d q now set (map content c.args.files.now) ps i (sym c.records.invariant.content) are c.records-test.true (search rules) in
     blames_entry set at.e c.in-Err.error at.there (subst (λ s. NamesStamp s c.in-Err.error) at.found.stamp c.in-Err.ensures.names)
     (λ whole.
-        let st = stands content c.records.files d q now set p at whole in
-        stops_unhurt g.O.Outlet.after g.O.Outlet.gone (g.O.Outlet.state c.records.outlet) (g.O.Outlet.state c.send_one.new.outlet) (record_pieces c.args.unit (packet_in set p).packet) c.in-Err.error
-        (c.in-Err.ensures.sends (packet_in set p).packet st.there st.pick))
+    let st = stands content c.records.files d q now set p at whole in
+    stops_unhurt g.O.Outlet.after g.O.Outlet.gone (g.O.Outlet.state c.records.outlet) (g.O.Outlet.state c.send_one.new.outlet) (record_pieces c.args.unit (packet_in set p).packet) c.in-Err.error
+    (c.in-Err.ensures.sends (packet_in set p).packet st.there st.pick))
 
 pub returns-in-Err-clause-asked : goal.returns-in-Err-clause-asked
 returns-in-Err-clause-asked g c =
