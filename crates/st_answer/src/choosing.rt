@@ -19,13 +19,8 @@ use st_base::{Damage, Reader};
 use st_eval::{EvalErr, Positions, eval, summary};
 use st_query::Query;
 use st_table::{Table, TableErr};
+use st_tblock::{PLAIN, SNAPPY};
 use std::alloc::Global;
-
-/// The type byte of a compressed block.
-const COMPRESSED: u64 = 1;
-
-/// The type byte of a block that can be read.
-const PLAIN: u64 = 0;
 
 /// A table's error over the index of the pair with this stamp.
 fn table_failed(stamp: u64, error: TableErr) -> AnswerErr
@@ -40,8 +35,8 @@ fn table_failed(stamp: u64, error: TableErr) -> AnswerErr
             stamp,
             damage: Damage {
                 place,
-                found: COMPRESSED,
-                want: PLAIN,
+                found: u64::from(SNAPPY),
+                want: u64::from(PLAIN),
             },
         },
         TableErr::NoMemory => AnswerErr::NoMemory,
