@@ -24,8 +24,6 @@ CALLS = ["put block 10 5", "flush block", "put index 10 9000", "flush index", "l
 ANSWERS = ["ok", "ok", "ok", "ok", "block 10, index 10, ok", "9000 bytes", "5 bytes", "ok", "ok", "block 10, parked 10, ok",
            "9000 bytes", "ok", "ok", "ok", "ok"]
 PUT_FAILS = {"open": "failed: create", "write": "failed: write", "fdatasync": "failed: seal", "rename": "failed: settle"}
-# What Linux may break off for a signal, of the calls that a shelf makes; the others it makes whole.
-BREAKS_OFF = {"open", "write", "read", "fsync", "fdatasync", "flock"}
 
 
 class Probe:
@@ -179,7 +177,7 @@ def meets_each_fault(probe):
         for error in (errno.EIO, errno.EINTR):
             answers, failed, wrong, faults = run_with_fault(probe, f"{kind}:{number}:{error}")
             name = f"{' '.join(line[:2])} fails with {errno.errorcode[error]} at '{CALLS[place]}'"
-            if error == errno.EINTR and kind in BREAKS_OFF:
+            if error == errno.EINTR:
                 yield name + " and is made again", (failed, wrong, faults) == ([], [], "0") and answers == ANSWERS, (failed, faults, answers)
                 continue
             good = [where for where, _ in failed] == [place] and (wrong, faults) == ([], "1") and answers == ANSWERS
@@ -202,11 +200,12 @@ def meets_each_fault_at_the_next_start(probe):
     for line in calls[:-1]:
         kind = line[0]
         counts[kind] = counts.get(kind, 0) + 1
-        session = probe.start(spool, f"{kind}:{counts[kind]}:{errno.EIO}")
-        answers = [answer_to(session, call) for call in ("flush block", "flush block", "list", "faults")]
-        session.end()
-        good = answers == ["failed", "ok", "block 1, index 1, draft block 7, ok", "1"] and files(spool) == there
-        yield f"{' '.join(line[:2])} fails at the next start", good, answers
+        for error, first, faults in ((errno.EIO, "failed", "1"), (errno.EINTR, "ok", "0")):
+            session = probe.start(spool, f"{kind}:{counts[kind]}:{error}")
+            answers = [answer_to(session, call) for call in ("flush block", "flush block", "list", "faults")]
+            session.end()
+            good = answers == [first, "ok", "block 1, index 1, draft block 7, ok", faults] and files(spool) == there
+            yield f"{' '.join(line[:2])} fails with {errno.errorcode[error]} at the next start", good, answers
 
 
 def meets_two_faults(probe):
@@ -236,6 +235,15 @@ def meets_a_disk_that_is_gone(probe):
             ("statx", ["put block 1 5", "list", "read block 1"], ["ok", "failed", "failed"])):
         answers, _ = probe.calls([*calls, "faults"], f"{kind}:1+:{errno.EIO}")
         yield f"each {kind} fails", answers == [*wanted, str(sum("failed" in answer for answer in wanted))], answers
+
+
+def meets_many_signals(probe):
+    """Each call of a kind is broken off, several times in a row."""
+    _, parts = probe.calls(CALLS)
+    for kind in sorted({line[0] for line, _, _ in counted(parts)}):
+        fail = ",".join(f"{kind}:{number}:{errno.EINTR}" for number in range(1, 60) if number % 4)
+        answers, failed, wrong, faults = run_with_fault(probe, fail)
+        yield f"each {kind} is broken off three times", (failed, wrong, faults) == ([], [], "0") and answers == ANSWERS, (failed, faults, answers)
 
 
 def writes_by_halves(probe):
@@ -270,12 +278,12 @@ def lists_all_or_nothing(probe):
                 answers = sorted(answer_to(session, "list") for _ in range(3))
                 faults = session.ask("faults")
                 session.end()
-                good = answers == sorted(["failed", whole, whole]) and faults == "1"
+                good = (answers, faults) == (([whole] * 3, "0") if error == errno.EINTR else (sorted(["failed", whole, whole]), "1"))
                 yield f"{kind} {number} of a long list fails with {errno.errorcode[error]}", good, (answers, faults)
 
 
 GROUPS = [keeps_the_order, syncs_new_folders, meets_each_fault, meets_each_fault_at_the_next_start, meets_two_faults,
-          meets_a_disk_that_is_gone, writes_by_halves, lists_all_or_nothing]
+          meets_a_disk_that_is_gone, meets_many_signals, writes_by_halves, lists_all_or_nothing]
 
 
 def cases(folder):

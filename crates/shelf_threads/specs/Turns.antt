@@ -6,7 +6,8 @@ use mathlib.Core.Option.{some}
 module _ {X V : Type 0} where
   -- the one word is 0 only while the value is at home
   abbrev pub IsAtHome : State (Option X) V → Type 0
-  IsAtHome s = (length s.words ≡ 1) × (slice_index s.words 0 ≡ 0 → (x : X) × (s.homes ≡ some (Some x) ∷ []))
+  IsAtHome s = (length s.words ≡ 1)
+      × (slice_index s.words 0 ≡ 0 → (x : X) × (s.homes ≡ some (Some x) ∷ []))
 
   -- who found 0 has the turn, and the value is out with that seat
   abbrev pub Took : Step (Option X) → Me (Option X) V → ℕ → Me (Option X) V → Type 0

@@ -13,14 +13,16 @@ pub record HasCause {T E : Type 0} (before now : ℕ) (result : Result T E) : Ty
 
 -- the count never falls, a call that succeeds leaves it as it was, and this failure comes only if
 -- it rose
-pub record HasCauseOf {T E : Type 0} (error : E) (before now : ℕ) (result : Result T E) : Type 0 where
+pub record HasCauseOf {T E : Type 0} (error : E) (before now : ℕ)
+    (result : Result T E) : Type 0 where
   pub later : before ≤ now
   pub still : OnOk result (now ≡ before)
   pub failed : IsErrOf result error → Rose before now
 
 -- the count never falls; a write that takes a byte, or has none to take, leaves it as it was; one
 -- that takes nothing of a piece with bytes, or fails, comes only if it rose
-pub record HasWriteCause {E : Type 0} (before now : ℕ) (piece : List ℕ) (result : Result ℕ E) : Type 0 where
+pub record HasWriteCause {E : Type 0} (before now : ℕ) (piece : List ℕ)
+    (result : Result ℕ E) : Type 0 where
   pub later : before ≤ now
   pub some : IfOk result (λ n. 0 < n → now ≡ before)
   pub empty : OnOk result (length piece ≡ 0 → now ≡ before)

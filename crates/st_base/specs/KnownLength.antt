@@ -14,15 +14,21 @@ HasLength n None = Unit {0}
 HasLength n (Some bytes) = length bytes ≡ n
 
 -- what the test decides
-decided : (n : ℕ) (xs bytes : List ℕ) (b : Bool) → (length xs == n) ≡ b → cond b (Some xs) None ≡ Some bytes → (length bytes ≡ n) × (Some xs ≡ Some bytes)
+decided :
+    (n : ℕ) (xs bytes : List ℕ) (b : Bool) → (length xs == n) ≡ b
+    → cond b (Some xs) None ≡ Some bytes → (length bytes ≡ n) × (Some xs ≡ Some bytes)
 decided n xs bytes true e h = (subst (HasLength n) h (eqb-true (length xs) n e), h)
 decided n xs bytes false e h = cc
 
 -- bytes that are known so are this many, and they are those that are known
-of_length_known : (n : ℕ) (known : Option (List ℕ)) (bytes : List ℕ) → of_length n known ≡ Some bytes → (length bytes ≡ n) × (known ≡ Some bytes)
+of_length_known :
+    (n : ℕ) (known : Option (List ℕ)) (bytes : List ℕ) → of_length n known ≡ Some bytes
+    → (length bytes ≡ n) × (known ≡ Some bytes)
 of_length_known n None bytes h = cc
 of_length_known n (Some xs) bytes h = decided n xs bytes (length xs == n) refl h
 
 -- bytes that are known so are this many
-pub sized_of_length : (n : ℕ) (known : Option (List ℕ)) (bytes : List ℕ) → of_length n known ≡ Some bytes → length bytes ≡ n
+pub sized_of_length :
+    (n : ℕ) (known : Option (List ℕ)) (bytes : List ℕ) → of_length n known ≡ Some bytes
+    → length bytes ≡ n
 sized_of_length n known bytes h = (of_length_known n known bytes h).0

@@ -11,12 +11,16 @@ abbrev pub SentAll : {S : Type 0} → (S → List ℕ → S) → Option S → Op
 SentAll {S} after old new pieces = (s : S) → old ≡ Some s → new ≡ Some (fold after s pieces)
 
 -- from a known state no more went out than these pieces would send, and nothing was taken back
-abbrev pub SentPart : {S : Type 0} → (S → List ℕ → S) → (S → List ℕ) → Option S → Option S → List (List ℕ) → Type 0
+abbrev pub SentPart :
+    {S : Type 0} → (S → List ℕ → S) → (S → List ℕ) → Option S → Option S → List (List ℕ) → Type 0
 SentPart {S} after gone old new pieces =
     (s : S) → old ≡ Some s
-    → (t : S) × (new ≡ Some t) × IsPrefix (gone s) (gone t) × IsPrefix (gone t) (gone (fold after s pieces))
+    → (t : S) × (new ≡ Some t) × IsPrefix (gone s) (gone t)
+    × IsPrefix (gone t) (gone (fold after s pieces))
 
 -- all of these pieces were sent, or after a failure a prefix of what they send
-abbrev pub Sends : {S T E : Type 0} → (S → List ℕ → S) → (S → List ℕ) → Option S → Option S → List (List ℕ) → Result T E → Type 0
+abbrev pub Sends :
+    {S T E : Type 0} → (S → List ℕ → S) → (S → List ℕ) → Option S → Option S → List (List ℕ)
+    → Result T E → Type 0
 Sends after gone old new pieces (Ok u) = SentAll after old new pieces
 Sends after gone old new pieces (Err e) = SentPart after gone old new pieces

@@ -8,4 +8,5 @@ AppendsPrefix old new bytes = (n : ℕ) × Appends old new (take n bytes)
 
 -- all of these bytes follow those that were known, or after a failure a prefix of them does
 abbrev pub Puts : {T E : Type 0} → Option (List ℕ) → Option (List ℕ) → List ℕ → Result T E → Type 0
-Puts old new bytes result = MatchResult result (λ _. Appends old new bytes) (λ _. AppendsPrefix old new bytes)
+Puts old new bytes result =
+    MatchResult result (λ _. Appends old new bytes) (λ _. AppendsPrefix old new bytes)

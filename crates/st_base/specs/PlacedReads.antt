@@ -17,7 +17,8 @@ FailsAsKnown known place n result =
     (fails : ℕ → ℕ → Bool) → known ≡ Some fails → IsErr result ↔ IsTrue (fails place n)
 
 -- a file keeps its content, its length and what else of it there is
-pub record IsSameFile {B : Type 0} (content_before content_now : Option (List ℕ)) (extent_before extent_now : ℕ) (beside_before beside_now : B) : Type 0 where
+pub record IsSameFile {B : Type 0} (content_before content_now : Option (List ℕ))
+    (extent_before extent_now : ℕ) (beside_before beside_now : B) : Type 0 where
   pub content : content_now ≡ content_before
   pub extent : extent_now ≡ extent_before
   pub beside : beside_now ≡ beside_before

@@ -5,7 +5,7 @@ ghost use Rattle.std.specs.Prelude.{◌≢◌};
 ///
 /// `place` is an offset in bytes, unless the check says otherwise. A check that can only hold or
 /// fail has `found` 0 and `want` 1.
-/// Source: docs/FORMAT.md, "Checks".
+/// Source: docs/FORMAT.md, where each format has its checks.
 #[derive(Clone, Copy, Debug, PartialEq, Eq)]
 pub struct Damage {
     pub place: u64,

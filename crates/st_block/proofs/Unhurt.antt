@@ -157,7 +157,7 @@ power_test (suc (suc (suc (suc (suc (suc (suc zero))))))) l = refl
 power_test (suc (suc (suc (suc (suc (suc (suc (suc zero)))))))) l = refl
 power_test (suc (suc (suc (suc (suc (suc (suc (suc (suc j))))))))) l = absurd (omega arith)
 
-is_size : (size : ℕ) → IsBlockSize size → is_block_size size ≡ true
+pub is_size : (size : ℕ) → IsBlockSize size → is_block_size size ≡ true
 is_size size b =
     let is = b.is in
     let least = b.least in

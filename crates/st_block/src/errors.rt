@@ -2,7 +2,7 @@ ghost use Rattle.std.specs.Prelude.{◌≡◌};
 
 use st_base::{Damage, NoMemory};
 
-/// Why a record's head can't be read.
+/// Why a record's head or the beginning of a file can't be read.
 #[derive(Clone, Copy, Debug, PartialEq, Eq)]
 pub enum HeadErr {
     /// The file failed in this call: its count of faults rose.

@@ -17,6 +17,7 @@
 //! - A record comes back from its position by at most two reads, of 48 bytes and of its captured
 //!   length, the body into the caller's buffer if it likes (`record_head_at`, `record_body_into`,
 //!   `record_body_at`).
+//! - Whether a number is a block size (`is_block_size`).
 //! - A scan gives the records of a file with their positions, each of a block that was checked
 //!   whole, and reads each block once; it ends if and only if the file is the text of the records
 //!   that it gave, and else names the first check that fails (`Scan::next`, `file_unhurt`).
@@ -25,8 +26,9 @@
 //!
 //! # What it leaves to others
 //!
-//! A block has no checksum, so a changed body goes unseen here. Which records match a query is
-//! st_index's to know.
+//! A block has no checksum, so a changed body goes unseen here. It builds blocks, not files: which
+//! records go into which block, the blocks' numbers and their order in the file are the caller's.
+//! Which records match a query, st_query says.
 //!
 //! # Where to read
 //!
@@ -58,3 +60,4 @@ pub use laws::{
 pub use position::position_in;
 pub use record::{Head, record_body_at, record_body_into, record_head_at};
 pub use scan::Scan;
+pub use sizes::is_block_size;

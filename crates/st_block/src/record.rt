@@ -15,8 +15,8 @@ use crate::format::{
 use st_base::{Damage, Octets, Reader, read_whole};
 use std::alloc::Global;
 
-/// A record without its body: its time in seconds since 1970 and nanoseconds, below 10^9, and its
-/// captured and original length in bytes.
+/// A record without its body: its time in seconds since 1970 and nanoseconds (below 10^9 where
+/// `record_head_at` gave it), and its captured and original length in bytes.
 ///
 /// Source: docs/FORMAT.md, "Block file".
 #[derive(Clone, Copy, Debug, PartialEq, Eq)]

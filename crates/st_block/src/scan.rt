@@ -19,7 +19,7 @@ use crate::scan::state::ScanState;
 use st_base::{Reader, Record};
 use std::alloc::Global;
 
-/// How far a scan has come, in a file that is at least `end` bytes long.
+/// What a scan keeps of how far it has come; `end` is how many bytes its file has at least.
 pub trait Reaching {
     ghost end: { Self → ℕ };
 }
@@ -35,7 +35,7 @@ impl Reaching for ScanState {
 /// `state`, as a `ScanView`; which records of which bytes it has given is said by `HasGiven` of
 /// `specs/Scan.antt`. The type of the state is a parameter, which is always `ScanState`: so the
 /// drop can say that the file stays, which it can't of a struct whose own fields hold memory.
-/// Source: docs/FORMAT.md, "Block file" and "Checks".
+/// Source: docs/FORMAT.md, "Block file", "What a scan of the whole file checks".
 pub struct Scan<'a, R: Reader, C: Reaching = ScanState> {
     file: &'a mut R,
     state: C,
@@ -105,11 +105,11 @@ impl<'a, R: Reader> Scan<'a, R> {
     /// The next record with its position, or `None` at the file's end. A record is given only of a
     /// block that was checked whole.
     ///
-    /// The first call takes the memory of one block; each record's body is one allocation. A call
-    /// reads one block at most, and over the whole scan each block is read once, unless a read of
-    /// it fails. `None` comes if and only if the file is the text of the records given. `Damaged`
-    /// comes if and only if a check of the file fails, and is the first that does; every later call
-    /// answers it again, and reads nothing. `ReadFault` comes only if the file's `faults` rose in
+    /// It keeps the memory of one block; each record's body is one allocation. A call reads one
+    /// block at most, and over the whole scan each block is read once, unless a read of it fails.
+    /// Of a scan that was entered, `None` comes only if the file is the text of the records given.
+    /// `Damaged` is the first check of the file that fails; every later call answers it again, and
+    /// reads nothing. `ReadFault` comes only if the file's `faults` rose in
     /// this call, `NoMemory` may come if the scan runs out of memory; after either the scan is
     /// where it was, and the next call tries again.
     pub fn next(&mut self, alloc: Global) -> Result<Option<(u32, Record)>, BlockErr>

@@ -23,6 +23,10 @@ side_from flushed later = record { flushed = folder_of flushed; later = later }
 -- the changes that were not flushed are numbered from 0, those of the block folder first
 pub record IsCrash (log : Log) (k choice : ℕ) (new : Log) : Type 0 where
   pub calls : new.calls ≡ []
-  pub of_blocks : folder_of new.start_blocks ≡ chosen 0 choice (side kind.Block (at_moment k log)).later (side kind.Block (at_moment k log)).flushed
-  pub of_indexes : folder_of new.start_indexes ≡ chosen (length (side kind.Block (at_moment k log)).later) choice (side kind.Index (at_moment k log)).later (side kind.Index (at_moment k log)).flushed
+  pub of_blocks : folder_of new.start_blocks
+      ≡ chosen 0 choice (side kind.Block (at_moment k log)).later
+      (side kind.Block (at_moment k log)).flushed
+  pub of_indexes : folder_of new.start_indexes
+      ≡ chosen (length (side kind.Block (at_moment k log)).later) choice
+      (side kind.Index (at_moment k log)).later (side kind.Index (at_moment k log)).flushed
   pub left : Leaves (at_moment k log) (reads new)

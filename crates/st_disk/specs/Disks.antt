@@ -17,7 +17,8 @@ pub record Log : Type 0 where
 
 -- a log by its parts
 abbrev pub log_of : List Update → List Update → List Call → Log
-log_of blocks indexes calls = record { start_blocks = blocks; start_indexes = indexes; calls = calls }
+log_of blocks indexes calls =
+    record { start_blocks = blocks; start_indexes = indexes; calls = calls }
 
 -- one folder on the disk: as last flushed, and the changes since
 pub record Side : Type 0 where
@@ -26,8 +27,11 @@ pub record Side : Type 0 where
 
 -- one call, as the folder of this kind sees it
 abbrev pub step : Kind → Side → Call → Side
-step k side (Did c) = cond (same_kind (change_kind c) k) (record { flushed = side.flushed; later = side.later ++ c ∷ [] }) side
-step k side (Flush j) = cond (same_kind j k) (record { flushed = apply_all side.later side.flushed; later = [] }) side
+step k side (Did c) =
+    cond (same_kind (change_kind c) k)
+    (record { flushed = side.flushed; later = side.later ++ c ∷ [] }) side
+step k side (Flush j) =
+    cond (same_kind j k) (record { flushed = apply_all side.later side.flushed; later = [] }) side
 step k side Other = side
 
 abbrev pub after : Kind → Side → List Call → Side
@@ -39,7 +43,8 @@ flushed_side f = record { flushed = f; later = [] }
 
 -- a folder of the shelf, after all calls
 unfoldable pub side : Kind → Log → Side
-side k log = after k (flushed_side (folder_of (by_kind k log.start_blocks log.start_indexes))) log.calls
+side k log =
+    after k (flushed_side (folder_of (by_kind k log.start_blocks log.start_indexes))) log.calls
 
 -- what is read of one folder: all its changes are made
 abbrev pub read_of : Side → Folder
@@ -57,17 +62,22 @@ SomeOf (c ∷ cs) f g = SomeOf cs f g ⊎ SomeOf cs (apply c f) g
 -- a crash now may leave this: each folder as flushed, with some of its later changes
 unfoldable pub Leaves : Log → Folder → Type 0
 Leaves log c =
-    (b : Folder) × (i : Folder) × SomeOf (side kind.Block log).later (side kind.Block log).flushed b × SomeOf (side kind.Index log).later (side kind.Index log).flushed i × (c ≡ join b i)
+    (b : Folder) × (i : Folder) × SomeOf (side kind.Block log).later (side kind.Block log).flushed b
+    × SomeOf (side kind.Index log).later (side kind.Index log).flushed i × (c ≡ join b i)
 
 abbrev pub and_then : Log → Call → Log
-and_then log call = record { start_blocks = log.start_blocks; start_indexes = log.start_indexes; calls = log.calls ++ call ∷ [] }
+and_then log call =
+    record { start_blocks = log.start_blocks; start_indexes = log.start_indexes;
+    calls = log.calls ++ call ∷ [] }
 
 -- a moment is a number of calls
 abbrev pub moment : Log → ℕ
 moment log = length log.calls
 
 abbrev pub at_moment : ℕ → Log → Log
-at_moment k log = record { start_blocks = log.start_blocks; start_indexes = log.start_indexes; calls = take k log.calls }
+at_moment k log =
+    record { start_blocks = log.start_blocks; start_indexes = log.start_indexes;
+    calls = take k log.calls }
 
 -- a crash at some moment from t on might have left this
 abbrev pub Since : Log → ℕ → Folder → Type 0

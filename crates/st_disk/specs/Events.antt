@@ -19,7 +19,8 @@ pub data Event : Type 0 where
 -- what a change of this folder does to its pairs: a block that is settled publishes its pair, and
 -- an index that is hidden removes its pair
 abbrev pub change_events : Folder → Change → List Event
-change_events f (change.Settle kind.Block d s bytes) = Publish (record { stamp = s; block = bytes; index = given (f (name.Index s)) }) ∷ []
+change_events f (change.Settle kind.Block d s bytes) =
+    Publish (record { stamp = s; block = bytes; index = given (f (name.Index s)) }) ∷ []
 change_events f (change.Settle kind.Index d s bytes) = []
 change_events f (change.Hide s) = Remove s ∷ []
 change_events f (change.Make k d) = []

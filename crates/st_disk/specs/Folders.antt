@@ -32,8 +32,12 @@ given (Some bytes) = bytes
 -- the folder after one change; a rename of what isn't there is skipped
 abbrev pub apply : Change → Folder → Folder
 apply (Make k d) f = with_file f (Draft k d) (Some [])
-apply (Settle k d s bytes) f = where_there (f (Draft k d)) (λ _. with_file (with_file f (Draft k d) None) (published k s) (Some bytes)) f
-apply (Hide s) f = where_there (f (Index s)) (λ bytes. with_file (with_file f (Index s) None) (Parked s) (Some bytes)) f
+apply (Settle k d s bytes) f =
+    where_there (f (Draft k d))
+    (λ _. with_file (with_file f (Draft k d) None) (published k s) (Some bytes)) f
+apply (Hide s) f =
+    where_there (f (Index s))
+    (λ bytes. with_file (with_file f (Index s) None) (Parked s) (Some bytes)) f
 apply (Remove n) f = with_file f n None
 
 -- the folder after these changes, in order

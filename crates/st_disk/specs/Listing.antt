@@ -7,7 +7,8 @@ use Rattle.st_disk.specs.Disks.{Log, reads}
 
 -- where the log is known, these are just the names that are there
 abbrev pub AreAll : Option Log → List Name → Type 0
-AreAll known names = (log : Log) → known ≡ Some log → (n : Name) → Contains names n ↔ IsSome (reads log n)
+AreAll known names =
+    (log : Log) → known ≡ Some log → (n : Name) → Contains names n ↔ IsSome (reads log n)
 
 -- the name under which an update sets bytes
 abbrev pub target : Update → Name

@@ -40,7 +40,8 @@ removal (Some log) n = where_there (reads log n) (λ _. Did (Remove n)) Other
 -- the name was removed, and no fault was counted but where that file had any; or the removal
 -- failed, and a fault was counted
 abbrev pub Abandons : Option Log → Option Log → Name → ℕ → ℕ → ℕ → Type 0
-Abandons old new n own before now = (Adds old new (removal old n) × (own ≡ 0 → now ≡ before)) ⊎ (Looks old new × Rose before now)
+Abandons old new n own before now =
+    (Adds old new (removal old n) × (own ≡ 0 → now ≡ before)) ⊎ (Looks old new × Rose before now)
 
 -- a log that is known after a call was known before it
 abbrev pub KnownBefore : Option Log → Option Log → Type 0
@@ -52,11 +53,14 @@ Spares call n = (log : Log) → reads (and_then log call) n ≡ reads log n
 
 -- what was read as the index of a stamp is read under its parked name, and no longer as the index
 abbrev pub Parks : Option Log → Option Log → ℕ → Type 0
-Parks old new s = (log : Log) → old ≡ Some log → Reads new (Index s) (λ v. v ≡ None) × Reads new (Parked s) (λ v. v ≡ reads log (Index s))
+Parks old new s =
+    (log : Log) → old ≡ Some log
+    → Reads new (Index s) (λ v. v ≡ None) × Reads new (Parked s) (λ v. v ≡ reads log (Index s))
 
 -- no crash now leaves a draft of this kind and number
 abbrev pub IsUnused : Option Log → Kind → ℕ → Type 0
-IsUnused known k d = (log : Log) → known ≡ Some log → (c : Folder) → Leaves log c → c (Draft k d) ≡ None
+IsUnused known k d =
+    (log : Log) → known ≡ Some log → (c : Folder) → Leaves log c → c (Draft k d) ≡ None
 
 -- a file shows what is read under its name; of a draft it may show anything
 abbrev pub Shows : Name → Option (List ℕ) → Option (List ℕ) → Type 0

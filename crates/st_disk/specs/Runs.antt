@@ -17,7 +17,8 @@ pub record LeavesOnly (old new : Log) (P : Folder → Type 0) : Type 0 where
 
 -- from the first log on, to the one that is known now, each crash leaves what has P and the events
 -- are these; a crash now leaves what has Q
-pub record Ran (first : Log) (known : Option Log) (es : List Event) (P Q : Folder → Type 0) : Type 0 where
+pub record Ran (first : Log) (known : Option Log) (es : List Event)
+    (P Q : Folder → Type 0) : Type 0 where
   pub log : Log
   pub is : known ≡ Some log
   pub only : LeavesOnly first log P

@@ -96,8 +96,8 @@ pub appends_one : {T : Type 0} (key value : List ℕ) (rows : List RowView) (old
 appends_one key value rows old new result rise e =
     let one : in_range key key rows ≡ (key, value) ∷ [] = one_row key rows (Some value) rise e in
     appends_value (any_has key key rows) (SoundBetween key key rows) value old new result
-      (λ p. sym (ap (λ (rs : List RowView). list_any (row_has p) rs) one ∙ or_false (has (positions_in value) p)))
-      (λ sound. let all = subst (λ (rs : List RowView). All (λ row. value_wrong row.1 ≡ None) rs) one sound in all 0 (key, value) (omega arith))
+    (λ p. sym (ap (λ (rs : List RowView). list_any (row_has p) rs) one ∙ or_false (has (positions_in value) p)))
+    (λ sound. let all = subst (λ (rs : List RowView). All (λ row. value_wrong row.1 ≡ None) rs) one sound in all 0 (key, value) (omega arith))
 
 -- a key without a row
 pub appends_none : (key : List ℕ) (rows : List RowView) (old : List ℕ) → KeysRise rows → None ≡ lookup key rows → Gains (any_has key key rows) old old

@@ -2,6 +2,7 @@ pub mod NetRanges
 pub mod PrimitiveRanges
 pub mod Joining
 pub mod Risings
+pub mod Merging
 pub mod ValueTexts
 pub mod Gathering
 pub mod Reading

@@ -49,10 +49,10 @@ collects_more bytes index old new start all added r whole says e has_it =
       more = rest;
       coming = on;
       test = λ p.
-        ap (λ (xs : List ℕ). has xs p || list_any (row_has p) rest) e
-        ∙ (ap (λ b. b || list_any (row_has p) rest) (has_append all (positions_in r.1) p)
-        ∙ (or_assoc (has all p) (has (positions_in r.1) p) (list_any (row_has p) rest)
-        ∙ (ap (λ (rs : List RowView). has all p || list_any (row_has p) rs) (sym first) ∙ has_it.test p)));
+          ap (λ (xs : List ℕ). has xs p || list_any (row_has p) rest) e
+          ∙ (ap (λ b. b || list_any (row_has p) rest) (has_append all (positions_in r.1) p)
+          ∙ (or_assoc (has all p) (has (positions_in r.1) p) (list_any (row_has p) rest)
+          ∙ (ap (λ (rs : List RowView). has all p || list_any (row_has p) rs) (sym first) ∙ has_it.test p)));
       sound = λ s. all_tail r rest (subst (λ (rs : List RowView). AreSound rs) first (has_it.sound s));
     }
 

@@ -70,8 +70,8 @@ row_sound given k row fit is =
 pub sound_values : (given : List PositionedRecord) (rows : List RowView) → IsIndexOf given rows → HasSoundValues rows
 sound_values given rows is low high = all_in_range (λ row. value_wrong row.1 ≡ None) (key_text low) (key_text high) rows (λ row c l.
     ⊎_elim
-      (λ same. absurd (no_summary low high (subst (λ (t : List ℕ). IsTrue (lies_text (key_text low) (key_text high) t)) (ap (λ (x : RowView). x.0) (sym same)) l)))
-      (λ d.
-        let (k, fk, of_key) = All-contains (λ (x : RowView). (k : Key) × Fits k × IsKeyRow given k x) is.are.keys row is.are.of_keys.each d in
-        row_sound given k row is.fit of_key)
-      (here_or (summary_key, summary_value is.are.summary) row is.are.keys (subst (λ (xs : List RowView). Contains xs row) is.are.split c)))
+    (λ same. absurd (no_summary low high (subst (λ (t : List ℕ). IsTrue (lies_text (key_text low) (key_text high) t)) (ap (λ (x : RowView). x.0) (sym same)) l)))
+    (λ d.
+    let (k, fk, of_key) = All-contains (λ (x : RowView). (k : Key) × Fits k × IsKeyRow given k x) is.are.keys row is.are.of_keys.each d in
+    row_sound given k row is.fit of_key)
+    (here_or (summary_key, summary_value is.are.summary) row is.are.keys (subst (λ (xs : List RowView). Contains xs row) is.are.split c)))

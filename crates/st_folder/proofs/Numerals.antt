@@ -1,5 +1,5 @@
 -- Laws of numbers as decimal and hexadecimal text.
-use Rattle.std.proofs.Common.{Option, ◌≡◌, ◌≢◌, ℕ, zero, suc, ◌+◌, ◌*◌, ◌/◌, ◌%◌, ◌^◌, ◌<◌, ◌≤◌, ◌==◌, Bool, false, cond, List, [], ◌∷◌, ◌++◌, Some, None, length, drop, get_or, MatchOption, refl, sym, ap, subst, ◌∙◌, lit<, lit≤, arith}
+use Rattle.std.proofs.Common.{Option, ◌≡◌, ◌≢◌, ℕ, zero, suc, ◌+◌, ◌*◌, ◌/◌, ◌%◌, ◌^◌, ◌<◌, ◌≤◌, false, cond, List, [], ◌∷◌, ◌++◌, Some, None, length, drop, get_or, MatchOption, sym, ap, subst, ◌∙◌, lit<, lit≤, arith}
 use borrow.Author.Tests.{ne_eqb}
 use Rattle.std.proofs.Math.Nat.{pow-le-pow_right}
 use Rattle.std.proofs.lemmas.List.{same_from_push}

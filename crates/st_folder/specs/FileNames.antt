@@ -1,5 +1,5 @@
 -- The names of a shelf's files in a file system: docs/FORMAT.md, "Folders and names".
-use Rattle.std.specs.Prelude.{ℕ, zero, suc, false, ◌/◌, ◌%◌, List, [], ◌∷◌, ◌++◌, codes}
+use Rattle.std.specs.Prelude.{◌≡◌, ℕ, zero, suc, false, ◌/◌, ◌%◌, List, [], ◌∷◌, ◌++◌, codes, All}
 use Rattle.std.specs.Fmt.{digit_glyph, decimal}
 use Rattle.st_disk.specs.declared.naming.Kind.{Kind}
 use Rattle.st_disk.specs.declared.naming.Kind.TheVariants as kind
@@ -22,6 +22,18 @@ file_name (Block stamp) = stamp_text stamp
 file_name (Index stamp) = stamp_text stamp
 file_name (Parked stamp) = codes ".parked-" ++ stamp_text stamp
 file_name (Draft k number) = codes ".draft-" ++ decimal number
+
+-- a file of this name lies in this folder, under this text
+abbrev pub IsNameIn : Kind → Name → List ℕ → Type 0
+IsNameIn kind name text = (kind_of name ≡ kind) × (text ≡ file_name name)
+
+-- these are names of files in this folder
+abbrev pub AreIn : Kind → List Name → Type 0
+AreIn kind names = All (λ n. kind_of n ≡ kind) names
+
+-- names of files in this folder were added
+abbrev pub AddsNames : Kind → List Name → List Name → Type 0
+AddsNames kind old new = (more : List Name) × (new ≡ old ++ more) × AreIn kind more
 
 -- the name of a folder in the spool folder
 abbrev pub folder_name : Kind → List ℕ

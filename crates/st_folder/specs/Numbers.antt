@@ -1,5 +1,5 @@
 -- The numbers of drafts.
-use Rattle.std.specs.Prelude.{◌≡◌, ◌<◌, ◌-◌, ◌^◌, ℕ}
+use Rattle.std.specs.Prelude.{◌≡◌, ◌<◌, ◌-◌, ◌^◌, ◌⊎◌, ℕ, List, All, Contains}
 use Rattle.st_disk.specs.declared.naming.Name.{Name}
 use Rattle.st_disk.specs.declared.naming.Name.TheVariants.{Block, Index, Parked, Draft}
 
@@ -16,3 +16,11 @@ IsLastDraft (Draft k number) = number ≡ 2 ^ 64 - 1
 IsLastDraft (Block stamp) = ⊥
 IsLastDraft (Index stamp) = ⊥
 IsLastDraft (Parked stamp) = ⊥
+
+-- one of these is a draft with the greatest number
+abbrev pub HasLastDraft : List Name → Type 0
+HasLastDraft names = (last : Name) × Contains names last × IsLastDraft last
+
+-- the number is above those of all drafts among these, or it is 0 and one of them has the greatest
+abbrev pub IsFirstNumber : List Name → ℕ → Type 0
+IsFirstNumber names next = All (IsBelow next) names ⊎ ((next ≡ 0) × HasLastDraft names)

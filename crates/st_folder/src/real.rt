@@ -3,6 +3,7 @@ mod digits;
 mod draft;
 mod folders;
 mod names;
+mod retries;
 mod shelf;
 
 pub use draft::{RealDraft, RealSealed};

@@ -5,3 +5,4 @@ pub mod EntryLists
 pub mod KeyLists
 pub mod Maker
 pub mod RowList
+pub mod Write

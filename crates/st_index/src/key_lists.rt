@@ -29,6 +29,7 @@ impl<'a> Numbered<'a> {
             (lists_of_numbers key self.new.number self.new.rest.now)
             (option_map (λ x. (key x.0, x.1.now)) result) }
         ensures some { IfSome result (λ x. 0 < length x.1.now) }
+        // Numbers go on to the end of the lists, which stays.
         ensures below { IfSome result (λ x. x.0 < self.old.number + length self.old.rest.now) }
         ensures end { self.new.number + length self.new.rest.now
             ≡ self.old.number + length self.old.rest.now }
@@ -89,11 +90,12 @@ impl<'a> KeyLists<'a> {
     ghost use Rattle.std.specs.Prelude.{◌≡◌, ◌<◌, length, option_map, IfSome};
     ghost use Rattle.st_walk.specs.KeyText.{Fits};
     ghost use Rattle.st_index.specs.EntryLists.{GivesList};
-    ghost use Rattle.st_index.specs.KeyLists.{key_lists, lists_left};
+    ghost use Rattle.st_index.specs.KeyLists.{key_lists, lists_left, AreLists};
 
     /// All lists that have positions.
     pub(crate) fn new(lists: &'a PositionLists) -> KeyLists<'a>
-        ensures { lists_left result ≡ key_lists lists.now }
+        ensures left { lists_left result ≡ key_lists lists.now }
+        ensures all { AreLists lists.now (key_lists lists.now) }
     {
         KeyLists {
             protos: Numbered {

@@ -1,8 +1,11 @@
 //! The positions of the packets that have a key, for each key.
 
-ghost use Rattle.std.specs.Prelude.{◌≡◌, ℕ, ◌⊎◌, ◌<◌, ◌≤◌, ◌+◌, length, max, IsTrue, OnOk};
+ghost use Rattle.std.specs.Prelude.{◌≡◌, ℕ, ◌⊎◌, ◌<◌, ◌≤◌, ◌+◌, length, max, IsTrue, OnOk, is_some};
+ghost use Rattle.std.specs.BTreeMap.{get};
+ghost use Rattle.st_walk.specs.contracts.text.KeyOrd.TheImpl as derived;
+ghost use Rattle.st_walk.specs.declared.text.Key.TheVariants.{Proto, Port};
 ghost use Rattle.st_walk.specs.declared.text.Key.{Key};
-ghost use Rattle.st_index.specs.NumberedLists.{at_number, HasRoomAt, at_key, HasRoomIn, ends_with, with_last, Takes};
+ghost use Rattle.st_index.specs.NumberedLists.{at_number, HasRoomAt, at_key, HasRoomIn, ends_with, with_last, Takes, HasNone};
 ghost use Rattle.st_index.specs.declared.lists.TheConstants.{PROTOS, PORTS};
 
 use st_walk::{Key, keys};
@@ -23,13 +26,10 @@ fn ends_with(list: &[u32], position: u32) -> bool
 }
 
 // Makes room for one more position of a number. The positions stay.
-fn make_numbered(
-    alloc: Global,
-    lists: &mut Vec<Vec<u32>>,
-    number: usize,
-) -> Result<(), AllocError>
+fn make_numbered(alloc: Global, lists: &mut Vec<Vec<u32>>, number: usize) -> Result<(), AllocError>
     ensures same { (n : ℕ) → at_number lists.new.items n ≡ at_number lists.old.items n }
     ensures keeps { (n : ℕ) → HasRoomAt lists.old.items n → HasRoomAt lists.new.items n }
+    // What it made, and how many lists there are.
     ensures room { OnOk result (HasRoomAt lists.new.items number) }
     ensures few { length lists.new.items ≤ max (length lists.old.items) (number + 1) }
 {
@@ -41,7 +41,8 @@ fn make_numbered(
 
 // Puts the position at the end of a number's list, unless it is there.
 fn put_numbered(lists: &mut Vec<Vec<u32>>, number: usize, position: u32)
-    requires { Takes (at_number lists.old.items number) (HasRoomAt lists.old.items number) position }
+    requires { Takes (at_number lists.old.items number) (HasRoomAt lists.old.items number)
+        position }
     ensures here { at_number lists.new.items number
         ≡ with_last (at_number lists.old.items number) position }
     ensures others { (n : ℕ) → (n ≡ number)
@@ -68,7 +69,11 @@ fn make_keyed(
 ) -> Result<(), AllocError>
     ensures same { (k : Key) → at_key lists.new k ≡ at_key lists.old k }
     ensures keeps { (k : Key) → HasRoomIn lists.old k → HasRoomIn lists.new k }
+    // What it made, and which keys have a list.
     ensures room { OnOk result (HasRoomIn lists.new key) }
+    ensures keys { (k : Key) → (k ≡ key)
+        ⊎ (is_some (get derived.ghosts.cmp lists.new k)
+        ≡ is_some (get derived.ghosts.cmp lists.old k)) }
 {
     if let Some(list) = lists.get_mut(&key) {
         return list.reserve(1);
@@ -84,7 +89,10 @@ fn put_keyed(lists: &mut BTreeMap<Key, Vec<u32>>, key: Key, position: u32)
     requires { Takes (at_key lists.old key) (HasRoomIn lists.old key) position }
     ensures here { at_key lists.new key ≡ with_last (at_key lists.old key) position }
     ensures others { (k : Key) → (k ≡ key) ⊎ (at_key lists.new k ≡ at_key lists.old k) }
+    // What room other lists had, and which keys have a list.
     ensures rooms { (k : Key) → (k ≡ key) ⊎ (HasRoomIn lists.old k → HasRoomIn lists.new k) }
+    ensures keys { (k : Key) → is_some (get derived.ghosts.cmp lists.new k)
+        ≡ is_some (get derived.ghosts.cmp lists.old k) }
 {
     let Some(list) = lists.get_mut(&key) else {
         return;
@@ -109,6 +117,8 @@ pub(crate) struct PositionLists {
     pub(crate) others: BTreeMap<Key, Vec<u32>>,
     ghost few_protos: { length protos.items ≤ PROTOS },
     ghost few_ports: { length ports.items ≤ PORTS },
+    ghost no_protos: { HasNone others (λ n. Proto n) },
+    ghost no_ports: { HasNone others (λ n. Port n) },
 }
 
 impl PositionLists {
@@ -200,7 +210,8 @@ impl PositionLists {
         position: u32,
     ) -> Result<(), AllocError>
         requires { (k : Key) → All (λ p. p < position) (positions_at self.old k) }
-        ensures same { OnErr result ((k : Key) → positions_at self.new k ≡ positions_at self.old k) }
+        ensures same { OnErr result ((k : Key)
+            → positions_at self.new k ≡ positions_at self.old k) }
         ensures gained { OnOk result ((k : Key)
             → Gained (HasKey frame.now sec k) (positions_at self.old k) (positions_at self.new k)
             position) }

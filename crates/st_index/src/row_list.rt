@@ -61,12 +61,24 @@ pub(crate) struct RowList<'a> {
 }
 
 impl<'a> RowList<'a> {
-    ghost use Rattle.std.specs.Prelude.{◌≡◌};
+    ghost use Rattle.std.specs.Prelude.{◌≡◌, ◌+◌, ◌*◌, ◌≤◌, ◌^◌, List, IsSome};
+    ghost use Rattle.st_block.specs.Scan.{PositionedRecord};
+    ghost use Rattle.st_block.specs.declared.format.TheConstants.{BLOCK_HEAD};
+    ghost use Rattle.st_rows.specs.Rows.{AreRowsOf};
+    ghost use Rattle.st_index.specs.KeyLists.{lists_left, AreLists, count_of};
+    ghost use Rattle.st_index.specs.Maker.{HasRecords};
     ghost use Rattle.st_index.specs.RowList.{rows_of, rows_left, NextRow, RowFits};
 
     /// The rows of a maker's index. No row is held yet.
     pub(crate) fn new(alloc: Global, maker: &'a IndexMaker) -> RowList<'a>
-        ensures { rows_left result ≡ rows_of maker.now }
+        ensures left { rows_left result ≡ rows_of maker.now }
+        ensures summary { result.summary ≡ maker.now.summary }
+        // The lists that the rows are made of, and how many positions they have.
+        ensures lists { AreLists maker.now.lists (lists_left result.lists) }
+        ensures few { 4 * count_of (lists_left result.lists) + BLOCK_HEAD ≤ 2 ^ 32 }
+        // The rows of the packets.
+        ensures records { IsSome maker.now.summary → (given : List PositionedRecord)
+            → HasRecords maker.now given → AreRowsOf given (rows_of maker.now) }
     {
         RowList {
             summary: maker.summary,

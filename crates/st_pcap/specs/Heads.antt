@@ -38,13 +38,15 @@ refusal_of_link link = if link == ETHERNET then None else Some (LinkType link)
 -- the version is refused unless it is 2.4; only then the link type is looked at
 abbrev pub refusal_of_version : Order → List ℕ → Option PcapErr
 refusal_of_version order head =
-    if (short_at order MAJOR_AT head == MAJOR) && (short_at order MINOR_AT head == MINOR) then refusal_of_link (number_at order LINK_AT head % LINK_LIMIT)
+    if (short_at order MAJOR_AT head == MAJOR) && (short_at order MINOR_AT head == MINOR)
+    then refusal_of_link (number_at order LINK_AT head % LINK_LIMIT)
     else Some (Version (short_at order MAJOR_AT head) (short_at order MINOR_AT head))
 
 -- a head of fewer than 24 bytes is refused; only then the version is looked at
 abbrev pub refusal_of_rest : Order → List ℕ → Option PcapErr
 refusal_of_rest order head =
-    if nat_lt (length head) FILE_HEAD_SIZE then Some (Truncated 0 (length head) FILE_HEAD_SIZE) else refusal_of_version order head
+    if nat_lt (length head) FILE_HEAD_SIZE then Some (Truncated 0 (length head) FILE_HEAD_SIZE)
+    else refusal_of_version order head
 
 -- the first four bytes are refused unless they are the magic of a form; only then the rest is
 -- looked at, in its order
@@ -60,28 +62,34 @@ refusal_of_magic found head =
 -- one. Fewer than four bytes are refused; only then the magic is looked at.
 abbrev pub refusal_of_file : List ℕ → Option PcapErr
 refusal_of_file head =
-    if nat_lt (length head) NUMBER_SIZE then Some (Truncated 0 (length head) FILE_HEAD_SIZE) else refusal_of_magic (little_number NUMBER_SIZE head) head
+    if nat_lt (length head) NUMBER_SIZE then Some (Truncated 0 (length head) FILE_HEAD_SIZE)
+    else refusal_of_magic (little_number NUMBER_SIZE head) head
 
 -- the captured length is refused if it is above the longest body
 abbrev pub refusal_of_captured : ℕ → ℕ → Option PcapErr
-refusal_of_captured number captured = if nat_lt MAX_BODY captured then Some (TooLong number captured) else None
+refusal_of_captured number captured =
+    if nat_lt MAX_BODY captured then Some (TooLong number captured) else None
 
 -- the fraction is refused if it is a second or more; only then the captured length is looked at
 abbrev pub refusal_of_fields : Order → unit.Unit → ℕ → List ℕ → Option PcapErr
 refusal_of_fields order u number head =
-    if nat_le (fractions u) (number_at order FRACTION_AT head) then Some (BadFraction number (number_at order FRACTION_AT head))
+    if nat_le (fractions u) (number_at order FRACTION_AT head)
+    then Some (BadFraction number (number_at order FRACTION_AT head))
     else refusal_of_captured number (number_at order CAPTURED_AT head)
 
 -- a record of `want` bytes is cut where only `have` are there
 abbrev pub refusal_of_size : ℕ → ℕ → ℕ → Option PcapErr
-refusal_of_size number have want = if nat_lt have want then Some (Truncated number have want) else None
+refusal_of_size number have want =
+    if nat_lt have want then Some (Truncated number have want) else None
 
 -- Why the bytes where record `number` would begin are no record; None where they begin
 -- with one. First a head that is cut is refused, then what its fields say, then a body that is cut.
 abbrev pub refusal_of_record : Order → unit.Unit → ℕ → List ℕ → Option PcapErr
 refusal_of_record order u number rest =
     option_or (refusal_of_size number (length rest) RECORD_HEAD_SIZE)
-    (option_or (refusal_of_fields order u number (take RECORD_HEAD_SIZE rest)) (refusal_of_size number (length rest) (RECORD_HEAD_SIZE + number_at order CAPTURED_AT (take RECORD_HEAD_SIZE rest))))
+    (option_or (refusal_of_fields order u number (take RECORD_HEAD_SIZE rest))
+    (refusal_of_size number (length rest)
+    (RECORD_HEAD_SIZE + number_at order CAPTURED_AT (take RECORD_HEAD_SIZE rest))))
 
 -- the causes that a file head is refused for, which name no record
 abbrev pub IsOfFileHead : PcapErr → Type 0

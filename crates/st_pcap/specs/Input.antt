@@ -13,7 +13,8 @@ use Rattle.st_pcap.specs.Heads.{IsFileHead, IsRecordHead, refusal_of_file, refus
 abbrev pub Records : Order → unit.Unit → List ℕ → List Rec → List ℕ → Type 0
 Records order u bytes [] rest = bytes ≡ rest
 Records order u bytes (r ∷ rs) rest =
-    (head : List ℕ) × (more : List ℕ) × IsRecordHead order u head r × (bytes ≡ head ++ (r.body ++ more)) × Records order u more rs rest
+    (head : List ℕ) × (more : List ℕ) × IsRecordHead order u head r
+    × (bytes ≡ head ++ (r.body ++ more)) × Records order u more rs rest
 
 -- these bytes are a file head of one of the four forms, the records in that form, and the rest
 pub record IsPcap (bytes : List ℕ) (rs : List Rec) (rest : List ℕ) : Type 0 where
@@ -28,7 +29,8 @@ pub record IsPcap (bytes : List ℕ) (rs : List Rec) (rest : List ℕ) : Type 0 
 -- after `before` bytes each record begins below the most that is read of an input
 abbrev pub AllBegin : ℕ → List Rec → Type 0
 AllBegin before [] = Unit {0}
-AllBegin before (r ∷ rs) = (before < MAX_INPUT) × AllBegin (before + (RECORD_HEAD_SIZE + length r.body)) rs
+AllBegin before (r ∷ rs) =
+    (before < MAX_INPUT) × AllBegin (before + (RECORD_HEAD_SIZE + length r.body)) rs
 
 -- how an input ends: whole, where a record would begin, or refused
 pub data End : Type 0 where
@@ -47,6 +49,7 @@ end_at order u before number rest =
 -- last of them, the numbers of records counted from 1.
 abbrev pub Input : List ℕ → List Rec → End → Type 0
 Input bytes rs end =
-    ((e : PcapErr) × (refusal_of_file (take FILE_HEAD_SIZE bytes) ≡ Some e) × (rs ≡ []) × (end ≡ Refused e))
+    ((e : PcapErr) × (refusal_of_file (take FILE_HEAD_SIZE bytes) ≡ Some e) × (rs ≡ [])
+    × (end ≡ Refused e))
     ⊎ ((rest : List ℕ) × (file : IsPcap bytes rs rest) × AllBegin FILE_HEAD_SIZE rs
     × (end_at file.order file.unit (length bytes - length rest) (length rs + 1) rest ≡ Some end))

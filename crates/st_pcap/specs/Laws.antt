@@ -15,7 +15,9 @@ SomeReading = (bytes : List ℕ) → (rs : List Rec) × (end : End) × Input byt
 
 -- and of no other records and no other end
 abbrev pub OneReading : Type 0
-OneReading = (bytes : List ℕ) (rs qs : List Rec) (end other : End) → Input bytes rs end → Input bytes qs other → (rs ≡ qs) × (end ≡ other)
+OneReading =
+    (bytes : List ℕ) (rs qs : List Rec) (end other : End) → Input bytes rs end
+    → Input bytes qs other → (rs ≡ qs) × (end ≡ other)
 
 -- a body that no reader refuses for its length
 abbrev pub IsShort : Rec → Type 0
@@ -23,11 +25,15 @@ IsShort r = length r.body ≤ MAX_BODY
 
 -- the text of records is a pcap of these records, their times cut to the unit, and of nothing more
 abbrev pub ReadsBack : Type 0
-ReadsBack = (u : unit.Unit) (rs : List Rec) → All InRange rs → All IsShort rs → IsPcap (PcapText rs u) (map (cut_to u) rs) []
+ReadsBack =
+    (u : unit.Unit) (rs : List Rec) → All InRange rs → All IsShort rs
+    → IsPcap (PcapText rs u) (map (cut_to u) rs) []
 
 -- and it is a whole input of them, where it is shorter than the most that is read
 abbrev pub IsWholeInput : Type 0
-IsWholeInput = (u : unit.Unit) (rs : List Rec) → All InRange rs → All IsShort rs → length (PcapText rs u) < MAX_INPUT → Input (PcapText rs u) (map (cut_to u) rs) Whole
+IsWholeInput =
+    (u : unit.Unit) (rs : List Rec) → All InRange rs → All IsShort rs
+    → length (PcapText rs u) < MAX_INPUT → Input (PcapText rs u) (map (cut_to u) rs) Whole
 
 -- the pieces in which records are written, joined, are their text
 abbrev pub PiecesJoin : Type 0
@@ -36,4 +42,6 @@ PiecesJoin = (u : unit.Unit) (rs : List Rec) → concat (Pieces rs u) ≡ PcapTe
 -- an input that is refused for a cause of the file head has a file head that is refused for it, and
 -- no other input has
 abbrev pub HeadsApart : Type 0
-HeadsApart = (bytes : List ℕ) (rs : List Rec) (e : PcapErr) → Input bytes rs (Refused e) → IsOfFileHead e ↔ (refusal_of_file (take FILE_HEAD_SIZE bytes) ≡ Some e)
+HeadsApart =
+    (bytes : List ℕ) (rs : List Rec) (e : PcapErr) → Input bytes rs (Refused e)
+    → IsOfFileHead e ↔ (refusal_of_file (take FILE_HEAD_SIZE bytes) ≡ Some e)

@@ -11,7 +11,8 @@ use Rattle.st_pcap.specs.Reading.{PcapReaderView, IsOutside, HasRead}
 use Rattle.st_pcap.specs.Taking.{Took, TakesHead}
 
 -- the reader has read what it had read, and the file head; or the bytes are refused
-abbrev pub Opens : List ℕ → List Rec → PcapReaderView → Option (List ℕ) → Result Form PcapErr → Type 0
+abbrev pub Opens :
+    List ℕ → List Rec → PcapReaderView → Option (List ℕ) → Result Form PcapErr → Type 0
 Opens bytes rs new left (Ok form) = (rest : List ℕ) × (left ≡ Some rest) × HasRead new bytes rs rest
 Opens bytes rs new left (Err e) = IsOutside e ⊎ Input bytes rs (Refused e)
 
@@ -22,14 +23,18 @@ KeepsOpening new (Err e) = new.phase ≡ Stopped e
 
 -- What was read is left alone, with the source: the form of an open reader, the cause of one that
 -- has stopped. One that opens is no further than the file head.
-pub record OpensOnce {S : Type 0} (before now : S) (old new : PcapReaderView) (result : Result Form PcapErr) : Type 0 where
-  pub known : (form : Form) → old.phase ≡ Open form → (result ≡ Ok form) × (new ≡ old) × (now ≡ before)
-  pub again : (e : PcapErr) → old.phase ≡ Stopped e → (result ≡ Err e) × (new ≡ old) × (now ≡ before)
+pub record OpensOnce {S : Type 0} (before now : S) (old new : PcapReaderView)
+    (result : Result Form PcapErr) : Type 0 where
+  pub known : (form : Form) → old.phase ≡ Open form
+      → (result ≡ Ok form) × (new ≡ old) × (now ≡ before)
+  pub again : (e : PcapErr) → old.phase ≡ Stopped e
+      → (result ≡ Err e) × (new ≡ old) × (now ≡ before)
   pub fresh : old.phase ≡ Fresh → new.taken ≤ FILE_HEAD_SIZE
   pub much_only : (n : ℕ) → result ≡ Err (TooMuch n) → old.phase ≡ Stopped (TooMuch n)
 
 -- how much the opening took, where no record is given
-pub record CountsHead (left still : Option (List ℕ)) (old new : PcapReaderView) (result : Result Form PcapErr) : Type 0 where
+pub record CountsHead (left still : Option (List ℕ)) (old new : PcapReaderView)
+    (result : Result Form PcapErr) : Type 0 where
   pub taken : Took left still old.taken new.taken
   pub takes : TakesHead old.phase old.taken new.taken result
   pub number : new.number ≡ old.number

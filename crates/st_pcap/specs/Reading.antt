@@ -44,8 +44,10 @@ IsGoing (Stopped e) = ⊥
 abbrev pub HasReadIn : Phase → ℕ → ℕ → List ℕ → List Rec → List ℕ → Type 0
 HasReadIn Fresh taken number bytes rs rest = (rs ≡ []) × (bytes ≡ rest) × (taken ≡ 0) × (number ≡ 0)
 HasReadIn (Open form) taken number bytes rs rest =
-    (head : List ℕ) × (text : List ℕ) × (bytes ≡ head ++ text) × IsFileHead form.order form.unit head
-    × Records form.order form.unit text rs rest × AllBegin FILE_HEAD_SIZE rs × (number ≡ length rs) × (taken + length rest ≡ length bytes)
+    (head : List ℕ) × (text : List ℕ) × (bytes ≡ head ++ text)
+    × IsFileHead form.order form.unit head
+    × Records form.order form.unit text rs rest × AllBegin FILE_HEAD_SIZE rs × (number ≡ length rs)
+    × (taken + length rest ≡ length bytes)
 HasReadIn (Stopped e) taken number bytes rs rest = IsOutside e ⊎ Input bytes rs (Refused e)
 
 -- of these bytes the reader gave these records, and the rest is to come
@@ -55,9 +57,12 @@ HasRead p bytes rs rest = HasReadIn p.phase p.taken p.number bytes rs rest
 -- What a call of a reader gives that gave these records of the bytes: the next record, the whole
 -- end, or the refusal of the bytes, unless reading failed or memory was out. `left` is what is to
 -- come.
-abbrev pub Gives : List ℕ → List Rec → PcapReaderView → Option (List ℕ) → Result (Option Rec) PcapErr → Type 0
-Gives bytes rs new left (Ok None) = Input bytes rs Whole × ((rest : List ℕ) × (left ≡ Some rest) × HasRead new bytes rs rest)
-Gives bytes rs new left (Ok (Some r)) = (rest : List ℕ) × (left ≡ Some rest) × HasRead new bytes (rs ++ r ∷ []) rest
+abbrev pub Gives :
+    List ℕ → List Rec → PcapReaderView → Option (List ℕ) → Result (Option Rec) PcapErr → Type 0
+Gives bytes rs new left (Ok None) =
+    Input bytes rs Whole × ((rest : List ℕ) × (left ≡ Some rest) × HasRead new bytes rs rest)
+Gives bytes rs new left (Ok (Some r)) =
+    (rest : List ℕ) × (left ≡ Some rest) × HasRead new bytes (rs ++ r ∷ []) rest
 Gives bytes rs new left (Err e) = IsOutside e ⊎ Input bytes rs (Refused e)
 
 -- the count never falls, a read fault comes only if it rose, and no other result changes it
@@ -68,7 +73,8 @@ pub record HasFaultCause {T : Type 0} (before now : ℕ) (result : Result T Pcap
 
 -- a reader in this phase says that too, but where it had stopped at a read fault it answers that
 -- again without a rise
-pub record HasReadCause {T : Type 0} (before now : ℕ) (phase : Phase) (result : Result T PcapErr) : Type 0 where
+pub record HasReadCause {T : Type 0} (before now : ℕ) (phase : Phase)
+    (result : Result T PcapErr) : Type 0 where
   pub later : before ≤ now
   pub still : (result ≡ Err ReadFault → ⊥) → now ≡ before
   pub fault : result ≡ Err ReadFault → Rose before now ⊎ (phase ≡ Stopped ReadFault)
@@ -76,7 +82,8 @@ pub record HasReadCause {T : Type 0} (before now : ℕ) (phase : Phase) (result 
 -- How much a call took: what its result says, and where the source's bytes are known, as many of
 -- the first of them; never less than before, the size of a head at least for a record, and no more
 -- than the last record that may begin.
-pub record Counts (left still : Option (List ℕ)) (before now : ℕ) (result : Result (Option Rec) PcapErr) : Type 0 where
+pub record Counts (left still : Option (List ℕ)) (before now : ℕ)
+    (result : Result (Option Rec) PcapErr) : Type 0 where
   pub taken : Took left still before now
   pub later : before ≤ now
   pub grows : IfOk result (λ o. OnSome o (before + RECORD_HEAD_SIZE ≤ now))
@@ -84,7 +91,8 @@ pub record Counts (left still : Option (List ℕ)) (before now : ℕ) (result : 
 
 -- An open reader that took the most that is read of an input answers `TooMuch`, takes nothing and
 -- leaves its source as it was. That is the answer only there, or if the reader had stopped at it.
-pub record KeepsLimit {S : Type 0} (before now : S) (old new : PcapReaderView) (result : Result (Option Rec) PcapErr) : Type 0 where
+pub record KeepsLimit {S : Type 0} (before now : S) (old new : PcapReaderView)
+    (result : Result (Option Rec) PcapErr) : Type 0 where
   pub much : (form : Form) → old.phase ≡ Open form → MAX_INPUT ≤ old.taken
       → (result ≡ Err (TooMuch old.taken)) × (new.taken ≡ old.taken) × (now ≡ before)
   pub much_only : (n : ℕ) → result ≡ Err (TooMuch n)
@@ -93,12 +101,15 @@ pub record KeepsLimit {S : Type 0} (before now : S) (old new : PcapReaderView) (
 -- What a call ensures that reads the next record into memory with this room: of the reader before
 -- and after, and of a source with these members before and after.
 pub record ReadsNext {S B : Type 0} (left : S → Option (List ℕ)) (faults : S → ℕ) (beside : S → B)
-    (before now : S) (old new : PcapReaderView) (room : ℕ) (result : Result (Option Rec) PcapErr) : Type 0 where
+    (before now : S) (old new : PcapReaderView) (room : ℕ)
+    (result : Result (Option Rec) PcapErr) : Type 0 where
   -- what it answers, where the source's bytes are known, and what it has come to then
-  pub gives : (bytes rest : List ℕ) (rs : List Rec) → left before ≡ Some rest → HasRead old bytes rs rest → Gives bytes rs new (left now) result
+  pub gives : (bytes rest : List ℕ) (rs : List Rec) → left before ≡ Some rest
+      → HasRead old bytes rs rest → Gives bytes rs new (left now) result
   pub goes : OnOk result (IsGoing new.phase)
   pub stops : IfErr result (λ e. new.phase ≡ Stopped e)
-  pub again : (e : PcapErr) → old.phase ≡ Stopped e → (result ≡ Err e) × (new ≡ old) × (now ≡ before)
+  pub again : (e : PcapErr) → old.phase ≡ Stopped e
+      → (result ≡ Err e) × (new ≡ old) × (now ≡ before)
   -- how much it took, by which a caller's loop ends, and that nothing is read after the limit
   pub count : Counts (left before) (left now) old.taken new.taken result
   pub takes : Takes old.phase old.taken new.taken result

@@ -12,7 +12,8 @@ use Rattle.st_pcap.specs.declared.numbers.TheConstants.{FILE_HEAD_SIZE, RECORD_H
 abbrev pub Took : Option (List ℕ) → Option (List ℕ) → ℕ → ℕ → Type 0
 Took None new before now = ⊤
 Took (Some xs) None before now = ⊥
-Took (Some xs) (Some ys) before now = (before + length xs ≡ now + length ys) × (ys ≡ drop (now - before) xs)
+Took (Some xs) (Some ys) before now =
+    (before + length xs ≡ now + length ys) × (ys ≡ drop (now - before) xs)
 
 -- What is taken where the file head is refused: all of it once its version or link type is looked
 -- at, else no more than came. No other cause refuses a file head.
@@ -52,7 +53,8 @@ TakesRecord begin now (Err e) = RefusesRecord begin now e
 -- says
 abbrev pub TakesFirst : ℕ → ℕ → Result (Option Rec) PcapErr → Type 0
 TakesFirst before now (Ok o) = TakesRecord (before + FILE_HEAD_SIZE) now (Ok o)
-TakesFirst before now (Err e) = RefusesHead before now e ⊎ RefusesRecord (before + FILE_HEAD_SIZE) now e
+TakesFirst before now (Err e) =
+    RefusesHead before now e ⊎ RefusesRecord (before + FILE_HEAD_SIZE) now e
 
 -- what a call takes of a reader in this phase
 abbrev pub Takes : Phase → ℕ → ℕ → Result (Option Rec) PcapErr → Type 0

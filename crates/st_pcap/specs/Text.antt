@@ -13,12 +13,18 @@ use Rattle.st_pcap.specs.Forms.{magic, fraction_of, nanoseconds}
 -- Ethernet
 unfoldable pub file_head : unit.Unit → List ℕ
 file_head u =
-    little_bytes NUMBER_SIZE (magic Little u) ++ (little_bytes SHORT_SIZE MAJOR ++ (little_bytes SHORT_SIZE MINOR ++ (little_bytes OLDER_SIZE 0 ++ (little_bytes NUMBER_SIZE MAX_BODY ++ little_bytes NUMBER_SIZE ETHERNET))))
+    little_bytes NUMBER_SIZE (magic Little u)
+    ++ (little_bytes SHORT_SIZE MAJOR
+    ++ (little_bytes SHORT_SIZE MINOR
+    ++ (little_bytes OLDER_SIZE 0
+    ++ (little_bytes NUMBER_SIZE MAX_BODY ++ little_bytes NUMBER_SIZE ETHERNET))))
 
 -- the 16 bytes before a record's body: seconds, fraction, captured and original length
 unfoldable pub record_head : unit.Unit → Rec → List ℕ
 record_head u r =
-    little_bytes NUMBER_SIZE r.sec ++ (little_bytes NUMBER_SIZE (fraction_of u r.nsec) ++ (little_bytes NUMBER_SIZE (length r.body) ++ little_bytes NUMBER_SIZE r.orig))
+    little_bytes NUMBER_SIZE r.sec
+    ++ (little_bytes NUMBER_SIZE (fraction_of u r.nsec)
+    ++ (little_bytes NUMBER_SIZE (length r.body) ++ little_bytes NUMBER_SIZE r.orig))
 
 -- a record's head and body
 abbrev pub record_text : unit.Unit → Rec → List ℕ

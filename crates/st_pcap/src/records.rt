@@ -45,8 +45,7 @@ pub fn read_record<S: Source>(
     body: Vec<u8>,
     taken: &mut u64,
 ) -> Result<Option<Record>, PcapErr>
-    requires counted { 0 < number }
-    requires room { taken.old ≤ MAX_INPUT + RECORD_HEAD_SIZE + MAX_BODY }
+    requires { (0 < number) × (taken.old ≤ MAX_INPUT + RECORD_HEAD_SIZE + MAX_BODY) }
     ensures gives { (rest : List ℕ) → S.left source.old ≡ Some rest
         → GivesRecord form taken.old number rest (S.left source.new) result }
     ensures memory { result ≡ Err PcapErr.NoMemory → vec_capacity body < MAX_BODY }
@@ -93,10 +92,8 @@ fn read_body<S: Source>(
     body: Vec<u8>,
     taken: &mut u64,
 ) -> Result<Record, PcapErr>
-    requires counted { 0 < number }
-    requires room { taken.old ≤ MAX_INPUT + RECORD_HEAD_SIZE }
-    requires short { fields.now.captured ≤ MAX_BODY }
-    requires below { fields.now.nsec < NANOS }
+    requires place { (0 < number) × (taken.old ≤ MAX_INPUT + RECORD_HEAD_SIZE) }
+    requires fields { (fields.now.captured ≤ MAX_BODY) × (fields.now.nsec < NANOS) }
     ensures gives { (rest : List ℕ) → S.left source.old ≡ Some rest
         → GivesBody fields.now number rest (S.left source.new) result }
     ensures below { IfErr result IsNoLimit }

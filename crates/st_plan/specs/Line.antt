@@ -24,13 +24,19 @@ is_plain (x ∷ (y ∷ rest)) = not (x == 45)
 pub data Line : Options → List Text → List Text → Options → List Text → Type 0 where
   nothing : {o : Options} {gs : List Text} → Line o gs [] o gs
   rest : {o : Options} {gs ws hs : List Text} → hs ≡ gs ++ ws → Line o gs (codes "--" ∷ ws) o hs
-  word : {o p : Options} {gs ws hs : List Text} {w : Text} → is_plain w ≡ true → Line o (gs ++ w ∷ []) ws p hs → Line o gs (w ∷ ws) p hs
-  ns : {o p : Options} {gs ws hs : List Text} → o.ns ≡ false → Line (record o { ns = true }) gs ws p hs → Line o gs (codes "--ns" ∷ ws) p hs
-  packets : {o p : Options} {gs ws hs : List Text} {v : Text} → o.packets ≡ None → is_plain v ≡ true → Line (record o { packets = Some v }) gs ws p hs
+  word : {o p : Options} {gs ws hs : List Text} {w : Text} → is_plain w ≡ true
+      → Line o (gs ++ w ∷ []) ws p hs → Line o gs (w ∷ ws) p hs
+  ns : {o p : Options} {gs ws hs : List Text} → o.ns ≡ false
+      → Line (record o { ns = true }) gs ws p hs → Line o gs (codes "--ns" ∷ ws) p hs
+  packets : {o p : Options} {gs ws hs : List Text} {v : Text} → o.packets ≡ None → is_plain v ≡ true
+      → Line (record o { packets = Some v }) gs ws p hs
       → Line o gs (codes "--packets" ∷ (v ∷ ws)) p hs
-  packets_joined : {o p : Options} {gs ws hs : List Text} {v : Text} → o.packets ≡ None → Line (record o { packets = Some v }) gs ws p hs
+  packets_joined : {o p : Options} {gs ws hs : List Text} {v : Text} → o.packets ≡ None
+      → Line (record o { packets = Some v }) gs ws p hs
       → Line o gs ((codes "--packets=" ++ v) ∷ ws) p hs
-  bytes : {o p : Options} {gs ws hs : List Text} {v : Text} → o.bytes ≡ None → is_plain v ≡ true → Line (record o { bytes = Some v }) gs ws p hs
+  bytes : {o p : Options} {gs ws hs : List Text} {v : Text} → o.bytes ≡ None → is_plain v ≡ true
+      → Line (record o { bytes = Some v }) gs ws p hs
       → Line o gs (codes "--bytes" ∷ (v ∷ ws)) p hs
-  bytes_joined : {o p : Options} {gs ws hs : List Text} {v : Text} → o.bytes ≡ None → Line (record o { bytes = Some v }) gs ws p hs
+  bytes_joined : {o p : Options} {gs ws hs : List Text} {v : Text} → o.bytes ≡ None
+      → Line (record o { bytes = Some v }) gs ws p hs
       → Line o gs ((codes "--bytes=" ++ v) ∷ ws) p hs

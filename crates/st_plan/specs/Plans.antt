@@ -10,7 +10,8 @@ use Rattle.st_plan.specs.declared.jobs.Plan.TheVariants.{Once}
 
 -- one to ten decimal digits write this number, below 2^32
 abbrev pub IsNumber : Text → ℕ → Type 0
-IsNumber word n = IsNumeral 10 word × (length word ≤ 10) × (digits_value 10 word ≡ n) × (n ≤ 4_294_967_295)
+IsNumber word n =
+    IsNumeral 10 word × (length word ≤ 10) × (digits_value 10 word ≡ n) × (n ≤ 4_294_967_295)
 
 -- the limit that an option sets; one that is not given is no limit
 abbrev pub IsLimit : Option Text → ℕ → Type 0
@@ -26,4 +27,5 @@ pub record IsJob (o : Options) (gs : List Text) (job : Job) : Type 0 where
 
 -- these arguments have this plan
 abbrev pub IsPlan : List Text → Plan → Type 0
-IsPlan words (Once job) = (o : Options) × (gs : List Text) × Line no_options [] words o gs × IsJob o gs job
+IsPlan words (Once job) =
+    (o : Options) × (gs : List Text) × Line no_options [] words o gs × IsJob o gs job

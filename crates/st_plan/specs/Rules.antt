@@ -14,8 +14,12 @@ words_rule = record (new_rule (codes "words")) { action = Some Append }
 
 abbrev pub bare_app : App
 bare_app = record (new_app (codes "steno")) {
-  top = record ((new_app (codes "steno")).top) { no_binary_name = true; disable_help_flag = true; disable_version_flag = true };
+  top = record
+      ((new_app (codes "steno")).top)
+      { no_binary_name = true; disable_help_flag = true; disable_version_flag = true };
 }
 
 abbrev pub line_app : App
-line_app = with_rule (with_rule (with_rule (with_rule bare_app (flag_rule (codes "ns"))) (value_rule (codes "packets"))) (value_rule (codes "bytes"))) words_rule
+line_app =
+    with_rule (with_rule (with_rule (with_rule bare_app (flag_rule (codes "ns")))
+    (value_rule (codes "packets"))) (value_rule (codes "bytes"))) words_rule

@@ -25,8 +25,10 @@ IsAscending (p ∷ ps) = All (Precedes p) ps × IsAscending ps
 -- the list is in ascending order, and its members are exactly the records of rs that match
 pub record IsAnswer (q : Node) (now : ℕ) (rs : List Rec) (ps : List Numbered) : Type 0 where
   pub ascending : IsAscending ps
-  pub members : (p : Numbered) → Contains ps p ↔ ((slice_get rs p.number ≡ Some p.packet) × Matches q now p.packet)
+  pub members : (p : Numbered)
+      → Contains ps p ↔ ((slice_get rs p.number ≡ Some p.packet) × Matches q now p.packet)
 
 -- the answer over the list of records
 abbrev pub AnswerOf : Node → ℕ → List Rec → List Rec → Type 0
-AnswerOf q now rs answer = (ps : List Numbered) × IsAnswer q now rs ps × (answer ≡ map (λ (p : Numbered). p.packet) ps)
+AnswerOf q now rs answer =
+    (ps : List Numbered) × IsAnswer q now rs ps × (answer ≡ map (λ (p : Numbered). p.packet) ps)

@@ -44,8 +44,10 @@ read want.Host (token.Address a m) = effect.Done (prim.Host a)
 read want.Net (token.Net a n) = effect.Done (prim.Net (network a n) n)
 read want.Net (token.Address a m) = effect.Go (want.MaskWord a)
 read (want.MaskWord a) (token.Key key.Mask) = effect.Go (want.MaskOf a)
-read (want.MaskOf (V4 a)) (token.Address (V4 b) (Some n)) = effect.Done (prim.Net (network (V4 a) n) n)
-read (want.MaskOf (V6 a)) (token.Address (V6 b) (Some n)) = effect.Done (prim.Net (network (V6 a) n) n)
+read (want.MaskOf (V4 a)) (token.Address (V4 b) (Some n)) =
+    effect.Done (prim.Net (network (V4 a) n) n)
+read (want.MaskOf (V6 a)) (token.Address (V6 b) (Some n)) =
+    effect.Done (prim.Net (network (V6 a) n) n)
 read want.Port (token.Number n) = at_most MAX_PORT n (prim.Port n)
 read want.ProtoWord (token.Key key.Proto) = effect.Go want.Proto
 read want.Proto (token.Number n) = at_most MAX_PROTO n (prim.Proto n)

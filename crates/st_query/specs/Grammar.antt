@@ -26,31 +26,48 @@ SameFamily _ _ = ⊥
 
 -- the tokens are this primitive
 pub data Prim : List Token → Primitive → Type 0 where
-  host : {us : List Token} {a : Addr} {m : Option ℕ} → us ≡ token.Key key.Host ∷ token.Address a m ∷ [] → Prim us (prim.Host a)
-  net : {us : List Token} {a : Addr} {n : ℕ} → us ≡ token.Key key.Net ∷ token.Net a n ∷ [] → Prim us (prim.Net (network a n) n)
-  masked : {us : List Token} {a b : Addr} {m : Option ℕ} {n : ℕ} → SameFamily a b → us ≡ token.Key key.Net ∷ token.Address a m ∷ token.Key key.Mask ∷ token.Address b (Some n) ∷ [] → Prim us (prim.Net (network a n) n)
-  port : {us : List Token} {n : ℕ} → n ≤ MAX_PORT → us ≡ token.Key key.Port ∷ token.Number n ∷ [] → Prim us (prim.Port n)
-  proto : {us : List Token} {n : ℕ} → n ≤ MAX_PROTO → us ≡ token.Key key.Ip ∷ token.Key key.Proto ∷ token.Number n ∷ [] → Prim us (prim.Proto n)
-  vlan : {us : List Token} {n : ℕ} → n ≤ MAX_VLAN → us ≡ token.Key key.Vlan ∷ token.Number n ∷ [] → Prim us (prim.Vlan n)
-  mpls : {us : List Token} {n : ℕ} → n ≤ MAX_LABEL → us ≡ token.Key key.Mpls ∷ token.Number n ∷ [] → Prim us (prim.Mpls n)
+  host : {us : List Token} {a : Addr} {m : Option ℕ}
+      → us ≡ token.Key key.Host ∷ token.Address a m ∷ [] → Prim us (prim.Host a)
+  net : {us : List Token} {a : Addr} {n : ℕ} → us ≡ token.Key key.Net ∷ token.Net a n ∷ []
+      → Prim us (prim.Net (network a n) n)
+  masked : {us : List Token} {a b : Addr} {m : Option ℕ} {n : ℕ} → SameFamily a b
+      → us ≡ token.Key key.Net ∷ token.Address a m ∷ token.Key key.Mask ∷ token.Address b (Some n)
+      ∷ [] → Prim us (prim.Net (network a n) n)
+  port : {us : List Token} {n : ℕ} → n ≤ MAX_PORT → us ≡ token.Key key.Port ∷ token.Number n ∷ []
+      → Prim us (prim.Port n)
+  proto : {us : List Token} {n : ℕ} → n ≤ MAX_PROTO
+      → us ≡ token.Key key.Ip ∷ token.Key key.Proto ∷ token.Number n ∷ [] → Prim us (prim.Proto n)
+  vlan : {us : List Token} {n : ℕ} → n ≤ MAX_VLAN → us ≡ token.Key key.Vlan ∷ token.Number n ∷ []
+      → Prim us (prim.Vlan n)
+  mpls : {us : List Token} {n : ℕ} → n ≤ MAX_LABEL → us ≡ token.Key key.Mpls ∷ token.Number n ∷ []
+      → Prim us (prim.Mpls n)
   icmp : {us : List Token} → us ≡ token.Key key.Icmp ∷ [] → Prim us (prim.Proto 1)
   tcp : {us : List Token} → us ≡ token.Key key.Tcp ∷ [] → Prim us (prim.Proto 6)
   udp : {us : List Token} → us ≡ token.Key key.Udp ∷ [] → Prim us (prim.Proto 17)
-  before_at : {us : List Token} {t : ℤ} → us ≡ token.Key key.Before ∷ token.Instant t ∷ [] → Prim us (prim.Before (when.At t))
-  before_ago : {us : List Token} {n : ℕ} {h : Bool} → us ≡ token.Key key.Before ∷ token.Span n h ∷ token.Key key.Ago ∷ [] → Prim us (prim.Before (when.Ago n h))
-  after_at : {us : List Token} {t : ℤ} → us ≡ token.Key key.After ∷ token.Instant t ∷ [] → Prim us (prim.After (when.At t))
-  after_ago : {us : List Token} {n : ℕ} {h : Bool} → us ≡ token.Key key.After ∷ token.Span n h ∷ token.Key key.Ago ∷ [] → Prim us (prim.After (when.Ago n h))
+  before_at : {us : List Token} {t : ℤ} → us ≡ token.Key key.Before ∷ token.Instant t ∷ []
+      → Prim us (prim.Before (when.At t))
+  before_ago : {us : List Token} {n : ℕ} {h : Bool}
+      → us ≡ token.Key key.Before ∷ token.Span n h ∷ token.Key key.Ago ∷ []
+      → Prim us (prim.Before (when.Ago n h))
+  after_at : {us : List Token} {t : ℤ} → us ≡ token.Key key.After ∷ token.Instant t ∷ []
+      → Prim us (prim.After (when.At t))
+  after_ago : {us : List Token} {n : ℕ} {h : Bool}
+      → us ≡ token.Key key.After ∷ token.Span n h ∷ token.Key key.Ago ∷ []
+      → Prim us (prim.After (when.Ago n h))
 
 -- the tokens are this item, or this query, inside d open parentheses
 mutual
   pub data Item : ℕ → List Token → Tree → Type 0 where
     primitive : {d : ℕ} {us : List Token} {l : Primitive} → Prim us l → Item d us (one l)
-    paren : {d : ℕ} {ts us : List Token} {q : Tree} → d < MAX_OPEN → Query (suc d) ts q → us ≡ token.Open ∷ (ts ++ token.Close ∷ []) → Item d us q
+    paren : {d : ℕ} {ts us : List Token} {q : Tree} → d < MAX_OPEN → Query (suc d) ts q
+        → us ≡ token.Open ∷ (ts ++ token.Close ∷ []) → Item d us q
 
   pub data Query : ℕ → List Token → Tree → Type 0 where
     item : {d : ℕ} {us : List Token} {q : Tree} → Item d us q → Query d us q
-    and : {d : ℕ} {ts us ws : List Token} {a b : Tree} → Query d ts a → Item d us b → ws ≡ ts ++ (token.And ∷ us) → Query d ws (both a b)
-    or : {d : ℕ} {ts us ws : List Token} {a b : Tree} → Query d ts a → Item d us b → ws ≡ ts ++ (token.Or ∷ us) → Query d ws (either a b)
+    and : {d : ℕ} {ts us ws : List Token} {a b : Tree} → Query d ts a → Item d us b
+        → ws ≡ ts ++ (token.And ∷ us) → Query d ws (both a b)
+    or : {d : ℕ} {ts us ws : List Token} {a b : Tree} → Query d ts a → Item d us b
+        → ws ≡ ts ++ (token.Or ∷ us) → Query d ws (either a b)
 
 -- some further tokens make these a query
 abbrev pub CanGoOn : List Token → Type 0

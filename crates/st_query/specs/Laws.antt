@@ -24,4 +24,6 @@ HasReading text = ((q : Node) × Spells text q) ⊎ ((e : QueryErr) × Refuses t
 
 -- a list of records has one answer at most
 abbrev pub OneAnswer : Type 0
-OneAnswer = (q : Node) (now : ℕ) (rs xs ys : List Rec) → AnswerOf q now rs xs → AnswerOf q now rs ys → xs ≡ ys
+OneAnswer =
+    (q : Node) (now : ℕ) (rs xs ys : List Rec) → AnswerOf q now rs xs → AnswerOf q now rs ys
+    → xs ≡ ys

@@ -18,4 +18,5 @@ error_at kind.Deep place = err.Deep place
 
 -- the tokens of the text up to this offset lead to this phase and stack
 abbrev pub HasRead : List ℕ → ℕ → PhaseView → List (Option HalfView) → Type 0
-HasRead text at s hs = (ts : List Token) × Starts text ts (drop at text) × (run [] start ts ≡ Some (s, hs))
+HasRead text at s hs =
+    (ts : List Token) × Starts text ts (drop at text) × (run [] start ts ≡ Some (s, hs))

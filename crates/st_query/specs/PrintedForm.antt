@@ -10,7 +10,8 @@ use Rattle.st_query.specs.Trees.{Tree, both, either, one, is_joined}
 -- a moment: an instant in UTC, or this many minutes or hours ago
 abbrev pub when_text : When → List ℕ
 when_text (At second) = instant_text second
-when_text (Ago count hours) = (decimal count ++ (if hours then codes "h" else codes "m")) ++ codes " ago"
+when_text (Ago count hours) =
+    (decimal count ++ (if hours then codes "h" else codes "m")) ++ codes " ago"
 
 -- the printed form of a primitive
 abbrev pub primitive_text : Primitive → List ℕ

@@ -35,7 +35,8 @@ net_text a n = address_text a ++ codes "/" ++ decimal n
 -- the last year up to that one that begins by the day
 unfoldable pub year_by : ℕ → ℕ → ℕ
 year_by zero day = 0
-year_by (suc year) day = if nat_le (day_count (pos (suc year)) 1 1) day then suc year else year_by year day
+year_by (suc year) day =
+    if nat_le (day_count (pos (suc year)) 1 1) day then suc year else year_by year day
 
 -- the year of a day in the years 0000 to 9999, where days are counted as the calendar counts them
 unfoldable pub year_of : ℕ → ℕ
@@ -44,7 +45,8 @@ year_of day = year_by 9999 day
 -- the last month of the year up to that one that begins by the day
 unfoldable pub month_by : ℕ → ℕ → ℕ → ℕ
 month_by year zero day = 0
-month_by year (suc month) day = if nat_le (day_count (pos year) (suc month) 1) day then suc month else month_by year month day
+month_by year (suc month) day =
+    if nat_le (day_count (pos year) (suc month) 1) day then suc month else month_by year month day
 
 -- the month of the day
 unfoldable pub month_of : ℕ → ℕ

@@ -15,7 +15,8 @@ use Rattle.st_query.specs.Grammar.{Query, CanGoOn, HasKind}
 abbrev pub Starts : List ℕ → List Token → List ℕ → Type 0
 Starts text [] rest = text ≡ rest
 Starts text (t ∷ ts) rest =
-    (gap : List ℕ) × (piece : List ℕ) × (more : List ℕ) × (text ≡ gap ++ (piece ++ more)) × IsBlank gap
+    (gap : List ℕ) × (piece : List ℕ) × (more : List ℕ) × (text ≡ gap ++ (piece ++ more))
+    × IsBlank gap
     × IsPiece t piece more × Starts more ts rest
 
 -- the text's tokens are this query

@@ -38,7 +38,8 @@ HasDate word = IsCivilDate (pos (year_at word)) (two_at 5 word) (two_at 8 word)
 -- it is n days after -9999-01-01
 abbrev pub IsDayOf : List ℕ → ℕ → Type 0
 IsDayOf word n = HasDate word
-    × (days_from_civil (pos (year_at word)) (two_at 5 word) (two_at 8 word) +ℤ pos 4_371_587 ≡ pos n)
+    × (days_from_civil (pos (year_at word)) (two_at 5 word) (two_at 8 word) +ℤ pos 4_371_587
+    ≡ pos n)
 
 -- the word's time of day is one
 abbrev pub HasClock : List ℕ → Type 0
@@ -46,7 +47,8 @@ HasClock word = (two_at 11 word < 24) × (two_at 14 word < 60) × (two_at 17 wor
 
 -- it is n seconds after midnight
 abbrev pub IsClockOf : List ℕ → ℕ → Type 0
-IsClockOf word n = HasClock word × (two_at 11 word * HOUR + two_at 14 word * MINUTE + two_at 17 word ≡ n)
+IsClockOf word n =
+    HasClock word × (two_at 11 word * HOUR + two_at 14 word * MINUTE + two_at 17 word ≡ n)
 
 -- by how many seconds local time is ahead of UTC
 abbrev pub ahead : Zone → ℤ

@@ -30,8 +30,10 @@ abbrev pub IsOffset : List ℕ → ℤ → Type 0
 IsOffset text seconds =
     ((text ≡ codes "Z") × (seconds ≡ pos 0))
     ⊎ ((hour minute : ℕ) × (hour < 24) × (minute < 60)
-    × (((text ≡ codes "+" ++ minute_text hour minute) × (seconds ≡ pos (hour * HOUR + minute * MINUTE)))
-    ⊎ ((text ≡ codes "-" ++ minute_text hour minute) × (seconds ≡ neg_ℤ (pos (hour * HOUR + minute * MINUTE))))))
+    × (((text ≡ codes "+" ++ minute_text hour minute)
+    × (seconds ≡ pos (hour * HOUR + minute * MINUTE)))
+    ⊎ ((text ≡ codes "-" ++ minute_text hour minute)
+    × (seconds ≡ neg_ℤ (pos (hour * HOUR + minute * MINUTE))))))
 
 -- the seconds since 1970 of the years 0000 to 9999 in UTC
 abbrev pub IsInYears : ℤ → Type 0
@@ -47,15 +49,19 @@ pub record IsInstant (word : List ℕ) (t : ℤ) : Type 0 where
   pub second : ℕ
   pub zone : List ℕ
   pub offset : ℤ
-  pub spelled : word ≡ date_text year month day ++ codes "T" ++ clock_text hour minute second ++ zone
+  pub spelled : word
+      ≡ date_text year month day ++ codes "T" ++ clock_text hour minute second ++ zone
   pub date : IsCivilDate (pos year) month day
   pub clock : (hour < 24) × (minute < 60) × (second < 60)
   pub is_offset : IsOffset zone offset
-  pub value : t ≡ ((days_from_civil (pos year) month day *ℤ pos DAY) +ℤ pos (hour * HOUR + minute * MINUTE + second)) -ℤ offset
+  pub value : t
+      ≡ ((days_from_civil (pos year) month day *ℤ pos DAY) +ℤ pos
+      (hour * HOUR + minute * MINUTE + second)) -ℤ offset
   pub in_years : IsInYears t
 
 -- one to ten digits below 2^32, and the unit, `m` for minutes or `h` for hours
 abbrev pub IsSpan : List ℕ → ℕ → Bool → Type 0
 IsSpan word count hours =
-    (digits : List ℕ) × (word ≡ digits ++ (if hours then codes "h" else codes "m")) × IsNumber NUMBER_DIGITS digits count
+    (digits : List ℕ) × (word ≡ digits ++ (if hours then codes "h" else codes "m"))
+    × IsNumber NUMBER_DIGITS digits count
     × (count < 2 ^ 32)

@@ -87,8 +87,10 @@ IsWord word t = MatchOption (keyword word) (IsValue word t) (λ k. t ≡ k)
 -- no white space, no word and no mark begins there
 abbrev pub IsStray : List ℕ → Type 0
 IsStray text =
-    (0 < length text) × EndsRun is_space text × EndsRun is_word_byte text × (Begins text (codes "(") → ⊥)
-    × (Begins text (codes ")") → ⊥) × (Begins text (codes "&&") → ⊥) × (Begins text (codes "||") → ⊥)
+    (0 < length text) × EndsRun is_space text × EndsRun is_word_byte text
+    × (Begins text (codes "(") → ⊥)
+    × (Begins text (codes ")") → ⊥) × (Begins text (codes "&&") → ⊥)
+    × (Begins text (codes "||") → ⊥)
 
 -- the piece, before `more` of the text, is this token: a mark, a longest run of word bytes, or a
 -- single other byte

@@ -5,7 +5,8 @@ use Rattle.st_query.specs.Words.{IsNumber, IsAddress, IsNet}
 
 -- the number that the word spells, or none if it spells none
 abbrev pub ReadsNumber : ℕ → List ℕ → Option ℕ → Type 0
-ReadsNumber most word r = MatchOption r ((n : ℕ) → IsNumber most word n → ⊥) (λ n. IsNumber most word n)
+ReadsNumber most word r =
+    MatchOption r ((n : ℕ) → IsNumber most word n → ⊥) (λ n. IsNumber most word n)
 
 -- the address that the word spells, or none if it spells none
 abbrev pub ReadsAddress : List ℕ → Option Addr → Type 0

@@ -17,7 +17,8 @@ IsNumber most word n = IsNumeral 10 word × (length word ≤ most) × (digits_va
 -- one zero group or more, and no group is written as decimal numbers
 abbrev pub IsAddress : List ℕ → Addr → Type 0
 IsAddress word (V4 bits) = (ip : Ipv4Addr) × IsIpv4Text word ip × (bits ≡ ipv4_bits ip)
-IsAddress word (V6 bits) = (ip : Ipv6Addr) × IsIpv6Text word ip × ¬ (Contains word 46) × (bits ≡ ipv6_bits ip)
+IsAddress word (V6 bits) =
+    (ip : Ipv6Addr) × IsIpv6Text word ip × ¬ (Contains word 46) × (bits ≡ ipv6_bits ip)
 
 -- how many bits an address has
 abbrev pub width : Addr → ℕ
@@ -38,7 +39,8 @@ IsNet word a n =
 -- the text has a slash at i, and none after it
 abbrev pub EndsAtSlash : List ℕ → ℕ → Type 0
 EndsAtSlash word i =
-    (i < length word) × (word ≡ take i word ++ codes "/" ++ drop (i + 1) word) × All (λ b. b ≢ 47) (drop (i + 1) word)
+    (i < length word) × (word ≡ take i word ++ codes "/" ++ drop (i + 1) word)
+    × All (λ b. b ≢ 47) (drop (i + 1) word)
 
 -- the number of `width` bits, with all but its first n bits cleared
 abbrev pub cleared : ℕ → ℕ → ℕ → ℕ

@@ -6,7 +6,8 @@ use Rattle.st_shelf.specs.declared.shelves.End.TheVariants.{Unsealed, Sealed}
 use Rattle.st_shelf.specs.Origins.{DraftOrigin}
 
 -- the origin of a draft that comes back
-abbrev pub end_origin : {T S : Type 0} → (T → DraftOrigin) → (S → DraftOrigin) → End T S → DraftOrigin
+abbrev pub end_origin :
+    {T S : Type 0} → (T → DraftOrigin) → (S → DraftOrigin) → End T S → DraftOrigin
 end_origin origin sealed_origin (Unsealed draft) = origin draft
 end_origin origin sealed_origin (Sealed sealed) = sealed_origin sealed
 

@@ -1,6 +1,7 @@
 pub mod Origins
 pub mod Loans
 pub mod Ends
+pub mod Schedules
 pub use Rattle.st_disk.specs.Names
 pub use Rattle.st_disk.specs.Folders
 pub use Rattle.st_disk.specs.Disks

@@ -1,6 +1,6 @@
 -- What the calls of `builder` require and ensure: which row may be added, what a builder keeps, and
 -- which rows and bytes it represents, since it keeps neither.
-use Rattle.std.specs.Prelude.{ℕ, ◌+◌, List, ◌++◌, length, ◌≡◌, ◌*◌, ◌<◌, ◌≤◌, All, Option, Some, None, IsTrue, Result, Ok, Err}
+use Rattle.std.specs.Prelude.{ℕ, ◌+◌, List, ◌++◌, length, ◌≡◌, ◌*◌, ◌<◌, ◌≤◌, ◌^◌, All, Option, Some, None, IsTrue, Result, Ok, Err}
 use Rattle.st_tblock.specs.Block.{RowView, key_or_empty, is_above}
 use Rattle.st_tblock.specs.Builder.{EntryBlockView, added, block_size, HasRows}
 use Rattle.st_tblock.specs.Handles.{handle_text}
@@ -30,6 +30,20 @@ pub record MayAdd (k : TableBuilderView) (r : RowView) : Type 0 where
 abbrev pub Follows : Option (List ℕ) → Option (List ℕ) → Type 0
 Follows low None = Unit {0}
 Follows low (Some key) = IsTrue (is_above low key)
+
+-- the block may be named in the index: its last key is above the index's and not too long, and the
+-- index has room
+pub record MayName (block index : EntryBlockView) : Type 0 where
+  pub above : IsTrue (is_above index.last (key_or_empty block.last))
+  pub key : length (key_or_empty block.last) ≤ MAX_KEY
+  pub room : block_size index < 2 ^ 32
+
+-- a file of this block and this index may be ended, where the next block is at this offset
+pub record MayEnd (block index : EntryBlockView) (offset : ℕ) : Type 0 where
+  pub order : Follows index.last block.last
+  pub key : length (key_or_empty block.last) ≤ MAX_KEY
+  pub room : block_size index < 2 ^ 32
+  pub at : offset + block_size block < 2 ^ 61
 
 -- what a builder keeps however full its data block is: keys rise, no more is written than the rows
 -- have room, and the index has at most 103 bytes for each 4,101 of data, a full block and its five

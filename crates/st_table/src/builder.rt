@@ -6,7 +6,7 @@ ghost use Rattle.st_tblock.specs.Builder.{empty, block_size, block_text, HasRows
 ghost use Rattle.st_tblock.specs.Handles.{handle_text, footer_text, footer_in};
 ghost use Rattle.st_table.specs.TableFile.{IsTable};
 ghost use Rattle.st_table.specs.TableBuilderView.{builder_view, no_rows, room_of, next_handle, stored_text, after_row, written_by, ending_at, finishing};
-ghost use Rattle.st_table.specs.Builder.{Builds, Indexes, MayAdd, Follows, last_added, Names};
+ghost use Rattle.st_table.specs.Builder.{Builds, Indexes, MayAdd, MayName, MayEnd, last_added, Names};
 
 use crate::build_errors::BuildErr;
 use crate::limits::{
@@ -31,9 +31,7 @@ fn put_named<S: Sink>(
     handle: Handle,
     sink: &mut S,
 ) -> Result<(), BuildErr>
-    requires above { IsTrue (is_above index.old.last (key_or_empty block.old.last)) }
-    requires key { length (key_or_empty block.old.last) ≤ MAX_KEY }
-    requires room { block_size index.old < 2 ^ 32 }
+    requires { MayName block.old index.old }
     ensures bytes { Puts (S.written sink.old) (S.written sink.new)
         (stored_text (block_text block.old)) result }
     ensures good { OnOk result ((rows : List RowView) → HasRows block.old rows
@@ -62,9 +60,7 @@ fn close<S: Sink>(
     at: &mut u64,
     sink: &mut S,
 ) -> Result<(), BuildErr>
-    requires above { IsTrue (is_above index.old.last (key_or_empty block.old.last)) }
-    requires key { length (key_or_empty block.old.last) ≤ MAX_KEY }
-    requires room { block_size index.old < 2 ^ 32 }
+    requires may { MayName block.old index.old }
     requires at { at.old + block_size block.old < 2 ^ 63 }
     ensures bytes { Puts (S.written sink.old) (S.written sink.new)
         (stored_text (block_text block.old)) result }
@@ -80,10 +76,10 @@ fn close<S: Sink>(
           handle_text
               (next_handle at.old (block_size block.old)),
         ) ∷ [])) }
-    ensures block { block.new ≡ empty block.old.interval }
-    ensures at { at.new ≡ at.old + (block_size block.old + TRAILER_SIZE) }
-    ensures cause { HasCauseOf BuildErr.WriteFault (S.faults sink.old) (S.faults sink.new) result }
-    ensures rest { S.beside sink.new ≡ S.beside sink.old }
+    ensures next { (block.new ≡ empty block.old.interval)
+        × (at.new ≡ at.old + (block_size block.old + TRAILER_SIZE)) }
+    ensures sink { HasCauseOf BuildErr.WriteFault (S.faults sink.old) (S.faults sink.new) result
+        × (S.beside sink.new ≡ S.beside sink.old) }
 {
     let offset = *at;
     let size = block.size();
@@ -155,10 +151,7 @@ fn put_rest<S: Sink>(
     at: u64,
     sink: &mut S,
 ) -> Result<u64, BuildErr>
-    requires order { Follows index.old.last block.old.last }
-    requires key { length (key_or_empty block.old.last) ≤ MAX_KEY }
-    requires room { block_size index.old < 2 ^ 32 }
-    requires at { at + block_size block.old < 2 ^ 61 }
+    requires { MayEnd block.old index.old at }
     ensures bytes { Puts (S.written sink.old) (S.written sink.new)
         (finishing (builder_view block.old index.old at 0)) result }
     ensures length { IfOk result

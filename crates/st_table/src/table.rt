@@ -116,9 +116,10 @@ impl<'a, R: Reader> Table<'a, R> {
 
     /// Reads the footer and the index block, by two reads at most. The metaindex block is not read.
     ///
-    /// Damage is that of the first check that fails, in the order of docs/FORMAT.md, "Checks": the
-    /// file holds a footer, its magic number, its handles; the index block's end, its type byte,
-    /// its sum, its restarts; each entry, its key above the last one, its value one handle.
+    /// Damage is that of the first check that fails, in the order of docs/FORMAT.md, "Checks of a
+    /// table": the file holds a footer, its magic number, its handles; the index block's end, its
+    /// type byte, its sum, its restarts; each entry, its key above the last one, its value one
+    /// handle.
     /// `Compressed` comes if and only if the type byte is 1. `ReadFault` comes only if the file
     /// failed in this call. Where it succeeds, no data block counts as checked yet. After an error
     /// the table has the entries that it had, and the same data blocks count as checked.
@@ -159,9 +160,9 @@ impl<'a, R: Reader> Table<'a, R> {
     /// The value of `key`, or `None` where the table has no row of that key; by one read at most.
     ///
     /// The data block that the index names for `key` is read whole. Damage is that of its first
-    /// check that fails, in the order of docs/FORMAT.md, "Checks": its end, its type byte, its sum,
-    /// its restarts; each entry, its key above the last one and between the index keys around the
-    /// block. `Compressed` comes if and only if the type byte is 1. `ReadFault` comes only if the
+    /// check that fails, in the order of docs/FORMAT.md, "Checks of a table": its end, its type
+    /// byte, its sum, its restarts; each entry, its key above the last one and between the index
+    /// keys around the block. `Compressed` comes if and only if the type byte is 1. `ReadFault` comes only if the
     /// file failed in this call. The table's entries stay.
     ///
     /// Restarts and entries are checked until no check fails: from then on the block counts as
@@ -229,8 +230,8 @@ impl<'a, R: Reader> Table<'a, R> {
     ///
     /// Each data block is read whole, by one read at most, before its first row is given, and once
     /// in a reading. Damage is that of its first check that fails, in the order of docs/FORMAT.md,
-    /// "Checks": its end, its type byte, its sum, its restarts; each entry, its key above the last
-    /// one and between the index keys around the block. `Compressed` comes if and only if the type
+    /// "Checks of a table": its end, its type byte, its sum, its restarts; each entry, its key above
+    /// the last one and between the index keys around the block. `Compressed` comes if and only if the type
     /// byte is 1. `ReadFault` comes only if the file failed in this call. After an error `cursor`
     /// is before that block.
     ///

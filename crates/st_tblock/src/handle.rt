@@ -127,7 +127,7 @@ pub fn footer(meta: Handle, index: Handle) -> [u8; FOOTER_SIZE]
 /// `Damage` if and only if the footer doesn't end with the magic number (its place is the number's
 /// offset) or the bytes before that don't begin with two handles (place 0, found 0, want 1),
 /// whichever comes first. Places count from the footer's first byte.
-/// Source: LevelDB, doc/table_format.md; docs/FORMAT.md, "Table file" and "Checks".
+/// Source: LevelDB, doc/table_format.md; docs/FORMAT.md, "Table file", "Checks of a table".
 #[tactic(auto, unfolding(crate::specs::Handles::footer_in))]
 pub fn read_footer(bytes: &[u8; FOOTER_SIZE]) -> Result<(Handle, Handle), Damage>
     ensures { MatchResult result (λ x. footer_in bytes.now ≡ Ok x)

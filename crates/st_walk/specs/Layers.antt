@@ -44,7 +44,8 @@ ip4_size p o = IP4_WORD_SIZE * (byte p o % HALF)
 
 -- an IPv4 header counts: 20 bytes, version 4, and at least five words (RFC 791, 3.1)
 unfoldable pub is_ip4 : List ℕ → ℕ → Bool
-is_ip4 p o = holds p o IP4_SIZE && byte p o / HALF == IP4_VERSION && nat_le IP4_WORDS (byte p o % HALF)
+is_ip4 p o =
+    holds p o IP4_SIZE && byte p o / HALF == IP4_VERSION && nat_le IP4_WORDS (byte p o % HALF)
 
 -- an IPv6 header counts: 40 bytes and version 6 (RFC 8200, 3)
 unfoldable pub is_ip6 : List ℕ → ℕ → Bool
@@ -63,8 +64,11 @@ has_ports n = n == TCP || n == UDP
 -- authentication (RFC 4302, 2.2)
 unfoldable pub extension_size : List ℕ → ℕ → ℕ → ℕ
 extension_size p o n =
-    if n == HOP_BY_HOP || n == ROUTING || n == DESTINATION then EXTENSION_UNIT * (byte p (o + EXTENSION_UNITS_AT) + 1)
-    else (if n == FRAGMENT then FRAGMENT_SIZE else (if n == AUTHENTICATION then AUTHENTICATION_UNIT * (byte p (o + EXTENSION_UNITS_AT) + AUTHENTICATION_UNCOUNTED) else 0))
+    if n == HOP_BY_HOP || n == ROUTING || n == DESTINATION
+    then EXTENSION_UNIT * (byte p (o + EXTENSION_UNITS_AT) + 1)
+    else (if n == FRAGMENT then FRAGMENT_SIZE
+    else (if n == AUTHENTICATION
+    then AUTHENTICATION_UNIT * (byte p (o + EXTENSION_UNITS_AT) + AUTHENTICATION_UNCOUNTED) else 0))
 
 -- an extension header of this number counts: it is wholly captured
 unfoldable pub is_extension : List ℕ → ℕ → ℕ → Bool
@@ -72,7 +76,9 @@ is_extension p o n = nat_lt 0 (extension_size p o n) && holds p o (extension_siz
 
 -- the extension header is that of a later fragment: its fragment offset is not 0 (RFC 8200, 4.5)
 unfoldable pub is_later : List ℕ → ℕ → ℕ → Bool
-is_later p o n = n == FRAGMENT && not (field FRAGMENT_OFFSET_SIZE (o + FRAGMENT_OFFSET_AT) p / FRAGMENT_OFFSET_UNIT == 0)
+is_later p o n =
+    n == FRAGMENT
+    && not (field FRAGMENT_OFFSET_SIZE (o + FRAGMENT_OFFSET_AT) p / FRAGMENT_OFFSET_UNIT == 0)
 
 -- The keys that a layer carries, in their order in it: the identifier of a tag (IEEE 802.1Q, 9.6),
 -- a label (RFC 3032, 2.1), the protocol and both addresses of IPv4 (RFC 791, 3.1), both addresses
@@ -82,15 +88,22 @@ abbrev pub layer_keys : List ℕ → ℕ → Layer → List Key
 layer_keys p o Ether = []
 layer_keys p o (Next n) =
     if is_tag n && holds p o TAG_SIZE then Vlan (field VLAN_SIZE o p % TAG_LIMIT) ∷ [] else []
-layer_keys p o Label = if holds p o LABEL_SIZE then Mpls (field MPLS_SIZE o p / LABEL_UNIT) ∷ [] else []
+layer_keys p o Label =
+    if holds p o LABEL_SIZE then Mpls (field MPLS_SIZE o p / LABEL_UNIT) ∷ [] else []
 layer_keys p o Ip4 =
     if is_ip4 p o then
-    Proto (byte p (o + IP4_PROTO_AT)) ∷ (V4 (field V4_SIZE (o + IP4_SOURCE_AT) p) ∷ (V4 (field V4_SIZE (o + IP4_DESTINATION_AT) p) ∷ []))
+    Proto (byte p (o + IP4_PROTO_AT))
+    ∷ (V4 (field V4_SIZE (o + IP4_SOURCE_AT) p)
+    ∷ (V4 (field V4_SIZE (o + IP4_DESTINATION_AT) p) ∷ []))
     else []
 layer_keys p o Ip6 =
-    if is_ip6 p o then V6 (field V6_SIZE (o + IP6_SOURCE_AT) p) ∷ (V6 (field V6_SIZE (o + IP6_DESTINATION_AT) p) ∷ []) else []
+    if is_ip6 p o
+    then V6 (field V6_SIZE (o + IP6_SOURCE_AT) p)
+    ∷ (V6 (field V6_SIZE (o + IP6_DESTINATION_AT) p) ∷ []) else []
 layer_keys p o (Chain n) = []
 layer_keys p o (Last n) = Proto n ∷ []
 layer_keys p o (Fragment n) = Proto n ∷ []
 layer_keys p o Ports =
-    if holds p o PORTS_SIZE then Port (field PORT_SIZE o p) ∷ (Port (field PORT_SIZE (o + DESTINATION_PORT_AT) p) ∷ []) else []
+    if holds p o PORTS_SIZE
+    then Port (field PORT_SIZE o p) ∷ (Port (field PORT_SIZE (o + DESTINATION_PORT_AT) p) ∷ [])
+    else []

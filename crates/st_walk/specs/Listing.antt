@@ -15,9 +15,11 @@ spot_at o l = Some (record { at = o; layer = l })
 -- the layer that this one leads to
 abbrev pub following : List ℕ → ℕ → Layer → Option Spot
 following p o Ether =
-    if holds p o ETHER_SIZE then spot_at (o + ETHER_SIZE) (Next (field KIND_SIZE (o + ETHER_KIND_AT) p)) else None
+    if holds p o ETHER_SIZE
+    then spot_at (o + ETHER_SIZE) (Next (field KIND_SIZE (o + ETHER_KIND_AT) p)) else None
 following p o (Next n) =
-    if is_tag n then (if holds p o TAG_SIZE then spot_at (o + TAG_SIZE) (Next (field KIND_SIZE (o + TAG_KIND_AT) p)) else None)
+    if is_tag n then (if holds p o TAG_SIZE
+    then spot_at (o + TAG_SIZE) (Next (field KIND_SIZE (o + TAG_KIND_AT) p)) else None)
     else (if is_labelled n then spot_at o Label
     else (if n == IP4 then spot_at o Ip4
     else (if n == IP6 then spot_at o Ip6 else None)))
@@ -34,7 +36,8 @@ following p o Ip4 =
     (if has_ports (byte p (o + IP4_PROTO_AT)) then spot_at (o + ip4_size p o) Ports else None)
     else None)
     else None
-following p o Ip6 = if is_ip6 p o then spot_at (o + IP6_SIZE) (Chain (byte p (o + IP6_NEXT_AT))) else None
+following p o Ip6 =
+    if is_ip6 p o then spot_at (o + IP6_SIZE) (Chain (byte p (o + IP6_NEXT_AT))) else None
 following p o (Chain n) =
     if is_extension p o n then
     (if is_later p o n then spot_at (o + extension_size p o n) (Fragment (byte p o))
@@ -64,7 +67,8 @@ steps_left p o l = 4 * (length p - o) + free_steps l
 unfoldable pub keys_within : ℕ → List ℕ → Option Spot → List Key
 keys_within zero p q = []
 keys_within (suc n) p None = []
-keys_within (suc n) p (Some q) = layer_keys p q.at q.layer ++ keys_within n p (following p q.at q.layer)
+keys_within (suc n) p (Some q) =
+    layer_keys p q.at q.layer ++ keys_within n p (following p q.at q.layer)
 
 -- the keys of the whole walk from a spot on
 unfoldable pub walk_keys : List ℕ → Option Spot → List Key
@@ -78,4 +82,5 @@ frame_keys p = walk_keys p (spot_at 0 Ether)
 -- the keys that an iterator has still to give: the rest of its layer's, and those of what follows
 unfoldable pub keys_left : Keys → List Key
 keys_left s =
-    drop s.given (layer_keys s.frame.now s.spot.at s.spot.layer) ++ walk_keys s.frame.now (following s.frame.now s.spot.at s.spot.layer)
+    drop s.given (layer_keys s.frame.now s.spot.at s.spot.layer)
+    ++ walk_keys s.frame.now (following s.frame.now s.spot.at s.spot.layer)

@@ -10,7 +10,8 @@ use Rattle.st_walk.specs.Layers.{byte, field, holds, is_tag, is_labelled, is_bot
 -- A layer at an offset leads to another at its own. Where no rule fits, the walk ends.
 pub data Step (p : List ℕ) : ℕ → Layer → ℕ → Layer → Type 0 where
   -- the Ethernet header ends with the EtherType (IEEE 802.3, 3.2)
-  ether : {o : ℕ} → IsTrue (holds p o ETHER_SIZE) → Step p o Ether (o + ETHER_SIZE) (Next (field KIND_SIZE (o + ETHER_KIND_AT) p))
+  ether : {o : ℕ} → IsTrue (holds p o ETHER_SIZE)
+      → Step p o Ether (o + ETHER_SIZE) (Next (field KIND_SIZE (o + ETHER_KIND_AT) p))
   -- a tag ends with the next EtherType (IEEE 802.1Q, 9.3)
   tag : {o n : ℕ} → IsTrue (is_tag n) → IsTrue (holds p o TAG_SIZE)
       → Step p o (Next n) (o + TAG_SIZE) (Next (field KIND_SIZE (o + TAG_KIND_AT) p))
@@ -20,7 +21,8 @@ pub data Step (p : List ℕ) : ℕ → Layer → ℕ → Layer → Type 0 where
   ip4 : {o n : ℕ} → n ≡ IP4 → Step p o (Next n) o Ip4
   ip6 : {o n : ℕ} → n ≡ IP6 → Step p o (Next n) o Ip6
   -- a label that is not the last is followed by another (RFC 3032, 2.1)
-  label : {o : ℕ} → IsTrue (holds p o LABEL_SIZE) → IsFalse (is_bottom p o) → Step p o Label (o + LABEL_SIZE) Label
+  label : {o : ℕ} → IsTrue (holds p o LABEL_SIZE) → IsFalse (is_bottom p o)
+      → Step p o Label (o + LABEL_SIZE) Label
   -- the last label doesn't tell what follows, so that packet's own version does
   label_ip4 : {o : ℕ} → IsTrue (holds p o LABEL_SIZE) → IsTrue (is_bottom p o)
       → IsTrue (is_version p (o + LABEL_SIZE) IP4_VERSION)
@@ -33,7 +35,8 @@ pub data Step (p : List ℕ) : ℕ → Layer → ℕ → Layer → Type 0 where
       → IsTrue (has_ports (byte p (o + IP4_PROTO_AT)))
       → Step p o Ip4 (o + ip4_size p o) Ports
   -- the IPv6 header names the first header of its chain (RFC 8200, 3)
-  ip6_chain : {o : ℕ} → IsTrue (is_ip6 p o) → Step p o Ip6 (o + IP6_SIZE) (Chain (byte p (o + IP6_NEXT_AT)))
+  ip6_chain : {o : ℕ} → IsTrue (is_ip6 p o)
+      → Step p o Ip6 (o + IP6_SIZE) (Chain (byte p (o + IP6_NEXT_AT)))
   -- an extension header begins with the number of the next header (RFC 8200, 4)
   extension : {o n : ℕ} → IsTrue (is_extension p o n) → IsFalse (is_later p o n)
       → Step p o (Chain n) (o + extension_size p o n) (Chain (byte p o))

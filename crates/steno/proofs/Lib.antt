@@ -1,4 +1,5 @@
 pub mod Answering
+pub mod Asking
 pub mod AtEnd
 pub mod Buffers
 pub mod Limits

@@ -22,19 +22,23 @@ use Rattle.steno.specs.Plans.{IsPlan}
 -- unit
 abbrev pub IsAnswered : Job → Node → ℕ → List Rec → List ℕ → Type 0
 IsAnswered job q now rs output =
-    (answer : List Rec) × (cut : List Rec) × AnswerOf q now rs answer × Limited job.limits answer cut × (output ≡ PcapText cut job.unit)
+    (answer : List Rec) × (cut : List Rec) × AnswerOf q now rs answer
+    × Limited job.limits answer cut × (output ≡ PcapText cut job.unit)
 
 -- what stands at the output where the input is refused after these records: their answer, but
 -- nothing at all where the file head is refused
 abbrev pub IsAnsweredBefore : Job → Node → ℕ → List Rec → PcapErr → List ℕ → Type 0
-IsAnsweredBefore job q now rs cause output = (IsOfFileHead cause × (output ≡ [])) ⊎ ((IsOfFileHead cause → ⊥) × IsAnswered job q now rs output)
+IsAnsweredBefore job q now rs cause output =
+    (IsOfFileHead cause × (output ≡ []))
+    ⊎ ((IsOfFileHead cause → ⊥) × IsAnswered job q now rs output)
 
 -- the query over these bytes ends so, with this output and this message
 abbrev pub IsReply : Job → Node → ℕ → List ℕ → List ℕ → Status → List ℕ → Type 0
 IsReply job q now bytes output Done message =
     (rs : List Rec) × Input bytes rs Whole × IsAnswered job q now rs output × (message ≡ [])
 IsReply job q now bytes output BadInput message =
-    (rs : List Rec) × (cause : PcapErr) × Input bytes rs (Refused cause) × IsAnsweredBefore job q now rs cause output × (message ≡ input_line cause)
+    (rs : List Rec) × (cause : PcapErr) × Input bytes rs (Refused cause)
+    × IsAnsweredBefore job q now rs cause output × (message ≡ input_line cause)
 IsReply job q now bytes output status message = ⊥
 
 -- the job over these bytes ends so, with this output and this message
@@ -54,9 +58,13 @@ IsJob words now bytes output status message =
 
 -- What a run leaves at the output, of the jobs that it may be asked for: all of one's output; after a
 -- fault of the output a prefix of it; and nothing where the input failed or memory ran out.
-abbrev pub Leaves : (List ℕ → Status → List ℕ → Type 0) → Status → List ℕ → Option (List ℕ) → Option (List ℕ) → Type 0
+abbrev pub Leaves :
+    (List ℕ → Status → List ℕ → Type 0) → Status → List ℕ → Option (List ℕ) → Option (List ℕ)
+    → Type 0
 Leaves job ReadFault message old new = Keeps old new × (message ≡ status_line ReadFault)
 Leaves job NoMemory message old new = Keeps old new × (message ≡ status_line NoMemory)
 Leaves job WriteFault message old new =
-    (output : List ℕ) × (status : Status) × (silenced : List ℕ) × job output status silenced × AppendsPrefix old new output × (message ≡ status_line WriteFault)
-Leaves job status message old new = (output : List ℕ) × job output status message × Appends old new output
+    (output : List ℕ) × (status : Status) × (silenced : List ℕ) × job output status silenced
+    × AppendsPrefix old new output × (message ≡ status_line WriteFault)
+Leaves job status message old new =
+    (output : List ℕ) × job output status message × Appends old new output

@@ -20,7 +20,9 @@ hex_byte n = digit_glyph false (n / 16) ∷ (digit_glyph false (n % 16) ∷ [])
 
 -- eight hexadecimal digits in lower case, the highest first
 abbrev pub hex_word : ℕ → List ℕ
-hex_word n = hex_byte (n / 16777216 % 256) ++ (hex_byte (n / 65536 % 256) ++ (hex_byte (n / 256 % 256) ++ hex_byte (n % 256)))
+hex_word n =
+    hex_byte (n / 16777216 % 256)
+    ++ (hex_byte (n / 65536 % 256) ++ (hex_byte (n / 256 % 256) ++ hex_byte (n % 256)))
 
 -- the line that a status always has
 abbrev pub status_line : Status → List ℕ
@@ -37,7 +39,8 @@ status_line StampsSpent = []
 
 -- a kind of refusal and its place in the query
 abbrev pub place_line : List ℕ → ℕ → List ℕ
-place_line kind place = codes "steno: query: " ++ (kind ++ (codes " at " ++ (decimal place ++ end_line)))
+place_line kind place =
+    codes "steno: query: " ++ (kind ++ (codes " at " ++ (decimal place ++ end_line)))
 
 -- why a query is refused
 abbrev pub query_line : QueryErr → List ℕ
@@ -46,7 +49,8 @@ query_line (query.Number place) = place_line (codes "number") place
 query_line (query.Address place) = place_line (codes "address") place
 query_line (query.Time place) = place_line (codes "time") place
 query_line (query.Deep place) = place_line (codes "depth") place
-query_line (query.Long len) = codes "steno: query: " ++ (decimal len ++ codes " bytes are over 4096\n")
+query_line (query.Long len) =
+    codes "steno: query: " ++ (decimal len ++ codes " bytes are over 4096\n")
 query_line query.NoMemory = status_line NoMemory
 
 -- a record by its number, and what is wrong with it
@@ -56,13 +60,21 @@ record_line number what = codes "steno: record " ++ (decimal number ++ (codes ":
 -- why an input is refused
 abbrev pub input_line : PcapErr → List ℕ
 input_line pcap.ReadFault = status_line ReadFault
-input_line (pcap.NotPcap found) = codes "steno: input is not a pcap file, it begins with 0x" ++ (hex_word found ++ end_line)
-input_line (pcap.Version major minor) = codes "steno: pcap version " ++ (decimal major ++ (codes "." ++ (decimal minor ++ codes " is not read\n")))
-input_line (pcap.LinkType found) = codes "steno: link type " ++ (decimal found ++ codes " is not read\n")
-input_line (pcap.BadFraction number found) = record_line number (codes "fraction " ++ (decimal found ++ codes " is out of range\n"))
-input_line (pcap.TooLong number len) = record_line number (codes "captured length " ++ (decimal len ++ codes " is over 262144\n"))
-input_line (pcap.Truncated number have want) = record_line number (decimal have ++ (codes " of " ++ (decimal want ++ codes " bytes\n")))
-input_line (pcap.TooMuch taken) = codes "steno: input stopped after " ++ (decimal taken ++ codes " bytes\n")
+input_line (pcap.NotPcap found) =
+    codes "steno: input is not a pcap file, it begins with 0x" ++ (hex_word found ++ end_line)
+input_line (pcap.Version major minor) =
+    codes "steno: pcap version "
+    ++ (decimal major ++ (codes "." ++ (decimal minor ++ codes " is not read\n")))
+input_line (pcap.LinkType found) =
+    codes "steno: link type " ++ (decimal found ++ codes " is not read\n")
+input_line (pcap.BadFraction number found) =
+    record_line number (codes "fraction " ++ (decimal found ++ codes " is out of range\n"))
+input_line (pcap.TooLong number len) =
+    record_line number (codes "captured length " ++ (decimal len ++ codes " is over 262144\n"))
+input_line (pcap.Truncated number have want) =
+    record_line number (decimal have ++ (codes " of " ++ (decimal want ++ codes " bytes\n")))
+input_line (pcap.TooMuch taken) =
+    codes "steno: input stopped after " ++ (decimal taken ++ codes " bytes\n")
 input_line pcap.NoMemory = status_line NoMemory
 
 -- the line of a report: its own, or its status's

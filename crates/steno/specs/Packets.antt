@@ -48,8 +48,11 @@ is_earlier a b = is_lt (ordering_then (nat_cmp a.sec b.sec) (nat_cmp a.nsec b.ns
 
 -- Where all texts lie in the buffer, they do so afterwards, and the packets are those that there
 -- were, with this one at the end; or nothing changed.
-abbrev pub Appends : {E : Type 0} → unit.Unit → Rec → List ℕ → List Packet → List ℕ → List Packet → Result (Unit {0}) E → Type 0
+abbrev pub Appends :
+    {E : Type 0} → unit.Unit → Rec → List ℕ → List Packet → List ℕ → List Packet
+    → Result (Unit {0}) E → Type 0
 Appends u r text ps text' ps' result =
     MatchResult result
-    (λ _. AllLie u text ps → AllLie u text' ps' × (map (record_of text') ps' ≡ map (record_of text) ps ++ r ∷ []))
+    (λ _. AllLie u text ps
+    → AllLie u text' ps' × (map (record_of text') ps' ≡ map (record_of text) ps ++ r ∷ []))
     (λ _. (text' ≡ text) × (ps' ≡ ps))

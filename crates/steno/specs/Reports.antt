@@ -20,7 +20,9 @@ plain_of status = record { status = status; line = None }
 
 -- the query is refused, with the line of this refusal; or there was no memory
 abbrev pub ReportsQuery : QueryErr → Report → Type 0
-ReportsQuery e report = (report ≡ plain_of NoMemory) ⊎ ((e ≢ refusal.NoMemory) × (report.status ≡ BadQuery) × (line_of report ≡ query_line e))
+ReportsQuery e report =
+    (report ≡ plain_of NoMemory)
+    ⊎ ((e ≢ refusal.NoMemory) × (report.status ≡ BadQuery) × (line_of report ≡ query_line e))
 
 -- the input is refused by this cause, with its line
 pub record IsRefusal (e : PcapErr) (report : Report) : Type 0 where
@@ -36,7 +38,8 @@ ReportsInput (Ok done) (Err report) = ⊥
 ReportsInput (Err e) (Ok report) = IsRefusal e report × (IsOfFileHead e → ⊥)
 ReportsInput (Err e) (Err report) =
     ((e ≢ cause.ReadFault) × (report ≡ plain_of NoMemory))
-    ⊎ (((e ≡ cause.ReadFault) × (report ≡ plain_of ReadFault)) ⊎ (IsRefusal e report × IsOfFileHead e))
+    ⊎ (((e ≡ cause.ReadFault) × (report ≡ plain_of ReadFault))
+    ⊎ (IsRefusal e report × IsOfFileHead e))
 
 -- the message follows what was there, or a prefix of it does where the count of faults rose; the
 -- count never falls

@@ -25,25 +25,34 @@ AsksClock old new NoMemory now = (new ≡ old) ⊎ Ticks old new now
 AsksClock old new status now = Ticks old new now
 
 -- a run of these arguments over these bytes ended so, with this line: the clock and the output
-abbrev pub EndsRun : List (List ℕ) → Option (List ℕ) → Option (List ℕ) → List ℕ → Option (List ℕ) → Option (List ℕ) → Status → List ℕ → Type 0
+abbrev pub EndsRun :
+    List (List ℕ) → Option (List ℕ) → Option (List ℕ) → List ℕ → Option (List ℕ) → Option (List ℕ)
+    → Status → List ℕ → Type 0
 EndsRun words clock ticked bytes old new status line =
-    (now : ℕ) × AsksClock clock ticked status now × Leaves (IsJob words now bytes) status line old new
+    (now : ℕ) × AsksClock clock ticked status now
+    × Leaves (IsJob words now bytes) status line old new
 
 -- the job over these bytes ended with this report: the clock and the output
-abbrev pub EndsJob : Job → Option (List ℕ) → Option (List ℕ) → List ℕ → Option (List ℕ) → Option (List ℕ) → Report → Type 0
+abbrev pub EndsJob :
+    Job → Option (List ℕ) → Option (List ℕ) → List ℕ → Option (List ℕ) → Option (List ℕ) → Report
+    → Type 0
 EndsJob job clock ticked bytes old new report =
-    (now : ℕ) × Ticks clock ticked now × Leaves (IsAsked job now bytes) report.status (line_of report) old new
+    (now : ℕ) × Ticks clock ticked now
+    × Leaves (IsAsked job now bytes) report.status (line_of report) old new
 
 -- a run of these arguments over these bytes ended so: the clock, the output and the message
-abbrev pub EndsAndTells : List (List ℕ) → Option (List ℕ) → Option (List ℕ) → List ℕ → Option (List ℕ) → Option (List ℕ)
+abbrev pub EndsAndTells :
+    List (List ℕ) → Option (List ℕ) → Option (List ℕ) → List ℕ → Option (List ℕ) → Option (List ℕ)
     → Option (List ℕ) → Option (List ℕ) → ℕ → ℕ → Status → Type 0
 EndsAndTells words clock ticked bytes old new err told before after status =
-    (message : List ℕ) × EndsRun words clock ticked bytes old new status message × Tells err told before after message
+    (message : List ℕ) × EndsRun words clock ticked bytes old new status message
+    × Tells err told before after message
 
 -- the message of an answer that ended so, over any input
 abbrev pub IsAnswerMessage : Status → List ℕ → Type 0
 IsAnswerMessage Done message = message ≡ []
-IsAnswerMessage BadInput message = (cause : PcapErr) × (IsOutside cause → ⊥) × (message ≡ input_line cause)
+IsAnswerMessage BadInput message =
+    (cause : PcapErr) × (IsOutside cause → ⊥) × (message ≡ input_line cause)
 IsAnswerMessage ReadFault message = message ≡ status_line ReadFault
 IsAnswerMessage WriteFault message = message ≡ status_line WriteFault
 IsAnswerMessage NoMemory message = message ≡ status_line NoMemory
@@ -52,7 +61,8 @@ IsAnswerMessage status message = ⊥
 -- the message of a run of these arguments that ended so, over any input; it ends in no other way
 abbrev pub IsRunMessage : List (List ℕ) → Status → List ℕ → Type 0
 IsRunMessage words Usage message = message ≡ status_line Usage
-IsRunMessage words BadQuery message = (job : Job) × (e : QueryErr) × IsPlan words job × Refuses job.query e × (message ≡ query_line e)
+IsRunMessage words BadQuery message =
+    (job : Job) × (e : QueryErr) × IsPlan words job × Refuses job.query e × (message ≡ query_line e)
 IsRunMessage words status message = IsAnswerMessage status message
 
 -- the message of a job that ended so, over any input
@@ -61,7 +71,9 @@ IsJobMessage job BadQuery message = (e : QueryErr) × Refuses job.query e × (me
 IsJobMessage job status message = IsAnswerMessage status message
 
 -- the run told its message, and asked the clock
-abbrev pub TellsRun : List (List ℕ) → Option (List ℕ) → Option (List ℕ) → Option (List ℕ) → Option (List ℕ) → ℕ → ℕ → Status → Type 0
+abbrev pub TellsRun :
+    List (List ℕ) → Option (List ℕ) → Option (List ℕ) → Option (List ℕ) → Option (List ℕ) → ℕ → ℕ
+    → Status → Type 0
 TellsRun words clock ticked err told before after status =
     (message : List ℕ) × IsRunMessage words status message × Tells err told before after message
     × ((now : ℕ) × AsksClock clock ticked status now)
@@ -72,8 +84,10 @@ TellsRun words clock ticked err told before after status =
 pub record HasWordCause (words : List (List ℕ)) (status : Status) : Type 0 where
   pub usage : status ≡ Usage → (job : Job) → IsPlan words job → ⊥
   pub unplanned : ((job : Job) → IsPlan words job → ⊥) → (status ≡ Usage) ⊎ (status ≡ NoMemory)
-  pub refused : status ≡ BadQuery → (job : Job) × (e : QueryErr) × IsPlan words job × Refuses job.query e
-  pub exact : (job : Job) (e : QueryErr) → IsPlan words job → Refuses job.query e → (status ≡ BadQuery) ⊎ (status ≡ NoMemory)
+  pub refused : status ≡ BadQuery
+      → (job : Job) × (e : QueryErr) × IsPlan words job × Refuses job.query e
+  pub exact : (job : Job) (e : QueryErr) → IsPlan words job → Refuses job.query e
+      → (status ≡ BadQuery) ⊎ (status ≡ NoMemory)
 
 -- the query of a plan is refused if and only if it is one that is, unless memory runs out
 pub record HasQueryCause (job : Job) (status : Status) : Type 0 where
@@ -123,11 +137,13 @@ IsUnread status = ⊥
 
 -- the streams that a run doesn't touch: the input where the arguments or the query are refused, and
 -- the output where nothing is written
-pub record LeavesStreams {I O : Type 0} (status : Status) (input input' : I) (out out' : O) : Type 0 where
+pub record LeavesStreams {I O : Type 0} (status : Status) (input input' : I)
+    (out out' : O) : Type 0 where
   pub unread : IsUnread status → input' ≡ input
   pub unwritten : IsSilent status → out' ≡ out
 
 -- what a run doesn't touch: these streams, and the message's sink where all is done
-pub record LeavesAlone {I O E : Type 0} (status : Status) (input input' : I) (out out' : O) (err err' : E) : Type 0 where
+pub record LeavesAlone {I O E : Type 0} (status : Status) (input input' : I) (out out' : O)
+    (err err' : E) : Type 0 where
   pub streams : LeavesStreams status input input' out out'
   pub unsaid : status ≡ Done → err' ≡ err

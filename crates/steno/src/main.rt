@@ -116,7 +116,7 @@ fn words_of(rt: &HostRuntime) -> Result<Vec<String>, Status> {
     Ok(words)
 }
 
-// Tells the line of this status, of a run that there wasn't or whose flush failed.
+// Tells the line of this status, if the run never began or its flush failed.
 fn told<E: Sink>(err: &mut E, status: Status) -> Status
     ensures same { result ≡ status }
     ensures line { Tells (E.written err.old) (E.written err.new)

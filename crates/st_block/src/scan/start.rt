@@ -1,23 +1,17 @@
 ghost use Rattle.std.specs.Prelude.{◌≡◌, ◌≤◌, ◌<◌, ◌+◌, ◌*◌, ◌^◌, List, ℕ, length, Some, IfOk};
 ghost use Rattle.st_base.specs.Faults.{CountsOn, HasCauseOf};
 ghost use Rattle.st_base.specs.PlacedReads.{IsSameFile};
-ghost use Rattle.st_block.specs.Checks.{is_block_size, nearest_length};
+ghost use Rattle.st_block.specs.Checks.{nearest_length};
 ghost use Rattle.st_block.specs.Scan.{Starts, EntersNew, start_reads};
 
 use crate::errors::HeadErr;
 use crate::fields::number_at;
 use crate::format::{
-    BLOCK_SIZE_AT, BLOCK_SIZES, MAX_BLOCKS, MIN_BLOCK, START, VERSION, VERSION_AT,
+    BLOCK_SIZE_AT, MAX_BLOCKS, MIN_BLOCK, START, VERSION, VERSION_AT,
 };
 use crate::scan::state::ScanState;
+use crate::sizes::is_block_size;
 use st_base::{Damage, Reader, read_whole};
-
-/// Whether this is a block size: a power of two from 4,096 to 1,048,576.
-fn is_block_size(size: u32) -> bool
-    ensures { result ≡ is_block_size size }
-{
-    BLOCK_SIZES.contains(&size)
-}
 
 /// The greatest length of whole blocks, at most 4,095, that is no more than `extent`; else one
 /// block.

@@ -168,8 +168,7 @@ impl ScanState {
     /// Reads the next block and checks it whole. After damage it has
     /// stopped, and after another refusal it is where it was.
     fn load<R: Reader>(&mut self, alloc: Global, file: &mut R) -> Result<(), BlockErr>
-        requires left { self.old.left ≡ 0 }
-        requires more { self.old.done < self.old.blocks }
+        requires more { (self.old.left ≡ 0) × (self.old.done < self.old.blocks) }
         requires inside { self.old.size * self.old.blocks ≤ R.extent file.old }
         // what comes
         ensures loads { LoadsBlock self.old (R.content file.old) self.new result }
@@ -178,9 +177,8 @@ impl ScanState {
         ensures cause { HasCauseOf BlockErr.ReadFault
             (R.faults file.old) (R.faults file.new) result }
         // what the file was asked
-        ensures reads { CountsOn (R.reads file.old) (R.reads file.new) (load_reads result) }
-        ensures asked { CountsOn (R.asked file.old) (R.asked file.new)
-            (self.old.size * load_reads result) }
+        ensures asked { CountsOn (R.reads file.old) (R.reads file.new) (load_reads result)
+            × CountsOn (R.asked file.old) (R.asked file.new) (self.old.size * load_reads result) }
         // what stays
         ensures same { IsSameFile (R.content file.old) (R.content file.new)
             (R.extent file.old) (R.extent file.new) (R.beside file.old) (R.beside file.new) }

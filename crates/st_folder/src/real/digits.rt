@@ -46,7 +46,8 @@ pub fn stamp_of(text: &str) -> Option<u64>
         (λ stamp. text.now ≡ stamp_text stamp) }
 {
     let digits = text.as_bytes();
-    if digits.len() != 16 {
+    let is_whole = digits.len() == 16;
+    if !is_whole {
         return None;
     }
     number_of_digits(digits)

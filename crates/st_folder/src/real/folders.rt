@@ -1,11 +1,13 @@
 // A shelf's folders in a file system, as its first call makes and opens them.
-ghost use Rattle.std.specs.Prelude.{◌≡◌, ◌+◌, ◌<◌, ◌⊎◌, ◌≤◌, ℕ, MatchOption};
-ghost use Rattle.st_folder.specs.Numbers.{IsLastDraft, IsBelow};
+ghost use Rattle.std.specs.Prelude.{◌≡◌, ◌+◌, ◌<◌, ◌⊎◌, ◌≤◌, ℕ, MatchOption, IfOk, OnOk, All};
+ghost use Rattle.st_folder.specs.FileNames.{AreIn, AddsNames};
+ghost use Rattle.st_folder.specs.Numbers.{IsLastDraft, IsBelow, HasLastDraft, IsFirstNumber};
 
 use crate::real::names::{name_of, path_of_folder};
+use crate::real::retries::again;
 use st_shelf::{Kind, Name};
 use std::alloc::Global;
-use std::fs::{DirBuilder, DirEntry, File, OpenOptions, ReadDir, TryLockError};
+use std::fs::{DirBuilder, DirEntry, File, OpenOptions, TryLockError};
 use std::io::ErrorKind;
 use std::os::unix::fs::{DirBuilderExt, OpenOptionsExt};
 use std::rt::HostRuntime;
@@ -35,16 +37,7 @@ impl RealFolders {
         let mut names = Vec::new(alloc);
         read_names(rt, alloc, root, Kind::Block, &mut names)?;
         read_names(rt, alloc, root, Kind::Index, &mut names)?;
-        let next = match number_above(names.as_slice()) {
-            Some(next) => next,
-            // A draft has the greatest number. A lower one is free once no crash can bring back a
-            // draft that was removed.
-            None => {
-                blocks.sync_all()?;
-                indexes.sync_all()?;
-                0
-            }
-        };
+        let next = first_number(names.as_slice(), &blocks, &indexes)?;
         Ok(RealFolders {
             _lock: lock,
             blocks,
@@ -72,18 +65,30 @@ impl RealFolders {
     }
 }
 
-// Adds the names of a folder; files of other names, and what is no file, are passed over.
+// Adds the names of a folder.
 pub(crate) fn read_names(
     rt: &HostRuntime,
     alloc: Global,
     root: &str,
     kind: Kind,
     names: &mut Vec<Name>,
-) -> io::Result<()> {
+) -> io::Result<()>
+    ensures { OnOk result (AddsNames kind names.old.items names.new.items) }
+{
     let path = path_of_folder(alloc, root, kind)?;
-    for entry in open_names(rt, path.as_str())? {
+    let found = again(|| names_in(rt, alloc, path.as_str(), kind))?;
+    names.extend_from_slice(found.as_slice())?;
+    Ok(())
+}
+
+// The names of a folder; files of other names, and what is no file, are passed over.
+fn names_in(rt: &HostRuntime, alloc: Global, path: &str, kind: Kind) -> io::Result<Vec<Name>>
+    ensures { IfOk result (λ names. AreIn kind names.items) }
+{
+    let mut names = Vec::new(alloc);
+    'entries: for entry in fs::read_dir(rt, path)? {
         match entry {
-            Ok(entry) => add_entry(kind, &entry, names)?,
+            Ok(entry) => add_entry(kind, &entry, &mut names)?,
             // A name that is no text is none of a shelf's.
             Err(error) => {
                 if error.kind() != ErrorKind::InvalidFilename {
@@ -92,32 +97,40 @@ pub(crate) fn read_names(
             }
         }
     }
-    Ok(())
+    Ok(names)
 }
 
-// Opens a folder to read its names, again where a signal broke that off.
-fn open_names(rt: &HostRuntime, path: &str) -> io::Result<ReadDir> {
-    'tries: for _ in 0..u64::MAX {
-        match fs::read_dir(rt, path) {
-            Err(error) if error.kind() == ErrorKind::Interrupted => {}
-            other => return other,
-        }
-    }
-    Err(io::Error::from(ErrorKind::Interrupted))
-}
-
-fn add_entry(kind: Kind, entry: &DirEntry, names: &mut Vec<Name>) -> io::Result<()> {
+fn add_entry(kind: Kind, entry: &DirEntry, names: &mut Vec<Name>) -> io::Result<()>
+    ensures { AreIn kind names.old.items → AreIn kind names.new.items }
+{
     let Some(name) = name_of(kind, entry.file_name()) else {
         return Ok(());
     };
-    if entry.file_type()?.is_file() {
+    if again(|| entry.file_type())?.is_file() {
         names.push(name)?;
     }
     Ok(())
 }
 
+// The number of the first draft: above those of all that were found, or 0 if one of these has the
+// greatest number. A lower one is free once no crash can bring back a draft that was removed.
+fn first_number(names: &[Name], blocks: &File, indexes: &File) -> io::Result<u64>
+    ensures { IfOk result (IsFirstNumber names.now) }
+{
+    match number_above(names) {
+        Some(next) => Ok(next),
+        None => {
+            blocks.sync_all()?;
+            indexes.sync_all()?;
+            Ok(0)
+        }
+    }
+}
+
 // A number above those of all drafts, unless one of them has the greatest number.
-fn number_above(names: &[Name]) -> Option<u64> {
+fn number_above(names: &[Name]) -> Option<u64>
+    ensures { MatchOption result (HasLastDraft names.now) (λ next. All (IsBelow next) names.now) }
+{
     let mut next = 0;
     'names: for name in names {
         match number_after(next, name) {
@@ -179,7 +192,7 @@ fn make_folders(rt: &HostRuntime, path: &str) -> io::Result<()> {
 fn make_folder(rt: &HostRuntime, path: &str) -> io::Result<()> {
     let mut builder = DirBuilder::new();
     builder.mode(0o700);
-    match builder.create(rt, path) {
+    match again(|| builder.create(rt, path)) {
         Ok(()) => File::open(rt, parent_of(path))?.sync_all(),
         Err(error) if error.kind() == ErrorKind::AlreadyExists => sync_parent(rt, path),
         Err(error) => Err(error),

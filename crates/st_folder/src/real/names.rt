@@ -1,8 +1,9 @@
 // The names of a shelf's files in a file system: docs/FORMAT.md, "Folders and names".
-ghost use Rattle.std.specs.Prelude.{◌≡◌, ◌++◌, IfOk, IfSome, OnOk, string_bytes};
+ghost use Rattle.std.specs.Prelude.{◌≡◌, ◌≢◌, ◌↔◌, ◌++◌, ◌<◌, ◌^◌, ℕ, List, Some, IfOk, OnOk, MatchOption, codes, string_bytes};
 ghost use Rattle.st_disk.specs.declared.naming.Kind.TheVariants as kind;
-ghost use Rattle.st_disk.specs.Names.{kind_of};
-ghost use Rattle.st_folder.specs.FileNames.{file_name, folder_name, folder_path, file_path};
+ghost use Rattle.st_disk.specs.Names.{kind_of, number_of};
+ghost use Rattle.st_disk.specs.declared.naming.Name.{Name};
+ghost use Rattle.st_folder.specs.FileNames.{IsNameIn, file_name, folder_name, folder_path, file_path};
 
 use crate::real::digits::{after, number_of, put_stamp, stamp_of};
 use st_disk::kind_of_name;
@@ -58,7 +59,17 @@ fn put_name(alloc: Global, text: &mut String, name: Name) -> Result<(), AllocErr
 
 // The name that a file of this folder has, if it is one of a shelf's.
 pub(crate) fn name_of(kind: Kind, text: &str) -> Option<Name>
-    ensures { IfSome result (λ name. (kind_of name ≡ kind) × (text.now ≡ file_name name)) }
+    ensures { (name : Name) → number_of name < 2 ^ 64
+        → (result ≡ Some name) ↔ IsNameIn kind name text.now }
+{
+    name_in(kind, text)
+}
+
+// The name of this text, whose number is one of 64 bits.
+fn name_in(kind: Kind, text: &str) -> Option<Name>
+    ensures { MatchOption result
+        ((name : Name) → number_of name < 2 ^ 64 → IsNameIn kind name text.now → ⊥)
+        (λ name. (number_of name < 2 ^ 64) × IsNameIn kind name text.now) }
 {
     if let Some(number) = after(".draft-", text) {
         return match number_of(number) {
@@ -75,9 +86,12 @@ pub(crate) fn name_of(kind: Kind, text: &str) -> Option<Name>
     }
 }
 
-// The name of an index, or of a parked one.
+// The name of an index, or of a parked one, in a text that is no draft's.
 fn index_name(text: &str) -> Option<Name>
-    ensures { IfSome result (λ name. (kind_of name ≡ kind.Index) × (text.now ≡ file_name name)) }
+    requires { (rest : List ℕ) → text.now ≢ codes ".draft-" ++ rest }
+    ensures { MatchOption result
+        ((name : Name) → number_of name < 2 ^ 64 → IsNameIn kind.Index name text.now → ⊥)
+        (λ name. (number_of name < 2 ^ 64) × IsNameIn kind.Index name text.now) }
 {
     if let Some(stamp) = after(".parked-", text) {
         return match stamp_of(stamp) {

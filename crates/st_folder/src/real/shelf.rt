@@ -9,6 +9,7 @@ ghost use Rattle.st_folder.specs.Counting.{IsLeftAlone, SettlesUp};
 use crate::real::draft::{RealDraft, RealSealed};
 use crate::real::folders::{RealFolders, create_file, read_names};
 use crate::real::names::path_of;
+use crate::real::retries::again;
 use st_base::{Failed, FileReader, NoMemory, Reader, StreamSink};
 use st_disk::{kind_of_name, sorted_names};
 use st_shelf::{CameBack, Draft, End, Kind, LentFile, ListErr, Loans, Name, Names, Shelf};
@@ -165,7 +166,7 @@ impl RealShelf {
         self.open()?;
         let from = path_of(self.alloc, self.root.as_str(), from)?;
         let to = path_of(self.alloc, self.root.as_str(), to)?;
-        fs::rename(&self.rt, from.as_str(), to.as_str())
+        again(|| fs::rename(&self.rt, from.as_str(), to.as_str()))
     }
 
     fn delete(&mut self, name: Name) -> io::Result<()>
@@ -173,7 +174,7 @@ impl RealShelf {
     {
         self.open()?;
         let path = path_of(self.alloc, self.root.as_str(), name)?;
-        match fs::remove_file(&self.rt, path.as_str()) {
+        match again(|| fs::remove_file(&self.rt, path.as_str())) {
             Err(error) if error.kind() != ErrorKind::NotFound => Err(error),
             _ => Ok(()),
         }
@@ -205,7 +206,7 @@ impl RealShelf {
         self.open()?;
         let path = path_of(self.alloc, self.root.as_str(), name)?;
         let file = File::open(&self.rt, path.as_str())?;
-        let size = file.metadata()?.len();
+        let size = again(|| file.metadata())?.len();
         Ok(FileReader::over(file, size))
     }
 }

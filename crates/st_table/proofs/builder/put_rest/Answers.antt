@@ -25,7 +25,7 @@ pub returns-in-Ok-clause-bytes : goal.returns-in-Ok-clause-bytes
 returns-in-Ok-clause-bytes g c =
     let k = builder_view c.args.block.now c.args.index.now c.args.at 0 in
     let some = is_filled c.args.block.now.last (sym c.is_empty.ensures ∙ c.if-is_empty.false) in
-    let end : ending_at c.close.new.at c.close.new.index ≡ ending (closed k) = λ i. ending_at (c.close.ensures.at i) (c.in-Ok.ensures.index i) in
+    let end : ending_at c.close.new.at c.close.new.index ≡ ending (closed k) = λ i. ending_at (c.close.ensures.next.1 i) (c.in-Ok.ensures.index i) in
     let next = subst (λ (xs : List ℕ). Puts (g.S.Sink.written c.close.new.sink) (g.S.Sink.written c.put_ending-in-Ok.new.sink) xs c.put_ending-in-Ok.result) end c.put_ending-in-Ok.ensures.bytes in
     subst (λ (xs : List ℕ). Puts (g.S.Sink.written c.args.sink.now) (g.S.Sink.written c.put_ending-in-Ok.new.sink) xs c.put_ending-in-Ok.result) (sym (finishing_some k some.0 some.1))
     (puts_then _ _ _ (closing k) (ending (closed k)) c.put_ending-in-Ok.result c.in-Ok.ensures.bytes next)
@@ -34,9 +34,9 @@ pub returns-in-Ok-clause-length : goal.returns-in-Ok-clause-length
 returns-in-Ok-clause-length g c =
     let k = builder_view c.args.block.now c.args.index.now c.args.at 0 in
     let some = is_filled c.args.block.now.last (sym c.is_empty.ensures ∙ c.if-is_empty.false) in
-    let end : ending_at c.close.new.at c.close.new.index ≡ ending (closed k) = λ i. ending_at (c.close.ensures.at i) (c.in-Ok.ensures.index i) in
+    let end : ending_at c.close.new.at c.close.new.index ≡ ending (closed k) = λ i. ending_at (c.close.ensures.next.1 i) (c.in-Ok.ensures.index i) in
     IfOk-weaker c.put_ending-in-Ok.result (λ n. n ≡ c.close.new.at + length (ending_at c.close.new.at c.close.new.index)) (λ n. n ≡ c.args.at + length (finishing k))
-    (λ n e. finishing_size k some.0 (ending_at c.close.new.at c.close.new.index) c.close.new.at n some.1 end c.close.ensures.at e)
+    (λ n e. finishing_size k some.0 (ending_at c.close.new.at c.close.new.index) c.close.new.at n some.1 end c.close.ensures.next.1 e)
     c.put_ending-in-Ok.ensures.length
 
 pub returns-in-Ok-clause-table : goal.returns-in-Ok-clause-table
@@ -46,7 +46,7 @@ returns-in-Ok-clause-table g c =
     let room = c.requires.at in
     let range : InRange (next_handle k.at (block_size k.block)) = record { offset = omega arith; size = omega arith } in
     on_ok c.put_ending-in-Ok.result
-    (closed_table k c.close.new.index c.close.new.at some.0 some.1 range c.close.ensures.at c.in-Ok.ensures.index c.in-Ok.ensures.good c.in-Ok.ensures.named)
+    (closed_table k c.close.new.index c.close.new.at some.0 some.1 range c.close.ensures.next.1 c.in-Ok.ensures.index c.in-Ok.ensures.good c.in-Ok.ensures.named)
     c.put_ending-in-Ok.ensures.table
 
 pub returns-in-Err-clause-bytes : goal.returns-in-Err-clause-bytes

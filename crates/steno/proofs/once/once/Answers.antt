@@ -8,7 +8,8 @@ use Rattle.st_query.specs.Spelling.{Spells, Refuses}
 use Rattle.steno.specs.Limited.{Limited}
 use Rattle.steno.specs.Messages.{line_of}
 use Rattle.steno.specs.declared.status.Status.TheVariants.{WriteFault, NoMemory}
-use Rattle.steno.proofs.Replying.{LeavesReply, asked_leaves, refused_leaves, stopped_leaves, stopped_says, stopped_reads, stopped_fault, stopped_other, going_says, going_reads, going_other, going_input, plain_input, query_input, stopped_input, written_leaves, failed_leaves, failed_says, memory_leaves, memory_says, reply_answers, reply_cause, reply_reads}
+use Rattle.steno.proofs.Asking.{asked_leaves, refused_leaves}
+use Rattle.steno.proofs.Replying.{LeavesReply, stopped_leaves, stopped_says, stopped_reads, stopped_fault, stopped_other, going_says, going_reads, going_other, going_input, plain_input, query_input, stopped_input, written_leaves, failed_leaves, failed_says, memory_leaves, memory_says, reply_answers, reply_cause, reply_reads}
 use Rattle.steno.proofs.once.once.Goals as goal
 
 pub returns-in-Err-clause-job : goal.returns-in-Err-clause-job

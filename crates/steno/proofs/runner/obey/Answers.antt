@@ -6,7 +6,7 @@ use Rattle.st_plan.specs.declared.jobs.Plan.{Plan}
 use Rattle.st_plan.specs.declared.jobs.Plan.TheVariants.{Once}
 use Rattle.st_query.specs.Spelling.{Refuses}
 use Rattle.steno.specs.Messages.{line_of}
-use Rattle.steno.proofs.Replying.{job_leaves, asks_clock, jobs_same, unplanned_ends, unplanned_cause}
+use Rattle.steno.proofs.Asking.{job_leaves, asks_clock, jobs_same, unplanned_ends, unplanned_cause}
 use Rattle.steno.proofs.runner.obey.Goals as goal
 
 pub returns-in-Ok-None-clause-job : goal.returns-in-Ok-None-clause-job

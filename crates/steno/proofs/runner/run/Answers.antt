@@ -1,6 +1,6 @@
 use Rattle.std.proofs.Common.{map, string_bytes}
 use Rattle.steno.specs.Messages.{line_of}
-use Rattle.steno.proofs.Replying.{completes}
+use Rattle.steno.proofs.Asking.{completes}
 use Rattle.steno.proofs.runner.run.Goals as goal
 
 pub returns-clause-job : goal.returns-clause-job

@@ -1,4 +1,4 @@
-use Rattle.std.proofs.Common.{◌≡◌, ◌+◌, ◌<◌, ◌≤◌, ◌^◌, ℕ, List, ◌∷◌, [], ◌++◌, length, true, arith, sym, subst}
+use Rattle.std.proofs.Common.{◌≡◌, ◌+◌, ◌<◌, ◌≤◌, ◌^◌, ℕ, List, ◌∷◌, [], ◌++◌, length, true, arith, rules, sym, subst}
 use Rattle.st_tblock.specs.Block.{RowView, is_above, key_or_empty}
 use Rattle.st_tblock.specs.Builder.{EntryBlockView, added, block_size}
 use Rattle.st_table.specs.TableBuilderView.{TableBuilderView, room_of, next_handle, written_by}
@@ -36,12 +36,16 @@ returns-then-size-lt-BLOCK_SIZE-clause-builds g c =
     let builds = builds_small k (with_row k c.add.new.self r) r (filled_is k r c.add.new.self c.in-Ok.ensures.ok) small c.self.invariant above c.in-Ok.ensures.rows in
     subst (λ (q : TableBuilderView). (bytes : List ℕ) (rows : List RowView) → Builds q bytes rows → Builds (with_row k c.add.new.self r) (bytes ++ written_by q r) (rows ++ r ∷ [])) c.self.view_is builds
 
-pub close-requires-clause-above : goal.close-requires-clause-above
-close-requires-clause-above g c =
+pub close-requires-clause-may : goal.close-requires-clause-may
+close-requires-clause-may g c =
     let r : RowView = (c.args.key.now, c.args.value.now) in
     let k : TableBuilderView = the_view c.self.inside in
     let above : is_above (last_added k) r.0 ≡ true = subst (λ (q : TableBuilderView). is_above (last_added q) r.0 ≡ true) (sym c.self.view_is) c.requires.above in
-    subst (λ (d : EntryBlockView). is_above k.index.last (key_or_empty d.last) ≡ true) (sym c.in-Ok.ensures.ok) (above_both k.index.last k.block.last r.0 c.self.invariant.sound.order above)
+    record {
+      above = subst (λ (d : EntryBlockView). is_above k.index.last (key_or_empty d.last) ≡ true) (sym c.in-Ok.ensures.ok) (above_both k.index.last k.block.last r.0 c.self.invariant.sound.order above);
+      key = search rules;
+      room = search rules;
+    }
 
 pub close-requires-clause-at : goal.close-requires-clause-at
 close-requires-clause-at g c =
@@ -57,7 +61,7 @@ invariant_of-self-2 g c =
     let sound = row_sound k c.args.self.now r c.add.new.self c.self.view_is c.self.invariant c.requires.above c.requires.key c.requires.value c.requires.room c.in-Ok.ensures.ok in
     let full = with_row k c.add.new.self r in
     let size : 4096 ≤ block_size c.add.new.self = omega (arith, c.size-size.ensures, c.if-size-lt-BLOCK_SIZE.false) in
-    emptied_steady full c.close.new.block c.close.new.index c.close.new.at sound.0 sound.1 size c.close.ensures.block c.close.ensures.at (named_by c.close.result full c.close.new.index c.close.ensures.index)
+    emptied_steady full c.close.new.block c.close.new.index c.close.new.at sound.0 sound.1 size c.close.ensures.next.0 c.close.ensures.next.1 (named_by c.close.result full c.close.new.index c.close.ensures.index)
 
 pub returns-clause-builds : goal.returns-clause-builds
 returns-clause-builds g c =
@@ -70,7 +74,7 @@ returns-clause-builds g c =
     let size : 4096 ≤ block_size c.add.new.self = omega (arith, c.size-size.ensures, c.if-size-lt-BLOCK_SIZE.false) in
     on_ok_three c.close.result
     (λ good named index.
-    let closed_up = closed_is full c.close.new.block c.close.new.index c.close.new.at sound.0 c.close.ensures.block c.close.ensures.at index in
+    let closed_up = closed_is full c.close.new.block c.close.new.index c.close.new.at sound.0 c.close.ensures.next.0 c.close.ensures.next.1 index in
     let builds = builds_full k full new r (filled_is k r c.add.new.self c.in-Ok.ensures.ok) size closed_up c.self.invariant sound.0 above c.in-Ok.ensures.rows good named in
     subst (λ (q : TableBuilderView). (bytes : List ℕ) (rows : List RowView) → Builds q bytes rows → Builds new (bytes ++ written_by q r) (rows ++ r ∷ [])) c.self.view_is builds)
     c.close.ensures.good c.close.ensures.named (names_ok c.close.result full.index c.close.new.index (key_or_empty full.block.last) (next_handle full.at (block_size full.block)) c.close.ensures.index)

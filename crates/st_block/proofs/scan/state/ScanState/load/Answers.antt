@@ -10,7 +10,7 @@ pub invariant_of-self-in-Ok-check_block : goal.invariant_of-self-in-Ok-check_blo
 invariant_of-self-in-Ok-check_block g c =
     let same = c.as_slice.ensures.value in
     let len = c.in-Ok.ensures.bytes.0 in
-    let more = subst (λ (p : ScanView). p.done < p.blocks) (sym c.self.view_is) c.requires.more in
+    let more = subst (λ (p : ScanView). p.done < p.blocks) (sym c.self.view_is) c.requires.more.1 in
     let checked = c.in-Ok-check_block.ensures in
     let none = not_wrong c.self.inside.size c.self.inside.done c.self.inside.before c.as_slice.result.now c.in-Ok.block.items same len checked.wrong in
     sound_entered _ c.in-Ok.block.items (Some c.in-Ok-check_block.layout.end) c.in-Ok-check_block.layout.count c.self.invariant more len none (subst IsWholeBlock same checked.whole) (checked.laid.count ∙ ap count_of same)

@@ -62,7 +62,7 @@ returns-in-Ok-clause-reads g c =
     let d = c.self.invariant.done in let n = c.if-self.false in omega arith in
     let more = subst (λ (p : ScanView). p.done < p.blocks) c.self.view_is inside in
     let loads = c.in-Ok.ensures in
-    reads_given c.args.self.now c.load.new.self c.give-in-Ok.new.self _ c.give-in-Ok.result _ _ _ _ left more loads.loads c.give-in-Ok.ensures.passes loads.reads loads.asked
+    reads_given c.args.self.now c.load.new.self c.give-in-Ok.new.self _ c.give-in-Ok.result _ _ _ _ left more loads.loads c.give-in-Ok.ensures.passes loads.asked.0 loads.asked.1
 
 pub returns-in-Err-clause-reads : goal.returns-in-Err-clause-reads
 returns-in-Err-clause-reads g c =
@@ -71,4 +71,4 @@ returns-in-Err-clause-reads g c =
     let d = c.self.invariant.done in let n = c.if-self.false in omega arith in
     let more = subst (λ (p : ScanView). p.done < p.blocks) c.self.view_is inside in
     let loads = c.in-Err.ensures in
-    reads_failed {T = Option PositionedRecord} c.args.self.now c.load.new.self c.in-Err.error _ _ _ _ left more loads.reads loads.asked
+    reads_failed {T = Option PositionedRecord} c.args.self.now c.load.new.self c.in-Err.error _ _ _ _ left more loads.asked.0 loads.asked.1
