@@ -55,10 +55,10 @@ returns-in-Ok-block_of-clause-picks g c set d told lt given whole =
     let content = c.in-Ok-block_of.ensures.content set d told2 lt in
     let stand = packets_stand e.block given sel.xs whole.file (λ k d' lt'. (sel.some.each k d' lt').0) in
     let at : AreAt (g.S.File.Reader.content c.in-Ok-block_of.file) c.items.result.now sel.xs = record {
-      order = c.items.ensures ∙ sel.order;
+      order = c.items.ensures.same ∙ sel.order;
       each = subst (λ z. All (λ (x : PositionedRecord). IsRecordAt z x.0 x.1) sel.xs) (sym content) stand;
     } in
-    let count : length c.items.result.now ≡ length sel.xs = ap length (c.items.ensures ∙ sel.order) ∙ length-map sel.xs (λ (x : PositionedRecord). x.0) in
+    let count : length c.items.result.now ≡ length sel.xs = ap length (c.items.ensures.same ∙ sel.order) ∙ length-map sel.xs (λ (x : PositionedRecord). x.0) in
     let old = c.args.picked.now.items in
     let new = c.heads-result.new.picked.items in
     let file = c.heads-result.new.file in
