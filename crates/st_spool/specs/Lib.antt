@@ -1,1 +1,14 @@
 pub mod History
+pub mod Rows
+pub mod Placing
+pub mod States
+pub mod Standing
+pub mod Publishing
+pub mod Aging
+pub mod Refusing
+pub mod Holding
+pub mod Lending
+pub mod Histories
+pub mod Entering
+pub use Rattle.st_disk.specs.Events
+pub use Rattle.st_disk.specs.Pairs

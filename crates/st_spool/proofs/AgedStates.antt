@@ -1,0 +1,201 @@
+-- What an ageing makes of the state and of the history.
+use Rattle.std.proofs.Common.{◌≡◌, ◌<◌, ◌≤◌, ◌+◌, ◌-◌, ℕ, List, [], ◌∷◌, ◌++◌, length, drop, map, Option, None, Some, IsSome, false, refl, sym, ◌∙◌, ap, subst, inr, arith, length-drop, slice_index}
+use Rattle.std.proofs.lemmas.List.{append-nil, length-map}
+use Rattle.st_disk.specs.declared.naming.Name.TheVariants.{Block, Index, Parked}
+use Rattle.st_disk.specs.Folders.{Folder}
+use Rattle.st_disk.specs.Disks.{Log, reads}
+use Rattle.st_disk.specs.Events.{Event, Remove, events}
+use Rattle.st_disk.specs.LoggedCalls.{Reads, KnownBefore}
+use Rattle.st_disk.specs.Runs.{Each, Ran}
+use Rattle.st_disk.specs.Pairs.{Entry, Files, files_of, PairsIn, IsFileSet}
+use Rattle.st_disk.proofs.Images.{leaves_now}
+use Rattle.st_disk.proofs.Runs.{ran_widen, ran_then}
+use Rattle.st_spool.specs.Rows.{Row, Pair, Going, Held, Past, Fits, Has, set_row, RanBy}
+use Rattle.st_spool.specs.History.{set_of, entries_of, IsLeast}
+use Rattle.st_spool.specs.States.{SpoolState, rows_of, with_doubt, MayBe, AreUpTo, IsWithin, place_in, covers}
+use Rattle.st_spool.specs.Standing.{StandsFor, OnDisk, Gives, begun, in_doubt, after_found, PublishWhole, stamp_of}
+use Rattle.st_spool.specs.Publishing.{RanTo, Fails}
+use Rattle.st_spool.specs.declared.state.Span.{Span}
+use Rattle.st_spool.specs.declared.state.Doubt.{Doubt}
+use Rattle.st_spool.specs.declared.state.Doubt.TheVariants as doubt
+use Rattle.st_spool.proofs.Setting.{sure_set}
+use Rattle.st_spool.proofs.Stages.{start}
+use Rattle.st_spool.proofs.Histories.{entries_more, legal_more, after_more, whole_more, whole_first}
+use Rattle.st_spool.proofs.Places.{rows_sure, rows_set}
+use Rattle.st_spool.proofs.Aged.{split_at, drop_next, at_place, rows_past, rows_aged}
+use Rattle.st_spool.proofs.Published.{calm_doubt, past_more, ran_each, ran_past}
+use Rattle.st_spool.proofs.Giving.{is_pair, set_old, set_less, going_sets, sure_sets}
+
+-- the entry that leaves
+abbrev pub Leaving : SpoolState → List Event → ℕ → Type 0
+Leaving st h t = (e : Entry) × (rest : List Entry) × (drop st.removed (entries_of h) ≡ e ∷ rest) × (t ≡ e.stamp) × (st.limit < length (e ∷ rest)) × (st.removed < length (entries_of h))
+
+pub leaving : (W : List ℕ → List ℕ → Type 0) (known : Option Log) (st : SpoolState) (earlier h : List Event) (k : Files) (t : ℕ) → StandsFor W known st earlier h k → st.limit < length st.stamps - st.removed → t ≡ slice_index st.stamps st.removed → Leaving st h t
+leaving W known st earlier h k t stands over at =
+    let long : length (entries_of h) ≡ length st.stamps = sym (length-map (entries_of h) stamp_of) ∙ ap length stands.stamps in
+    let lt : st.removed < length (entries_of h) = omega arith in
+    let r = split_at st.removed (entries_of h) lt in
+    let left : length (drop st.removed (entries_of h)) ≡ length (entries_of h) - st.removed = length-drop st.removed (entries_of h) in
+    (r.0, r.1, r.2, at ∙ ap (λ (xs : List ℕ). slice_index xs st.removed) (sym stands.stamps) ∙ r.3, subst (λ (es : List Entry). st.limit < length es) r.2 (omega arith), lt)
+
+module _ (W : List ℕ → List ℕ → Type 0) (old : Option Log) (st : SpoolState) (earlier h : List Event) (k : Files) (t : ℕ) (stands : StandsFor W old st earlier h k) (running : st.halted ≡ None) (e : Entry) (rest : List Entry) (is : drop st.removed (entries_of h) ≡ e ∷ rest) (same : t ≡ e.stamp) where
+  none : st.doubt ≡ doubt.Nothing
+  none = calm_doubt st.halted st.doubt st.halts running stands.calm
+
+  pair_row : rows_of st.removed st.holds st.last (entries_of h) t ≡ Pair (files_of e)
+  pair_row = is_pair W old st earlier h k stands t e rest is same
+
+  each_row : (l : Log) → old ≡ Some l → Each l (Has (rows_of st.removed st.holds st.last (entries_of h)))
+  each_row l known = subst (λ (d : Doubt). Each l (Has (with_doubt d k (rows_of st.removed st.holds st.last (entries_of h))))) none (stands.disk l known).images
+
+  past_calm : (l : Log) → old ≡ Some l → events l ≡ earlier ++ (after_found h ++ [])
+  past_calm l known = subst (λ (d : Doubt). events l ≡ earlier ++ (after_found h ++ begun d k)) none (stands.disk l known).past
+
+  whole_calm : (l : Log) → old ≡ Some l → PublishWhole W h
+  whole_calm l known = whole_first W h (in_doubt st.doubt k) (stands.disk l known).whole
+
+  pair_fits : (l : Log) → old ≡ Some l → Fits (Pair (files_of e)) (reads l (Block t)) (reads l (Index t)) (reads l (Parked t))
+  pair_fits l known = subst (λ (q : Row). Fits q (reads l (Block t)) (reads l (Index t)) (reads l (Parked t))) pair_row (each_row l known (reads l) (leaves_now l) t)
+
+  pub there_read : Reads old (Index t) IsSome
+  there_read l known = subst (λ (o : Option (List ℕ)). IsSome o) (sym (pair_fits l known).1) refl
+
+  pub parked_free : Reads old (Parked t) (λ v. v ≡ None)
+  parked_free l known = (pair_fits l known).2
+
+  aged_rows : (c : Folder) → Has (set_row (rows_of st.removed st.holds st.last (entries_of h)) t (Held (files_of e))) c → Has (rows_of (st.removed + 1) st.holds st.last (entries_of h)) c
+  aged_rows c has = rows_aged st.removed st.last st.holds (entries_of h) e rest is stands.rises c (subst (λ (n : ℕ). Has (set_row (rows_of st.removed st.holds st.last (entries_of h)) n (Held (files_of e))) c) same has)
+
+  set_new : set_of (h ++ Remove t ∷ []) ≡ drop (st.removed + 1) (entries_of h)
+  set_new = set_less W old st earlier h k stands t e rest is same ∙ sym (drop_next st.removed (entries_of h) e rest is)
+
+  aged_sets : (c : Folder) → Has (rows_of (st.removed + 1) st.holds st.last (entries_of h)) c → PairsIn c (set_of (h ++ Remove t ∷ []))
+  aged_sets c has =
+      subst (λ (s : List Entry). PairsIn c s) (sym set_new)
+      (sure_set (rows_of (st.removed + 1) st.holds st.last (entries_of h)) (drop (st.removed + 1) (entries_of h)) c (rows_sure (st.removed + 1) st.last st.holds (entries_of h)) (rows_set (st.removed + 1) st.last st.holds (entries_of h) stands.rises) has)
+
+  entries : entries_of (h ++ Remove t ∷ []) ≡ entries_of h
+  entries = entries_more [] h (Remove t)
+
+  pasts : (stamps : List ℕ) (holds : List Span) → stamps ≡ st.stamps → holds ≡ st.holds → st.removed < length (entries_of h) → (n : ℕ) → n < st.removed + 1 → covers holds n ≡ false → rows_of (st.removed + 1) st.holds st.last (entries_of h) (slice_index stamps n) ≡ Past
+  pasts stamps holds same_stamps same_holds in_list n lt out =
+      let r = split_at n (entries_of h) (omega arith) in
+      ap (rows_of (st.removed + 1) st.holds st.last (entries_of h)) (ap (λ (xs : List ℕ). slice_index xs n) (same_stamps ∙ sym stands.stamps) ∙ r.3)
+      ∙ rows_past (st.removed + 1) st.last n st.holds (entries_of h) r.0 r.1 r.2 stands.rises lt (ap (λ (sp : List Span). covers sp n) (sym same_holds) ∙ out)
+
+  Hides : Option Log → Type 0
+  Hides mid = (l : Log) (rows : ℕ → Row) (f : Files) → old ≡ Some l → Each l (Has rows) → rows t ≡ Pair f → RanBy l mid (Remove t ∷ []) (set_row rows t (Going f)) (set_row rows t (Held f))
+
+  -- the removal, and what was swept after it
+  pub aged_run : (mid new : Option Log) (stamps : List ℕ) (holds : List Span) → stamps ≡ st.stamps → holds ≡ st.holds → st.removed < length (entries_of h)
+      → ((l : Log) (rows : ℕ → Row) (f : Files) → old ≡ Some l → Each l (Has rows) → rows t ≡ Pair f → RanBy l mid (Remove t ∷ []) (set_row rows t (Going f)) (set_row rows t (Held f)))
+      → ((l : Log) (rows : ℕ → Row) → ((n : ℕ) → n < st.removed + 1 → covers holds n ≡ false → rows (slice_index stamps n) ≡ Past) → RanBy l mid [] rows rows → RanBy l new [] rows rows)
+      → (l : Log) → old ≡ Some l → Ran l new (Remove t ∷ []) (Gives h (Remove t ∷ [])) (Has (rows_of (st.removed + 1) st.holds st.last (entries_of h)))
+  aged_run mid new stamps holds same_stamps same_holds in_list hidden swept l known =
+      let rows = rows_of st.removed st.holds st.last (entries_of h) in
+      let now = rows_of (st.removed + 1) st.holds st.last (entries_of h) in
+      let run = hidden l rows (files_of e) known (each_row l known) pair_row in
+      let wide = ran_widen l mid (Remove t ∷ []) (Has (set_row rows t (Going (files_of e)))) (Has (set_row rows t (Held (files_of e)))) (Gives h (Remove t ∷ [])) (Has now) (going_sets W old st earlier h k stands t e rest is same) aged_rows run in
+      let more = swept wide.log now (pasts stamps holds same_stamps same_holds in_list) (start wide.log now mid wide.is wide.each) in
+      ran_then l mid new (Remove t ∷ []) [] (Gives h (Remove t ∷ [])) (Has now) (Has now) wide (ran_widen wide.log new [] (Has now) (Has now) (Gives h (Remove t ∷ [])) (Has now) (λ c has. inr (aged_sets c has)) (λ c has. has) more)
+
+  module _ (new : Option Log) (before : KnownBefore old new) (run : (l : Log) → old ≡ Some l → Ran l new (Remove t ∷ []) (Gives h (Remove t ∷ [])) (Has (rows_of (st.removed + 1) st.holds st.last (entries_of h)))) (over : st.limit < length (e ∷ rest)) (in_list : st.removed < length (entries_of h)) where
+    pub aged_images : (l : Log) → old ≡ Some l → RanTo l new h (Remove t)
+    aged_images l known = ran_widen l new (Remove t ∷ []) (Gives h (Remove t ∷ [])) (Has (rows_of (st.removed + 1) st.holds st.last (entries_of h))) (Gives h (Remove t ∷ [])) (λ c. PairsIn c (set_of (h ++ Remove t ∷ []))) (λ c has. has) aged_sets (run l known)
+
+    pub aged_stands : (to : ℕ) → StandsFor W new (record st { removed = st.removed + 1; swept = to }) earlier (h ++ Remove t ∷ []) k
+    aged_stands to = record {
+      legal = legal_more st.limit h (Remove t) stands.legal (subst (λ (s : List Entry). st.limit < length s) (sym (set_old W old st earlier h k stands t e rest is same)) over, subst (λ (s : List Entry). IsLeast t s) (sym (set_old W old st earlier h k stands t e rest is same)) (sym same), tt);
+      stamps = ap (map stamp_of) entries ∙ stands.stamps;
+      set = set_new ∙ ap (drop (st.removed + 1)) (sym entries);
+      within = subst (λ (es : List Entry). st.removed + 1 ≤ length es) (sym entries) (omega arith);
+      rises = subst IsFileSet (sym entries) stands.rises;
+      last = subst (λ (es : List Entry). AreUpTo st.last es) (sym entries) stands.last;
+      holds = λ span has. subst (λ (es : List Entry). IsWithin (length es) span) (sym entries) (stands.holds span has);
+      asked = subst (λ (es : List Entry). IsWithin (length es) st.asked) (sym entries) stands.asked;
+      calm = stands.calm;
+      doubt = subst (λ (d : Doubt). MayBe d k (st.removed + 1) st.last (entries_of (h ++ Remove t ∷ []))) (sym none) tt;
+      disk = λ m now.
+          let was = before m now in
+          subst (λ (d : Doubt). OnDisk W m (record st { removed = st.removed + 1; swept = to; doubt = d }) earlier (h ++ Remove t ∷ []) k) (sym none) (record {
+            images = subst (λ (es : List Entry). Each m (Has (rows_of (st.removed + 1) st.holds st.last es))) (sym entries) (ran_each was.0 new (Remove t ∷ []) (Gives h (Remove t ∷ [])) (Has (rows_of (st.removed + 1) st.holds st.last (entries_of h))) (run was.0 was.1) m now);
+            past = ran_past was.0 new (Remove t ∷ []) (Gives h (Remove t ∷ [])) (Has (rows_of (st.removed + 1) st.holds st.last (entries_of h))) (run was.0 was.1) m now
+                ∙ past_more (events was.0) earlier (after_found h) (Remove t ∷ []) (past_calm was.0 was.1)
+                ∙ ap (λ (xs : List Event). earlier ++ xs) (sym (append-nil (after_found (h ++ Remove t ∷ [])) ∙ after_more st.limit h (Remove t ∷ []) stands.legal));
+            whole = whole_more W (h ++ Remove t ∷ []) [] (whole_more W h (Remove t ∷ []) (whole_calm was.0 was.1) tt) tt;
+            hidden = tt;
+          });
+    }
+
+  found : place_in 0 t (entries_of h) ≡ Some (record { place = st.removed; files = files_of e })
+  found = ap (λ (q : ℕ). place_in 0 q (entries_of h)) same ∙ at_place 0 st.removed (entries_of h) e rest is stands.rises ∙ ap (λ (n : ℕ). Some (record { place = n; files = files_of e })) (omega arith)
+
+  -- an ageing that failed leaves the history
+  module _ (new : Option Log) (before : KnownBefore old new) (since halts : ℕ) (some : 0 < halts) where
+    pub unhidden_fails : ((l : Log) (rows : ℕ → Row) (f : Files) → old ≡ Some l → Each l (Has rows) → rows t ≡ Pair f → RanBy l new [] rows rows) → Fails W old new (record st { doubt = doubt.Unhidden t; halted = Some since; halts = halts }) earlier h (files_of e)
+    unhidden_fails kept =
+        let rows = rows_of st.removed st.holds st.last (entries_of h) in
+        record {
+          stands = record {
+            legal = stands.legal;
+            stamps = stands.stamps;
+            set = stands.set;
+            within = stands.within;
+            rises = stands.rises;
+            last = stands.last;
+            holds = stands.holds;
+            asked = stands.asked;
+            calm = some;
+            doubt = found;
+            disk = λ m now.
+                let was = before m now in
+                let run = kept was.0 rows (files_of e) was.1 (each_row was.0 was.1) pair_row in
+                record {
+                  images = ran_each was.0 new [] (Has rows) (Has rows) run m now;
+                  past = ran_past was.0 new [] (Has rows) (Has rows) run m now ∙ past_more (events was.0) earlier (after_found h) [] (past_calm was.0 was.1);
+                  whole = whole_more W h (Remove t ∷ []) (whole_calm was.0 was.1) tt;
+                  hidden = tt;
+                };
+          };
+          images = λ first known. ran_widen first new [] (Has rows) (Has rows) (Gives h []) (Gives h []) (sure_sets W old st earlier h k stands) (sure_sets W old st earlier h k stands) (kept first rows (files_of e) known (each_row first known) pair_row);
+        }
+
+    pub hidden_fails : ((l : Log) (rows : ℕ → Row) (f : Files) → old ≡ Some l → Each l (Has rows) → rows t ≡ Pair f → RanBy l new (Remove t ∷ []) (set_row rows t (Going f)) (set_row rows t (Going f)) × Reads new (Index t) (λ v. v ≡ None)) → Fails W old new (record st { doubt = doubt.Hidden t; halted = Some since; halts = halts }) earlier h (files_of e)
+    hidden_fails hides =
+        let rows = rows_of st.removed st.holds st.last (entries_of h) in
+        let going = set_row (rows_of st.removed st.holds st.last (entries_of h)) t (Going (files_of e)) in
+        record {
+          stands = record {
+            legal = stands.legal;
+            stamps = stands.stamps;
+            set = stands.set;
+            within = stands.within;
+            rises = stands.rises;
+            last = stands.last;
+            holds = stands.holds;
+            asked = stands.asked;
+            calm = some;
+            doubt = found;
+            disk = λ m now.
+                let was = before m now in
+                let run = hides was.0 rows (files_of e) was.1 (each_row was.0 was.1) pair_row in
+                record {
+                  images = ran_each was.0 new (Remove t ∷ []) (Has going) (Has going) run.0 m now;
+                  past = ran_past was.0 new (Remove t ∷ []) (Has going) (Has going) run.0 m now ∙ past_more (events was.0) earlier (after_found h) (Remove t ∷ []) (past_calm was.0 was.1);
+                  whole = whole_more W h (Remove t ∷ []) (whole_calm was.0 was.1) tt;
+                  hidden = run.1 m now;
+                };
+          };
+          images = λ first known. ran_widen first new (Remove t ∷ []) (Has going) (Has going) (Gives h (Remove t ∷ [])) (Gives h (Remove t ∷ [])) (going_sets W old st earlier h k stands t e rest is same) (going_sets W old st earlier h k stands t e rest is same) (hides first rows (files_of e) known (each_row first known) pair_row).0;
+        }
+
+some_first : (a b : List Entry) (d e : Entry) → ◌≡◌ {A = List Entry} (d ∷ a) (e ∷ b) → d ≡ e
+some_first a b d e h = cc
+
+-- the first entry of the set is the one that leaves
+pub leaving_as : (W : List ℕ → List ℕ → Type 0) (known : Option Log) (st : SpoolState) (earlier h : List Event) (k : Files) (t : ℕ) (e : Entry) (rest : List Entry) → StandsFor W known st earlier h k → st.limit < length st.stamps - st.removed → t ≡ slice_index st.stamps st.removed → set_of h ≡ e ∷ rest
+    → (drop st.removed (entries_of h) ≡ e ∷ rest) × (t ≡ e.stamp) × (st.limit < length (e ∷ rest)) × (st.removed < length (entries_of h))
+leaving_as W known st earlier h k t e rest stands over at first =
+    let r = leaving W known st earlier h k t stands over at in
+    let same = sym r.2 ∙ sym stands.set ∙ first in
+    (sym stands.set ∙ first, r.3 ∙ ap stamp_of (some_first r.1 rest r.0 e same), subst (λ (es : List Entry). st.limit < length es) same r.4, r.5)

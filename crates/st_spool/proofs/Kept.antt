@@ -1,0 +1,136 @@
+-- Calls that have no event.
+use Rattle.std.proofs.Common.{◌≡◌, ℕ, List, [], ◌∷◌, ◌++◌, Option, None, Some, Result, Ok, Err, refl, sym, ◌∙◌, ap, subst, ⊎_elim}
+use Rattle.std.proofs.lemmas.List.{append-nil}
+use Rattle.st_disk.specs.declared.naming.Kind.{Kind}
+use Rattle.st_disk.specs.declared.naming.Name.TheVariants.{Index, Draft}
+use Rattle.st_disk.specs.declared.changes.Call.TheVariants.{Did, Other}
+use Rattle.st_disk.specs.declared.changes.Change.TheVariants.{Make}
+use Rattle.st_disk.specs.Disks.{Log, reads}
+use Rattle.st_disk.specs.Events.{Event, events}
+use Rattle.st_disk.specs.LoggedCalls.{Looks, Does, Reads, Abandons, KnownBefore, removal}
+use Rattle.st_disk.specs.Pairs.{Entry, Files}
+use Rattle.st_disk.proofs.Reading.{known_log, reads_still, reads_looked, other_spares, make_spares}
+use Rattle.st_disk.proofs.Runs.{ran_widen, ran_quiet, each_did, each_other, known_looks, known_adds}
+use Rattle.st_spool.specs.Rows.{Row, Has, RanBy}
+use Rattle.st_spool.specs.History.{entries_of}
+use Rattle.st_spool.specs.States.{SpoolState, SpoolView, rows_by}
+use Rattle.st_spool.specs.Standing.{StandsFor, IsHidden, Gives, begun}
+use Rattle.st_spool.specs.Publishing.{Keeps, Fails, RanTo}
+use Rattle.st_spool.specs.Aging.{Removes}
+use Rattle.st_disk.specs.Events as event
+use Rattle.st_spool.specs.declared.state.Doubt.{Doubt}
+use Rattle.st_spool.specs.declared.state.Doubt.TheVariants as doubt
+use Rattle.st_spool.proofs.Keeping.{make_keeps}
+use Rattle.st_spool.proofs.Stages.{start, looks, abandons}
+use Rattle.st_spool.proofs.Published.{ran_each, ran_past}
+use Rattle.st_spool.proofs.Giving.{gives}
+use Rattle.st_spool.proofs.Entering.{reads_removing}
+
+-- a call keeps what each image has, whatever that is, and what is not read as an index stays so
+pub record KeepsRows (old new : Option Log) : Type 0 where
+  pub known : KnownBefore old new
+  pub ran : (first : Log) (rows : ℕ → Row) → RanBy first old [] rows rows → RanBy first new [] rows rows
+  pub hidden : (t : ℕ) → Reads old (Index t) (λ v. v ≡ None) → Reads new (Index t) (λ v. v ≡ None)
+
+hidden_read : (l : Log) (old : Option Log) (t : ℕ) → old ≡ Some l → reads l (Index t) ≡ None → Reads old (Index t) (λ v. v ≡ None)
+hidden_read l old t is none g known = ap (λ (x : Log). reads x (Index t)) (known_log g l (sym known ∙ is)) ∙ none
+
+pub still_hidden : (d : Doubt) (old new : Option Log) (l m : Log) → old ≡ Some l → new ≡ Some m → ((t : ℕ) → Reads old (Index t) (λ v. v ≡ None) → Reads new (Index t) (λ v. v ≡ None)) → IsHidden d (reads l) → IsHidden d (reads m)
+still_hidden doubt.Nothing old new l m is now keeps h = h
+still_hidden (doubt.Unsettled t) old new l m is now keeps h = h
+still_hidden (doubt.Settled t) old new l m is now keeps h = h
+still_hidden (doubt.Unhidden t) old new l m is now keeps h = h
+still_hidden (doubt.Hidden t) old new l m is now keeps h = keeps t (hidden_read l old t is h) m now
+
+pub keeps_rows : (W : List ℕ → List ℕ → Type 0) (old new : Option Log) (st : SpoolState) (earlier h : List Event) (k : Files) → KeepsRows old new → StandsFor W old st earlier h k → Keeps W old new st earlier h k
+keeps_rows W old new st earlier h k keeps stands = record {
+  stands = record {
+    legal = stands.legal;
+    stamps = stands.stamps;
+    set = stands.set;
+    within = stands.within;
+    rises = stands.rises;
+    last = stands.last;
+    holds = stands.holds;
+    asked = stands.asked;
+    calm = stands.calm;
+    doubt = stands.doubt;
+    disk = λ m now.
+        let was = keeps.known m now in
+        let disk = stands.disk was.0 was.1 in
+        let run = keeps.ran was.0 (rows_by st k (entries_of h)) (start was.0 (rows_by st k (entries_of h)) old was.1 disk.images) in
+        record {
+          images = ran_each was.0 new [] (Has (rows_by st k (entries_of h))) (Has (rows_by st k (entries_of h))) run m now;
+          past = ran_past was.0 new [] (Has (rows_by st k (entries_of h))) (Has (rows_by st k (entries_of h))) run m now ∙ append-nil (events was.0) ∙ disk.past;
+          whole = disk.whole;
+          hidden = still_hidden st.doubt old new was.0 m was.1 now keeps.hidden disk.hidden;
+        };
+  };
+  images = λ first known.
+      let rows = rows_by st k (entries_of h) in
+      ran_widen first new [] (Has rows) (Has rows) (Gives h (begun st.doubt k)) (Gives h (begun st.doubt k)) (gives W old st earlier h k stands) (gives W old st earlier h k stands)
+      (keeps.ran first rows (start first rows old known (stands.disk first known).images));
+}
+
+pub looks_keeps : (old new : Option Log) → Looks old new → KeepsRows old new
+looks_keeps old new look = record {
+  known = known_looks old new look;
+  ran = λ first rows run. looks first [] rows old new run look;
+  hidden = λ t none. reads_looked old new (Index t) (λ v. v ≡ None) none look;
+}
+
+-- a call that changes no folder
+pub other_keeps : {T E : Type 0} (old new : Option Log) (r : Result T E) → Does old new r (λ _. Other) → KeepsRows old new
+other_keeps {T = T} {E = E} old new (Ok v) does = record {
+  known = known_adds old new Other does;
+  ran = λ first rows run. ran_quiet first old new [] (Has rows) (Has rows) (Has rows) Other (λ f. refl) (λ c h. h) (λ log e each. each_other (Has rows) log each) run does;
+  hidden = λ t none. reads_still old new Other (Index t) (λ v. v ≡ None) (other_spares (Index t)) none does;
+}
+other_keeps {T = T} {E = E} old new (Err e) does = looks_keeps old new does
+
+-- a draft is made
+pub make_keeps_rows : {T E : Type 0} (old new : Option Log) (r : Result T E) (kind : Kind) (number : T → ℕ) → Does old new r (λ d. Did (Make kind (number d))) → KeepsRows old new
+make_keeps_rows {T = T} {E = E} old new (Ok d) kind number does = record {
+  known = known_adds old new (Did (Make kind (number d))) does;
+  ran = λ first rows run. ran_quiet first old new [] (Has rows) (Has rows) (Has rows) (Did (Make kind (number d))) (λ f. refl) (λ c h. h) (λ log e each. each_did (Has rows) (Make kind (number d)) (make_keeps rows kind (number d)) log each) run does;
+  hidden = λ t none. reads_still old new (Did (Make kind (number d))) (Index t) (λ v. v ≡ None) (make_spares kind (number d) (Index t) refl) none does;
+}
+make_keeps_rows {T = T} {E = E} old new (Err e) kind number does = looks_keeps old new does
+
+-- a draft is taken back
+pub abandon_keeps : (old new : Option Log) (kind : Kind) (number own before now : ℕ) → Abandons old new (Draft kind number) own before now → KeepsRows old new
+abandon_keeps old new kind number own before now abandon = record {
+  known = ⊎_elim (λ adds. known_adds old new (removal old (Draft kind number)) adds.0) (λ look. known_looks old new look.0) abandon;
+  ran = λ first rows run. abandons first [] rows old new kind number own before now run abandon;
+  hidden = λ t none. ⊎_elim (λ adds. reads_removing old new (Draft kind number) (Index t) (λ v. v ≡ None) (λ same. refl) none adds.0) (λ look. reads_looked old new (Index t) (λ v. v ≡ None) none look.0) abandon;
+}
+
+-- a spool that stands for some history stands for it after the call
+pub keeps_some : (W : List ℕ → List ℕ → Type 0) (old new : Option Log) (st : SpoolState) → KeepsRows old new → (earlier : List Event) × (h : List Event) × (k : Files) × StandsFor W old st earlier h k → (earlier : List Event) × (h : List Event) × (k : Files) × StandsFor W new st earlier h k
+keeps_some W old new st keeps was = (was.0, was.1, was.2, (keeps_rows W old new st was.0 was.1 was.2 keeps was.3).stands)
+
+-- a clause speaks of the spool as the call began, which is the one that was opened
+pub keeps_from : {D : Type 0} (W : List ℕ → List ℕ → Type 0) (log : D → Option Log) (seen old : SpoolView D) (new : Option Log) (earlier h : List Event) (k : Files) → seen ≡ old → KeepsRows (log seen.shelf) new → StandsFor W (log old.shelf) old.state earlier h k
+    → Keeps W (log old.shelf) new seen.state earlier h k
+keeps_from {D} W log seen old new earlier h k same keeps stands =
+    subst (λ (s : SpoolView D). Keeps W (log s.shelf) new seen.state earlier h k) same
+    (keeps_rows W (log seen.shelf) new seen.state earlier h k keeps (subst (λ (s : SpoolView D). StandsFor W (log s.shelf) s.state earlier h k) (sym same) stands))
+
+pub stands_from : {D : Type 0} (W : List ℕ → List ℕ → Type 0) (log : D → Option Log) (seen old : SpoolView D) (earlier h : List Event) (k : Files) → seen ≡ old → StandsFor W (log old.shelf) old.state earlier h k → StandsFor W (log seen.shelf) seen.state earlier h k
+stands_from {D} W log seen old earlier h k same stands = subst (λ (s : SpoolView D). StandsFor W (log s.shelf) s.state earlier h k) (sym same) stands
+
+pub known_from : {D : Type 0} (log : D → Option Log) (seen old : SpoolView D) (l : Log) → seen ≡ old → log old.shelf ≡ Some l → log seen.shelf ≡ Some l
+known_from {D} log seen old l same known = ap (λ (s : SpoolView D). log s.shelf) same ∙ known
+
+pub keeps_moved : {D : Type 0} (W : List ℕ → List ℕ → Type 0) (log : D → Option Log) (seen old : SpoolView D) (new : Option Log) (st : SpoolState) (earlier h : List Event) (k : Files) → seen ≡ old → Keeps W (log seen.shelf) new st earlier h k → Keeps W (log old.shelf) new st earlier h k
+keeps_moved {D} W log seen old new st earlier h k same keeps = subst (λ (s : SpoolView D). Keeps W (log s.shelf) new st earlier h k) same keeps
+
+pub fails_moved : {D : Type 0} (W : List ℕ → List ℕ → Type 0) (log : D → Option Log) (seen old : SpoolView D) (new : Option Log) (st : SpoolState) (earlier h : List Event) (k : Files) → seen ≡ old → Fails W (log seen.shelf) new st earlier h k → Fails W (log old.shelf) new st earlier h k
+fails_moved {D} W log seen old new st earlier h k same fails = subst (λ (s : SpoolView D). Fails W (log s.shelf) new st earlier h k) same fails
+
+pub removes_moved : {D : Type 0} (W : List ℕ → List ℕ → Type 0) (log : D → Option Log) (seen old : SpoolView D) (new : Option Log) (st : SpoolState) (earlier h : List Event) (k : Files) (e : Entry) (t : ℕ) → seen ≡ old → t ≡ e.stamp
+    → StandsFor W new st earlier (h ++ event.Remove t ∷ []) k → ((l : Log) → log seen.shelf ≡ Some l → RanTo l new h (event.Remove t)) → Removes W (log old.shelf) new st earlier h e k
+removes_moved {D} W log seen old new st earlier h k e t same is stands images = record {
+  stands = subst (λ (s : ℕ). StandsFor W new st earlier (h ++ event.Remove s ∷ []) k) is stands;
+  images = λ l known. subst (λ (s : ℕ). RanTo l new h (event.Remove s)) is (images l (known_from log seen old l same known));
+}

@@ -1,0 +1,180 @@
+-- What a publication makes of the state and of the history.
+use Rattle.std.proofs.Common.{◌≡◌, ◌<◌, ◌≤◌, ◌+◌, ℕ, List, [], ◌∷◌, ◌++◌, length, drop, map, Option, None, Some, refl, sym, ◌∙◌, ap, subst, arith, length-append, append_assoc}
+use Rattle.std.proofs.lemmas.List.{append-nil}
+use Rattle.st_disk.specs.Folders.{Folder}
+use Rattle.st_disk.specs.declared.naming.Name.TheVariants.{Block, Index, Parked}
+use Rattle.st_disk.specs.Disks.{Log, reads}
+use Rattle.st_disk.specs.Events.{Event, Publish, events}
+use Rattle.st_disk.specs.LoggedCalls.{Reads, KnownBefore}
+use Rattle.st_disk.proofs.Images.{leaves_now}
+use Rattle.st_disk.proofs.Runs.{ran_widen}
+use Rattle.st_disk.specs.Runs.{Each, Ran}
+use Rattle.st_disk.specs.Pairs.{Entry, Files, PairsIn, IsFileSet}
+use Rattle.st_disk.proofs.Reading.{known_log}
+use Rattle.st_spool.specs.Rows.{Row, Free, Half, Coming, Pair, Fits, Has, set_row, RanBy}
+use Rattle.st_spool.specs.Placing.{entry}
+use Rattle.st_spool.specs.History.{set_of, entries_of}
+use Rattle.st_spool.specs.States.{SpoolState, rows_of, with_doubt, MayBe, AreUpTo, IsWithin}
+use Rattle.st_spool.specs.Standing.{StandsFor, OnDisk, IsCalm, IsHidden, Gives, begun, in_doubt, after_found, PublishWhole, stamp_of}
+use Rattle.st_spool.specs.Publishing.{RanTo, RanInDoubt}
+use Rattle.st_spool.specs.declared.state.Doubt.{Doubt}
+use Rattle.st_spool.specs.declared.state.Doubt.TheVariants as doubt
+use Rattle.st_spool.proofs.Giving.{free as free_row, set_more_is, coming_sets, half_sets}
+use Rattle.st_spool.proofs.Setting.{sure_set}
+use Rattle.st_spool.proofs.Histories.{entries_more, legal_more, after_more, whole_more, whole_first}
+use Rattle.st_spool.proofs.Places.{rows_published, rows_sure, rows_set, file_set_more, up_to_more, drop_more}
+
+stamps_more : (es : List Entry) (e : Entry) → map stamp_of (es ++ e ∷ []) ≡ map stamp_of es ++ e.stamp ∷ []
+stamps_more [] e = refl
+stamps_more (d ∷ ds) e = ap (λ (xs : List ℕ). d.stamp ∷ xs) (stamps_more ds e)
+
+-- before a call failed nothing is in doubt
+pub calm_doubt : (halted : Option ℕ) (d : Doubt) (halts : ℕ) → halted ≡ None → IsCalm halted d halts → d ≡ doubt.Nothing
+calm_doubt halted d halts none calm = (subst (λ (o : Option ℕ). IsCalm o d halts) none calm).0
+
+-- events more
+pub past_more : (past earlier mid es : List Event) → past ≡ earlier ++ (mid ++ []) → past ++ es ≡ earlier ++ (mid ++ es)
+past_more past earlier mid es is =
+    ap (λ (xs : List Event). xs ++ es) (is ∙ ap (λ (xs : List Event). earlier ++ xs) (append-nil mid)) ∙ append_assoc earlier mid es
+
+-- the run of a call ends with the log that is known now
+pub ran_each : (first : Log) (known : Option Log) (es : List Event) (P Q : Folder → Type 0) → Ran first known es P Q → (log : Log) → known ≡ Some log → Each log Q
+ran_each first known es P Q run log is = subst (λ (k : Log). Each k Q) (known_log run.log log (sym run.is ∙ is)) run.each
+
+pub ran_past : (first : Log) (known : Option Log) (es : List Event) (P Q : Folder → Type 0) → Ran first known es P Q → (log : Log) → known ≡ Some log → events log ≡ events first ++ es
+ran_past first known es P Q run log is = ap events (known_log log run.log (sym is ∙ run.is)) ∙ run.past
+
+module _ (W : List ℕ → List ℕ → Type 0) (old new : Option Log) (st : SpoolState) (earlier h : List Event) (k f : Files) (t : ℕ) (stands : StandsFor W old st earlier h k) (running : st.halted ≡ None) (more : st.last < t) where
+  rows : ℕ → Row
+  rows = rows_of st.removed st.holds st.last (entries_of h)
+
+  none : st.doubt ≡ doubt.Nothing
+  none = calm_doubt st.halted st.doubt st.halts running stands.calm
+
+  free : rows_of st.removed st.holds st.last (entries_of h) t ≡ Free
+  free = free_row W old st earlier h k stands t f more
+
+  entries : entries_of (h ++ Publish (entry t f) ∷ []) ≡ entries_of h ++ entry t f ∷ []
+  entries = entries_more [] h (Publish (entry t f))
+
+  rises_all : IsFileSet (entries_of h ++ entry t f ∷ [])
+  rises_all = file_set_more st.last (entries_of h) (entry t f) stands.last more stands.rises
+
+  -- the images of the state, of which nothing is in doubt
+  pub each_row : (l : Log) → old ≡ Some l → Each l (Has (rows_of st.removed st.holds st.last (entries_of h)))
+  each_row l known = subst (λ (d : Doubt). Each l (Has (with_doubt d k (rows_of st.removed st.holds st.last (entries_of h))))) none (stands.disk l known).images
+
+  past_calm : (l : Log) → old ≡ Some l → events l ≡ earlier ++ (after_found h ++ [])
+  past_calm l known = subst (λ (d : Doubt). events l ≡ earlier ++ (after_found h ++ begun d k)) none (stands.disk l known).past
+
+  whole_calm : (l : Log) → old ≡ Some l → PublishWhole W h
+  whole_calm l known = whole_first W h (in_doubt st.doubt k) (stands.disk l known).whole
+
+  done_rows : (c : Folder) → Has (set_row (rows_of st.removed st.holds st.last (entries_of h)) t (Pair f)) c → Has (rows_of st.removed st.holds t (entries_of (h ++ Publish (entry t f) ∷ []))) c
+  done_rows c has =
+      subst (λ (es : List Entry). Has (rows_of st.removed st.holds t es) c) (sym entries) (rows_published st.removed st.last st.holds (entries_of h) (entry t f) stands.last more stands.within c has)
+
+  rises_new : IsFileSet (entries_of (h ++ Publish (entry t f) ∷ []))
+  rises_new = subst IsFileSet (sym entries) rises_all
+
+  set_new : set_of (h ++ Publish (entry t f) ∷ []) ≡ drop st.removed (entries_of (h ++ Publish (entry t f) ∷ []))
+  set_new = set_more_is W old st earlier h k stands t f more ∙ sym (drop_more st.removed (entries_of h) (entry t f) stands.within) ∙ ap (drop st.removed) (sym entries)
+
+  done_sets : (c : Folder) → Has (set_row (rows_of st.removed st.holds st.last (entries_of h)) t (Pair f)) c → PairsIn c (set_of (h ++ Publish (entry t f) ∷ []))
+  done_sets c has =
+      subst (λ (s : List Entry). PairsIn c s) (sym set_new)
+      (sure_set (rows_of st.removed st.holds t (entries_of (h ++ Publish (entry t f) ∷ []))) (drop st.removed (entries_of (h ++ Publish (entry t f) ∷ []))) c (rows_sure st.removed t st.holds (entries_of (h ++ Publish (entry t f) ∷ [])))
+      (rows_set st.removed t st.holds (entries_of (h ++ Publish (entry t f) ∷ [])) rises_new) (done_rows c has))
+
+  longer : length (entries_of (h ++ Publish (entry t f) ∷ [])) ≡ length (entries_of h) + 1
+  longer = ap length entries ∙ length-append (entries_of h) (entry t f ∷ [])
+
+  within_more : (span : _) → IsWithin (length (entries_of h)) span → IsWithin (length (entries_of (h ++ Publish (entry t f) ∷ []))) span
+  within_more span is = let long = longer in let to : span.to ≤ length (entries_of h) = is.1 in (is.0, omega arith)
+
+  pub published_stands : (stamps : List ℕ) → stamps ≡ st.stamps ++ t ∷ [] → ((l : Log) → old ≡ Some l → W f.block f.index) → KnownBefore old new
+      → ((l : Log) (rows : ℕ → Row) → old ≡ Some l → Each l (Has rows) → rows t ≡ Free → RanBy l new (Publish (entry t f) ∷ []) (set_row rows t (Coming f)) (set_row rows t (Pair f)))
+      → StandsFor W new (record st { stamps = stamps; last = t }) earlier (h ++ Publish (entry t f) ∷ []) k
+  published_stands stamps pushed whole before placed = record {
+    legal = legal_more st.limit h (Publish (entry t f)) stands.legal (rises_all, tt);
+    stamps = ap (map stamp_of) entries ∙ stamps_more (entries_of h) (entry t f) ∙ ap (λ (xs : List ℕ). xs ++ t ∷ []) stands.stamps ∙ sym pushed;
+    set = set_new;
+    within = let long = longer in let was : st.removed ≤ length (entries_of h) = stands.within in omega arith;
+    rises = rises_new;
+    last = subst (λ (es : List Entry). AreUpTo t es) (sym entries) (up_to_more st.last t (entries_of h) (entry t f) (omega arith) (omega arith) stands.last);
+    holds = λ span has. within_more span (stands.holds span has);
+    asked = within_more st.asked stands.asked;
+    calm = stands.calm;
+    doubt = subst (λ (d : Doubt). MayBe d k st.removed t (entries_of (h ++ Publish (entry t f) ∷ []))) (sym none) tt;
+    disk = λ m known.
+        let was = before m known in
+        let run = placed was.0 (rows_of st.removed st.holds st.last (entries_of h)) was.1 (each_row was.0 was.1) free in
+        subst (λ (d : Doubt). OnDisk W m (record st { stamps = stamps; last = t; doubt = d }) earlier (h ++ Publish (entry t f) ∷ []) k) (sym none) (record {
+          images = λ c left. done_rows c (ran_each was.0 new (Publish (entry t f) ∷ []) (Has (set_row (rows_of st.removed st.holds st.last (entries_of h)) t (Coming f))) (Has (set_row (rows_of st.removed st.holds st.last (entries_of h)) t (Pair f))) run m known c left);
+          past = ran_past was.0 new (Publish (entry t f) ∷ []) (Has (set_row (rows_of st.removed st.holds st.last (entries_of h)) t (Coming f))) (Has (set_row (rows_of st.removed st.holds st.last (entries_of h)) t (Pair f))) run m known
+              ∙ past_more (events was.0) earlier (after_found h) (Publish (entry t f) ∷ []) (past_calm was.0 was.1)
+              ∙ ap (λ (xs : List Event). earlier ++ xs) (sym (append-nil (after_found (h ++ Publish (entry t f) ∷ [])) ∙ after_more st.limit h (Publish (entry t f) ∷ []) stands.legal));
+          whole = whole_more W (h ++ Publish (entry t f) ∷ []) [] (whole_more W h (Publish (entry t f) ∷ []) (whole_calm was.0 was.1) (whole was.0 was.1, tt)) tt;
+          hidden = tt;
+        });
+  }
+
+  pub published_images : (l : Log) → old ≡ Some l → ((l : Log) (rows : ℕ → Row) → old ≡ Some l → Each l (Has rows) → rows t ≡ Free → RanBy l new (Publish (entry t f) ∷ []) (set_row rows t (Coming f)) (set_row rows t (Pair f)))
+      → RanTo l new h (Publish (entry t f))
+  published_images l known placed =
+      ran_widen l new (Publish (entry t f) ∷ []) (Has (set_row (rows_of st.removed st.holds st.last (entries_of h)) t (Coming f))) (Has (set_row (rows_of st.removed st.holds st.last (entries_of h)) t (Pair f))) (Gives h (Publish (entry t f) ∷ [])) (λ c. PairsIn c (set_of (h ++ Publish (entry t f) ∷ []))) (coming_sets W old st earlier h k stands t f more) done_sets
+      (placed l (rows_of st.removed st.holds st.last (entries_of h)) known (each_row l known) free)
+
+  -- a publication that failed leaves the history
+  failed_stands : (d : Doubt) (r : Row) (es : List Event) (since halts : ℕ) → 0 < halts → with_doubt d f (rows_of st.removed st.holds st.last (entries_of h)) ≡ set_row (rows_of st.removed st.holds st.last (entries_of h)) t r → begun d f ≡ es
+      → ((l : Log) → old ≡ Some l → PublishWhole W (in_doubt d f)) → ((c : Folder) → IsHidden d c) → MayBe d f st.removed st.last (entries_of h) → KnownBefore old new
+      → ((l : Log) (rows : ℕ → Row) → old ≡ Some l → Each l (Has rows) → rows t ≡ Free → RanBy l new es (set_row rows t r) (set_row rows t r))
+      → StandsFor W new (record st { doubt = d; halted = Some since; halts = halts }) earlier h f
+  failed_stands d r es since halts some rows_are begun_is whole hidden may before placed = record {
+    legal = stands.legal;
+    stamps = stands.stamps;
+    set = stands.set;
+    within = stands.within;
+    rises = stands.rises;
+    last = stands.last;
+    holds = stands.holds;
+    asked = stands.asked;
+    calm = some;
+    doubt = may;
+    disk = λ m known.
+        let was = before m known in
+        let run = placed was.0 (rows_of st.removed st.holds st.last (entries_of h)) was.1 (each_row was.0 was.1) free in
+        record {
+          images = subst (λ (q : ℕ → Row). Each m (Has q)) (sym rows_are) (ran_each was.0 new es (Has (set_row (rows_of st.removed st.holds st.last (entries_of h)) t r)) (Has (set_row (rows_of st.removed st.holds st.last (entries_of h)) t r)) run m known);
+          past = ran_past was.0 new es (Has (set_row (rows_of st.removed st.holds st.last (entries_of h)) t r)) (Has (set_row (rows_of st.removed st.holds st.last (entries_of h)) t r)) run m known
+              ∙ past_more (events was.0) earlier (after_found h) es (past_calm was.0 was.1) ∙ ap (λ (xs : List Event). earlier ++ (after_found h ++ xs)) (sym begun_is);
+          whole = whole_more W h (in_doubt d f) (whole_calm was.0 was.1) (whole was.0 was.1);
+          hidden = hidden (reads m);
+        };
+  }
+
+  pub unsettled_stands : (since halts : ℕ) → 0 < halts → ((l : Log) → old ≡ Some l → W f.block f.index) → KnownBefore old new → ((l : Log) (rows : ℕ → Row) → old ≡ Some l → Each l (Has rows) → rows t ≡ Free → RanBy l new [] (set_row rows t (Half f)) (set_row rows t (Half f)))
+      → StandsFor W new (record st { doubt = doubt.Unsettled t; halted = Some since; halts = halts }) earlier h f
+  unsettled_stands since halts some whole before placed = failed_stands (doubt.Unsettled t) (Half f) [] since halts some refl refl (λ l known. (whole l known, tt)) (λ c. tt) more before placed
+
+  pub settled_stands : (since halts : ℕ) → 0 < halts → ((l : Log) → old ≡ Some l → W f.block f.index) → KnownBefore old new → ((l : Log) (rows : ℕ → Row) → old ≡ Some l → Each l (Has rows) → rows t ≡ Free → RanBy l new (Publish (entry t f) ∷ []) (set_row rows t (Coming f)) (set_row rows t (Coming f)))
+      → StandsFor W new (record st { doubt = doubt.Settled t; halted = Some since; halts = halts }) earlier h f
+  settled_stands since halts some whole before placed = failed_stands (doubt.Settled t) (Coming f) (Publish (entry t f) ∷ []) since halts some refl refl (λ l known. (whole l known, tt)) (λ c. tt) more before placed
+
+  pub unsettled_images : (l : Log) → old ≡ Some l → ((l : Log) (rows : ℕ → Row) → old ≡ Some l → Each l (Has rows) → rows t ≡ Free → RanBy l new [] (set_row rows t (Half f)) (set_row rows t (Half f))) → RanInDoubt l new h []
+  unsettled_images l known placed =
+      ran_widen l new [] (Has (set_row (rows_of st.removed st.holds st.last (entries_of h)) t (Half f))) (Has (set_row (rows_of st.removed st.holds st.last (entries_of h)) t (Half f))) (Gives h []) (Gives h []) (half_sets W old st earlier h k stands t f more) (half_sets W old st earlier h k stands t f more)
+      (placed l (rows_of st.removed st.holds st.last (entries_of h)) known (each_row l known) free)
+
+  pub settled_images : (l : Log) → old ≡ Some l → ((l : Log) (rows : ℕ → Row) → old ≡ Some l → Each l (Has rows) → rows t ≡ Free → RanBy l new (Publish (entry t f) ∷ []) (set_row rows t (Coming f)) (set_row rows t (Coming f)))
+      → RanInDoubt l new h (Publish (entry t f) ∷ [])
+  settled_images l known placed =
+      ran_widen l new (Publish (entry t f) ∷ []) (Has (set_row (rows_of st.removed st.holds st.last (entries_of h)) t (Coming f))) (Has (set_row (rows_of st.removed st.holds st.last (entries_of h)) t (Coming f))) (Gives h (Publish (entry t f) ∷ [])) (Gives h (Publish (entry t f) ∷ [])) (coming_sets W old st earlier h k stands t f more) (coming_sets W old st earlier h k stands t f more)
+      (placed l (rows_of st.removed st.holds st.last (entries_of h)) known (each_row l known) free)
+
+  free_fits : (l : Log) → old ≡ Some l → Fits Free (reads l (Block t)) (reads l (Index t)) (reads l (Parked t))
+  free_fits l known = subst (λ (q : Row). Fits q (reads l (Block t)) (reads l (Index t)) (reads l (Parked t))) free (each_row l known (reads l) (leaves_now l) t)
+
+  -- nothing is read under the names of the next stamp
+  pub free_read : Reads old (Index t) (λ v. v ≡ None) × Reads old (Block t) (λ v. v ≡ None)
+  free_read = (λ l known. (free_fits l known).1, λ l known. (free_fits l known).0)

@@ -1,0 +1,46 @@
+-- What an ageing makes of a spool.
+use Rattle.std.specs.Prelude.{◌≡◌, ◌<◌, ◌+◌, ◌-◌, ◌⊎◌, ℕ, List, [], ◌∷◌, ◌++◌, length, slice_index, Option, None, Some, Bool, true, false, Result, Ok, Err}
+use Rattle.st_disk.specs.Disks.{Log}
+use Rattle.st_disk.specs.Pairs.{Entry, Files, files_of}
+use Rattle.st_disk.specs.Events.{Event, Remove}
+use Rattle.st_spool.specs.States.{SpoolState}
+use Rattle.st_spool.specs.Standing.{StandsFor}
+use Rattle.st_spool.specs.Publishing.{failed, RanTo, Fails}
+use Rattle.st_spool.specs.declared.state.Doubt.TheVariants.{Unhidden, Hidden}
+use Rattle.st_spool.specs.declared.refusals.AgeErr.{AgeErr}
+use Rattle.st_spool.specs.declared.refusals.AgeErr.TheVariants.{DiskFault, Halted}
+
+-- how many pairs are published
+abbrev pub pair_count : SpoolState → ℕ
+pair_count st = length st.stamps - st.removed
+
+-- the stamp of the oldest pair
+abbrev pub oldest : SpoolState → ℕ
+oldest st = slice_index st.stamps st.removed
+
+-- an ageing is not refused, and there is something to remove
+abbrev pub MayAge : SpoolState → Type 0
+MayAge st = (st.halted ≡ None) × (st.limit < pair_count st)
+
+-- the state after a removal, and after a sweep that reached this place
+abbrev pub aged : SpoolState → ℕ → SpoolState
+aged st to = record st { removed = st.removed + 1; swept = to }
+
+-- the spool stands for the history with the removal, and no crash leaves the pair
+pub record Removes (IsWhole : List ℕ → List ℕ → Type 0) (old new : Option Log) (st : SpoolState) (earlier h : List Event) (e : Entry) (f : Files) : Type 0 where
+  pub stands : StandsFor IsWhole new st earlier (h ++ Remove e.stamp ∷ []) f
+  pub images : (first : Log) → old ≡ Some first → RanTo first new h (Remove e.stamp)
+
+-- an ageing of a spool whose oldest pair is this one
+abbrev pub Ages : (List ℕ → List ℕ → Type 0) → Option Log → Option Log → SpoolState → List Event → List Event → Entry → Files → Result Bool AgeErr → Type 0
+Ages IsWhole old new st earlier h e f (Ok true) = Removes IsWhole old new st earlier h e f
+Ages IsWhole old new st earlier h e f (Ok false) = ⊥
+Ages IsWhole old new st earlier h e f (Err DiskFault) = Fails IsWhole old new st earlier h (files_of e)
+Ages IsWhole old new st earlier h e f (Err (Halted since)) = ⊥
+
+-- the state after it, with the shelf's count of faults
+abbrev pub AgesTo : SpoolState → SpoolState → ℕ → Result Bool AgeErr → Type 0
+AgesTo old new since (Ok true) = new ≡ aged old new.swept
+AgesTo old new since (Ok false) = ⊥
+AgesTo old new since (Err DiskFault) = (new ≡ failed old (Unhidden (oldest old)) since) ⊎ (new ≡ failed old (Hidden (oldest old)) since)
+AgesTo old new since (Err (Halted n)) = ⊥

@@ -1,0 +1,125 @@
+-- What an opening makes of a shelf.
+use Rattle.std.specs.Prelude.{◌≡◌, ◌<◌, ◌≤◌, ◌⊎◌, ◌↔◌, ℕ, List, [], ◌∷◌, length, Option, None, Some, IsSome, Contains, AllPairs, ⊤}
+use Rattle.st_disk.specs.declared.naming.Kind.TheVariants as kind
+use Rattle.st_disk.specs.declared.naming.Name.{Name}
+use Rattle.st_disk.specs.declared.naming.Name.TheVariants.{Block, Index, Parked, Draft}
+use Rattle.st_disk.specs.declared.changes.Call.TheVariants.{Flush}
+use Rattle.st_disk.specs.Names.{number_of}
+use Rattle.st_disk.specs.Folders.{Folder}
+use Rattle.st_disk.specs.Disks.{Log, reads, Leaves, and_then}
+use Rattle.st_disk.specs.LoggedCalls.{Reads}
+use Rattle.st_disk.specs.Runs.{Ran}
+use Rattle.st_disk.specs.Pairs.{Entry, Files, PairsIn, both}
+use Rattle.st_disk.specs.Events.{Found, events}
+use Rattle.st_spool.specs.Rows.{Row, Past, Lone, Both}
+use Rattle.st_spool.specs.States.{SpoolState}
+use Rattle.st_spool.specs.Standing.{StandsFor}
+use Rattle.st_spool.specs.declared.state.Doubt.TheVariants as doubt
+
+-- the second where the first is there
+abbrev pub beside : Option (List ℕ) → Option (List ℕ) → Option (List ℕ)
+beside None own = None
+beside (Some other) own = own
+
+-- a folder without its drafts, parked indexes and halves of pairs
+abbrev pub pairs_alone : Folder → Folder
+pairs_alone f (Block s) = beside (f (Index s)) (f (Block s))
+pairs_alone f (Index s) = beside (f (Block s)) (f (Index s))
+pairs_alone f (Parked s) = None
+pairs_alone f (Draft k d) = None
+
+-- the second folder is the first
+abbrev pub Is : Folder → Folder → Type 0
+Is f c = (n : Name) → c n ≡ f n
+
+-- both folders have the same pairs
+abbrev pub SamePairs : Folder → Folder → Type 0
+SamePairs f c = (s : ℕ) → both (c (Block s)) (c (Index s)) ≡ both (f (Block s)) (f (Index s))
+
+-- the row of what was found, whatever was removed since that is no part of a pair
+abbrev pub found_row : Option (List ℕ) → Option (List ℕ) → Row
+found_row None index = Lone
+found_row (Some block) None = Past
+found_row (Some block) (Some index) = Both (record { block = block; index = index })
+
+abbrev pub found_rows : Folder → ℕ → Row
+found_rows f s = found_row (f (Block s)) (f (Index s))
+
+-- the name is that of one file of a pair, and the other one is among these names
+abbrev pub IsPart : (Name → Type 0) → Name → Type 0
+IsPart P (Block s) = P (Index s)
+IsPart P (Index s) = P (Block s)
+IsPart P (Parked s) = ⊥
+IsPart P (Draft k d) = ⊥
+
+-- these are just the names that are there
+abbrev pub AreThere : List Name → Folder → Type 0
+AreThere names f = (n : Name) → Contains names n ↔ IsSome (f n)
+
+-- the stamps, in order, of which both names hold P
+pub record ArePaired (P : Name → Type 0) (stamps : List ℕ) : Type 0 where
+  pub rises : AllPairs (λ s t. s < t) stamps
+  pub each : (s : ℕ) → Contains stamps s → P (Block s) × P (Index s)
+  pub all : (s : ℕ) → P (Block s) → P (Index s) → Contains stamps s
+
+-- the name has a stamp
+abbrev pub IsStamped : Name → Type 0
+IsStamped (Block s) = ⊤
+IsStamped (Index s) = ⊤
+IsStamped (Parked s) = ⊤
+IsStamped (Draft k d) = ⊥
+
+-- the greatest stamp of the names for which P holds, or 0 if there is none
+pub record IsLastStamp (P : Name → Type 0) (last : ℕ) : Type 0 where
+  pub above : (n : Name) → IsStamped n → P n → number_of n ≤ last
+  pub some : (last ≡ 0) ⊎ ((n : Name) × IsStamped n × P n × (number_of n ≡ last))
+
+-- after a clearing there are just the pairs of what was read before
+abbrev pub ReadsCleared : Option Log → Option Log → List Name → Type 0
+ReadsCleared old new names =
+    (f : Folder) → AreThere names f → ((n : Name) → Reads old n (λ v. v ≡ f n)) → (n : Name) → Reads new n (λ v. v ≡ pairs_alone f n)
+
+-- the log with both folders flushed
+abbrev pub flushed_log : Log → Log
+flushed_log log = and_then (and_then log (Flush kind.Block)) (Flush kind.Index)
+
+-- Until both folders were flushed each crash leaves an image that the shelf had at first, and from
+-- then on the pairs that are read; a crash now leaves what has Q. No event happened.
+pub record Clears (first : Log) (known : Option Log) (Q : Folder → Type 0) : Type 0 where
+  pub flushed : Ran first (Some (flushed_log first)) [] (Leaves first) (Is (reads first))
+  pub cleared : Ran (flushed_log first) known [] (SamePairs (reads first)) Q
+
+-- an opening that failed: before both folders were flushed, or after
+abbrev pub FailsToEnter : Log → Option Log → Type 0
+FailsToEnter first known = Ran first known [] (Leaves first) (Leaves first) ⊎ Clears first known (SamePairs (reads first))
+
+-- an opening found the pairs of these stamps and this greatest stamp, and cleared the folders
+pub record Opens (first : Log) (known : Option Log) (stamps : List ℕ) (last : ℕ) : Type 0 where
+  pub paired : ArePaired (λ n. IsSome (reads first n)) stamps
+  pub greatest : IsLastStamp (λ n. IsSome (reads first n)) last
+  pub images : Clears first known (Is (pairs_alone (reads first)))
+
+-- the state of a spool that was opened just now
+abbrev pub opened : ℕ → List ℕ → ℕ → SpoolState
+opened limit stamps last = record {
+  limit = limit;
+  stamps = stamps;
+  removed = 0;
+  swept = 0;
+  last = last;
+  holds = [];
+  doubt = doubt.Nothing;
+  halted = None;
+  halts = 0;
+  asks = 0;
+  asked = record { from = 0; to = length stamps };
+}
+
+-- An opening: the spool stands for the pairs that were read, and every crash leaves just these, and
+-- no draft, parked index or half of a pair.
+pub record Enters (IsWhole : List ℕ → List ℕ → Type 0) (first : Log) (known : Option Log) (st : SpoolState) : Type 0 where
+  pub pairs : List Entry
+  pub found : PairsIn (reads first) pairs
+  pub stands : (f : Files) → StandsFor IsWhole known st (events first) (Found pairs ∷ []) f
+  pub last : IsLastStamp (λ n. IsSome (reads first n)) st.last
+  pub images : Clears first known (Is (pairs_alone (reads first)))

@@ -1,0 +1,52 @@
+-- What holds are, and what the calls on them ensure.
+use Rattle.std.specs.Prelude.{◌≡◌, ◌<◌, ◌≤◌, ◌-◌, ◌∷◌, [], ◌++◌, ℕ, List, Option, None, slice_index, Bool, true, false, length, nat_eq, nat_lt, ◌||◌}
+use Rattle.std.specs.List.{remove, slice_index_or}
+use Rattle.st_disk.specs.declared.naming.Name.{Name}
+use Rattle.st_disk.specs.declared.naming.Name.TheVariants.{Block, Index, Parked}
+use Rattle.st_disk.specs.Disks.{Log}
+use Rattle.st_disk.specs.LoggedCalls.{Reads}
+use Rattle.st_base.specs.Faults.{Rose, next_count}
+use Rattle.st_spool.specs.States.{SpoolState, covers}
+use Rattle.st_spool.specs.declared.state.Span.{Span}
+use Rattle.st_spool.specs.declared.state.Doubt.{Doubt}
+use Rattle.st_spool.specs.declared.state.Doubt.TheVariants.{Nothing, Unsettled, Settled, Unhidden, Hidden}
+
+-- how many pairs a hold has
+abbrev pub size_of : Span → ℕ
+size_of hold = hold.to - hold.from
+
+-- the hold of all pairs that are published
+abbrev pub whole_set : SpoolState → Span
+whole_set st = record { from = st.removed; to = length st.stamps }
+
+-- the state with a further hold, which is the one that was asked for last
+abbrev pub with_hold : SpoolState → SpoolState
+with_hold st = record st { holds = st.holds ++ whole_set st ∷ []; asks = next_count st.asks; asked = whole_set st }
+
+-- the second list is the first without one hold
+abbrev pub IsWithout : Span → List Span → List Span → Type 0
+IsWithout hold old new = (k : ℕ) × (k < length old) × (slice_index_or old k hold ≡ hold) × (new ≡ remove old k)
+
+-- the index of the pair at this place is parked
+abbrev pub is_parked : Doubt → ℕ → ℕ → Bool
+is_parked Nothing removed place = nat_lt place removed
+is_parked (Unsettled t) removed place = nat_lt place removed
+is_parked (Settled t) removed place = nat_lt place removed
+is_parked (Unhidden t) removed place = nat_lt place removed
+is_parked (Hidden t) removed place = nat_lt place removed || nat_eq place removed
+
+-- the name of an index, parked or not
+abbrev pub index_name : Bool → ℕ → Name
+index_name true s = Parked s
+index_name false s = Index s
+
+-- no file of a removed pair is read
+abbrev pub IsGone : Option Log → ℕ → Type 0
+IsGone known s = Reads known (Block s) (λ v. v ≡ None) × Reads known (Parked s) (λ v. v ≡ None)
+
+-- Of the removed pairs from the first place on, those that no hold has were tried: where no fault
+-- was counted no file of them is left. None is left of those before the place that was reached.
+pub record Sweeps (known : Option Log) (stamps : List ℕ) (holds : List Span) (from to removed before now : ℕ) : Type 0 where
+  pub later : from ≤ to
+  pub gone : (n : ℕ) → from ≤ n → n < to → IsGone known (slice_index stamps n)
+  pub tried : (Rose before now → ⊥) → (n : ℕ) → from ≤ n → n < removed → covers holds n ≡ false → IsGone known (slice_index stamps n)

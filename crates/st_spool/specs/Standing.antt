@@ -1,0 +1,92 @@
+-- The history that a spool stands for.
+use Rattle.std.specs.Prelude.{◌≡◌, ◌<◌, ◌≤◌, ℕ, List, [], ◌∷◌, ◌++◌, length, drop, map, Option, None, Some, ⊤}
+use Rattle.st_disk.specs.declared.naming.Name.TheVariants.{Index}
+use Rattle.st_disk.specs.Folders.{Folder}
+use Rattle.st_disk.specs.Disks.{Log, reads}
+use Rattle.st_disk.specs.Runs.{Each}
+use Rattle.st_disk.specs.Pairs.{Entry, Files, IsFileSet, PairsIn}
+use Rattle.st_disk.specs.Events.{Event, Found, Publish, Remove, events}
+use Rattle.st_spool.specs.Rows.{Has, Either}
+use Rattle.st_spool.specs.History.{set_of, entries_of, Legal}
+use Rattle.st_spool.specs.Placing.{entry}
+use Rattle.st_spool.specs.States.{SpoolState, rows_by, MayBe, AreUpTo, IsWithin, AreWithin}
+use Rattle.st_spool.specs.declared.state.Doubt.{Doubt}
+use Rattle.st_spool.specs.declared.state.Doubt.TheVariants.{Nothing, Unsettled, Settled, Unhidden, Hidden}
+
+abbrev pub stamp_of : Entry → ℕ
+stamp_of e = e.stamp
+
+-- the event in doubt, if any, whose pair has these files
+abbrev pub in_doubt : Doubt → Files → List Event
+in_doubt Nothing f = []
+in_doubt (Unsettled t) f = Publish (entry t f) ∷ []
+in_doubt (Settled t) f = Publish (entry t f) ∷ []
+in_doubt (Unhidden t) f = Remove t ∷ []
+in_doubt (Hidden t) f = Remove t ∷ []
+
+-- the event in doubt, if the failed call settled its block or hid its index
+abbrev pub begun : Doubt → Files → List Event
+begun Nothing f = []
+begun (Unsettled t) f = []
+begun (Settled t) f = Publish (entry t f) ∷ []
+begun (Unhidden t) f = []
+begun (Hidden t) f = Remove t ∷ []
+
+-- the events of a history after its first, which found pairs
+abbrev pub after_found : List Event → List Event
+after_found [] = []
+after_found (e ∷ h) = h
+
+-- each pair that is published is whole
+abbrev pub PublishWhole : (List ℕ → List ℕ → Type 0) → List Event → Type 0
+PublishWhole IsWhole [] = ⊤
+PublishWhole IsWhole (Found es ∷ h) = PublishWhole IsWhole h
+PublishWhole IsWhole (Publish e ∷ h) = IsWhole e.block e.index × PublishWhole IsWhole h
+PublishWhole IsWhole (Remove s ∷ h) = PublishWhole IsWhole h
+
+-- the index of a removal in doubt, if it was hidden, is not read
+abbrev pub IsHidden : Doubt → Folder → Type 0
+IsHidden Nothing f = ⊤
+IsHidden (Unsettled t) f = ⊤
+IsHidden (Settled t) f = ⊤
+IsHidden (Unhidden t) f = ⊤
+IsHidden (Hidden t) f = f (Index t) ≡ None
+
+-- a folder has the pairs of a history, or of the history with a further event, if there is one
+abbrev pub Gives : List Event → List Event → Folder → Type 0
+Gives h [] c = PairsIn c (set_of h)
+Gives h (e ∷ es) c = Either (set_of h) (set_of (h ++ e ∷ [])) c
+
+-- nothing is in doubt but after a call that failed
+abbrev pub IsCalm : Option ℕ → Doubt → ℕ → Type 0
+IsCalm None doubt halts = (doubt ≡ Nothing) × (halts ≡ 0)
+IsCalm (Some since) doubt halts = 0 < halts
+
+-- what is so of the shelf, where its log is known
+pub record OnDisk (IsWhole : List ℕ → List ℕ → Type 0) (log : Log) (st : SpoolState) (earlier h : List Event) (f : Files) : Type 0 where
+  -- under the names of each stamp each image has what the state allows
+  pub images : Each log (Has (rows_by st f (entries_of h)))
+  -- the shelf's events are those before the opening, those of the history since, and the one in
+  -- doubt just if the failed call settled its block or hid its index
+  pub past : events log ≡ earlier ++ (after_found h ++ begun st.doubt f)
+  pub whole : PublishWhole IsWhole (h ++ in_doubt st.doubt f)
+  pub hidden : IsHidden st.doubt (reads log)
+
+-- A spool with this state, over a shelf of this log, whose events before the opening are given,
+-- stands for the history h; these are the files of the pair in doubt.
+pub record StandsFor (IsWhole : List ℕ → List ℕ → Type 0) (known : Option Log) (st : SpoolState) (earlier h : List Event) (f : Files) : Type 0 where
+  pub legal : Legal st.limit h
+  -- what is kept of the history
+  pub stamps : map stamp_of (entries_of h) ≡ st.stamps
+  pub set : set_of h ≡ drop st.removed (entries_of h)
+  pub within : st.removed ≤ length (entries_of h)
+  pub rises : IsFileSet (entries_of h)
+  pub last : AreUpTo st.last (entries_of h)
+  -- the held sets, and the one that was asked for last
+  pub holds : AreWithin (length (entries_of h)) st.holds
+  pub asked : IsWithin (length (entries_of h)) st.asked
+  -- the event in doubt
+  pub calm : IsCalm st.halted st.doubt st.halts
+  pub doubt : MayBe st.doubt f st.removed st.last (entries_of h)
+  -- the shelf
+  pub disk : (log : Log) → known ≡ Some log → OnDisk IsWhole log st earlier h f
