@@ -1,5 +1,6 @@
 -- Picks in the answer's order, as far as the limits go.
-use Rattle.std.specs.Prelude.{◌≡◌, ℕ, ◌+◌, ◌-◌, ◌^◌, min, List, length, take, map, sum_by}
+use Rattle.std.specs.Prelude.{◌≡◌, ℕ, ◌+◌, ◌-◌, ◌^◌, min, Bool, List, length, take, map, sum_by}
+use Rattle.std.specs.Ordering.{is_lt}
 use Rattle.std.specs.List.Sorted.{IsPermutation, IsSorted}
 use Rattle.st_base.specs.Records.{Rec}
 use Rattle.st_base.specs.declared.limits.Limits.{Limits}
@@ -16,6 +17,10 @@ HaveLengths ps rs = map (λ (p : Picked). p.len) ps ≡ map (λ (r : Rec). lengt
 -- so many of these picks are the longest prefix within the limits
 abbrev pub AreWithin : Limits → List Picked → ℕ → Type 0
 AreWithin limits ps count = (rs : List Rec) → HaveLengths ps rs → Limited limits rs (take count rs)
+
+-- a pick comes before another: by second, nanosecond, stamp and position
+unfoldable pub comes_before : Picked → Picked → Bool
+comes_before p q = is_lt (derived.ghosts.cmp p q)
 
 -- in order: by second, nanosecond, stamp and position
 abbrev pub AreInOrder : List Picked → Type 0

@@ -1,5 +1,6 @@
-ghost use Rattle.std.specs.Prelude.{◌≡◌, ◌≤◌, length};
-ghost use Rattle.st_answer.specs.Order.{AreWithin, AreInOrder, IsOrdered, TellsPicks};
+ghost use Rattle.std.specs.Prelude.{◌≡◌, ◌≤◌, length, IsTrue};
+ghost use Rattle.std.specs.List.Sorted.{IsPermutation, IsSortedBy};
+ghost use Rattle.st_answer.specs.Order.{comes_before, AreWithin, AreInOrder, IsOrdered, TellsPicks};
 
 use crate::errors::Told;
 use crate::picked::Picked;
@@ -26,12 +27,44 @@ fn within(picked: &[Picked], limits: Limits) -> usize
     count
 }
 
+/// Whether the one pick comes before the other in an answer.
+#[tactic(auto, unfolding(crate::specs::Order::comes_before))]
+fn comes_before(one: &Picked, other: &Picked) -> bool
+    ensures { result ≡ comes_before one.now other.now }
+{
+    one.cmp(other).is_lt()
+}
+
+/// Whether no pick comes before the one that it follows.
+fn is_sorted(picked: &[Picked]) -> bool
+    ensures { IsTrue result → IsSortedBy comes_before picked.now }
+{
+    'picks: for next in 1..picked.len() {
+        if comes_before(&picked[next], &picked[next - 1]) {
+            return false;
+        }
+    }
+    true
+}
+
+/// Sorts the picks into the answer's order, unless they are in it.
+#[tactic(auto, unfolding(crate::specs::Order::comes_before))]
+fn sort(picked: &mut Vec<Picked>)
+    ensures same { IsPermutation picked.old.items picked.new.items }
+    ensures order { AreInOrder picked.new.items }
+{
+    if is_sorted(picked.as_slice()) {
+        return;
+    }
+    picked.sort_unstable();
+}
+
 /// The picks in the answer's order, as far as the limits go. It takes no memory.
 pub fn in_order(picked: Vec<Picked>, limits: Limits) -> Vec<Picked>
     ensures { IsOrdered limits picked.items result.items }
 {
     let mut picked = picked;
-    picked.sort_unstable();
+    sort(&mut picked);
     let count = within(picked.as_slice(), limits);
     picked.truncate(count);
     picked

@@ -4,9 +4,9 @@ use Rattle.st_answer.proofs.order.in_order.Goals as goal
 
 pub returns : goal.returns
 returns c = record {
-  sorted = c.sort_unstable.new.self.items;
-  same = c.sort_unstable.ensures.permutation;
-  order = c.sort_unstable.ensures.sorted;
+  sorted = c.sort.new.picked.items;
+  same = c.sort.ensures.same;
+  order = c.sort.ensures.order;
   count = c.within-count.result;
   cut = c.truncate.ensures.items;
   limited = subst (λ z. AreWithin c.args.limits z c.within-count.result) c.as_slice.ensures.value c.within-count.ensures;
