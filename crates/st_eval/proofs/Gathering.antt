@@ -18,7 +18,7 @@ use Rattle.st_rows.specs.Positions.{has, positions_in}
 use Rattle.st_rows.specs.Laws.{found_row}
 use Rattle.st_rows.proofs.Lookups.{lookup_range}
 use Rattle.st_eval.specs.declared.errors.EvalErr.{EvalErr}
-use Rattle.st_eval.specs.Refusals.{NoDamage, Repeats, RefusesEval, Answers, damage_in, value_wrong}
+use Rattle.st_eval.specs.Refusals.{NoDamage, Repeats, RefusesEval, IsAfterSummary, Answers, damage_in, value_wrong}
 use Rattle.st_eval.specs.Selection.{IsEntered, IsOver}
 use Rattle.st_walk.specs.declared.text.Key.{Key}
 use Rattle.st_walk.specs.KeyText.{key_text}
@@ -56,9 +56,9 @@ refuses_named bytes index key t e r h = ⊎_elim (λ n. inl (no_damage t e r n))
 abbrev pub RefusesValue : List ℕ → EvalErr → Type 0
 RefusesValue value e = NoDamage e ⊎ (damage_in e ≡ value_wrong value)
 
-pub refuses_value : {T : Type 0} (bytes : List ℕ) (index : List RowView) (key value : List ℕ) (result : Result T EvalErr) → Answers bytes index key (Some value) → IfErr result (RefusesValue value) → IfErr result (RefusesEval bytes index)
-refuses_value bytes index key value (Ok x) a h = h
-refuses_value bytes index key value (Err e) a h = ⊎_elim (λ n. inl n) (λ w. inr (inr (key, value, a, w))) h
+pub refuses_value : {T : Type 0} (bytes : List ℕ) (index : List RowView) (key value : List ℕ) (result : Result T EvalErr) → IsAfterSummary key → Answers bytes index key (Some value) → IfErr result (RefusesValue value) → IfErr result (RefusesEval bytes index)
+refuses_value bytes index key value (Ok x) after a h = h
+refuses_value bytes index key value (Err e) after a h = ⊎_elim (λ n. inl n) (λ w. inr (inr (key, value, after, a, w))) h
 
 -- ---- a table that was entered
 
@@ -106,8 +106,8 @@ appends_none key rows old rise e p =
     sym (or_false (has old p)) ∙ ap (λ (rs : List RowView). has old p || list_any (row_has p) rs) (sym none)
 
 -- a row of the table whose value is refused
-pub refuses_row : (bytes : List ℕ) (index : List RowView) (key value read : List ℕ) (e : EvalErr) → read ≡ value → Answers bytes index key (Some value) → RefusesValue read e → RefusesEval bytes index e
-refuses_row bytes index key value read e same a h = ⊎_elim (λ n. inl n) (λ w. inr (inr (key, value, a, w ∙ ap value_wrong same))) h
+pub refuses_row : (bytes : List ℕ) (index : List RowView) (key value read : List ℕ) (e : EvalErr) → read ≡ value → IsAfterSummary key → Answers bytes index key (Some value) → RefusesValue read e → RefusesEval bytes index e
+refuses_row bytes index key value read e same after a h = ⊎_elim (λ n. inl n) (λ w. inr (inr (key, value, after, a, w ∙ ap value_wrong same))) h
 
 -- ---- keys
 

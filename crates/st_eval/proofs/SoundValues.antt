@@ -22,7 +22,7 @@ use Rattle.st_eval.proofs.Joining.{no_summary}
 use Rattle.st_eval.proofs.Risings.{rises_to}
 
 -- what holds of each row that lies in a range, holds of all rows of the range
-all_in_range : (P : RowView → Type 0) (low high : List ℕ) (rows : List RowView) → ((row : RowView) → Contains rows row → IsTrue (lies_text low high row.0) → P row) → All P (in_range low high rows)
+pub all_in_range : (P : RowView → Type 0) (low high : List ℕ) (rows : List RowView) → ((row : RowView) → Contains rows row → IsTrue (lies_text low high row.0) → P row) → All P (in_range low high rows)
 all_in_range P low high [] h = λ k d less. let no : ⊥ = omega arith in absurd no
 all_in_range P low high (x ∷ rows) h =
     let rest = all_in_range P low high rows (λ row c l. h row (there x row rows c) l) in

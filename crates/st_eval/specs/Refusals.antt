@@ -1,10 +1,10 @@
 -- What an error of an evaluation says of the index, and which checks it is about: docs/FORMAT.md,
 -- "Checks".
-use Rattle.std.specs.Prelude.{◌≡◌, ℕ, ◌%◌, ◌⊎◌, List, [], ◌∷◌, length, Bool, true, ◌&&◌, nat_eq, nat_lt, if◌then◌else◌, Option, Some, None}
+use Rattle.std.specs.Prelude.{◌≡◌, ℕ, ◌%◌, ◌⊎◌, List, [], ◌∷◌, length, Bool, true, ◌&&◌, nat_eq, nat_lt, if◌then◌else◌, Option, Some, None, IsTrue}
 use Rattle.std.specs.Option.{option_or}
 use Rattle.byteorder.specs.Endian.{big_number}
 use Rattle.st_base.specs.Damages.{DamageView, damage_view, unmet}
-use Rattle.st_tblock.specs.Block.{RowView}
+use Rattle.st_tblock.specs.Block.{RowView, is_before}
 use Rattle.st_tblock.specs.declared.format.TheConstants.{PLAIN, SNAPPY}
 use Rattle.st_table.specs.Cursor.{RefusesNext}
 use Rattle.st_table.specs.IndexLookup.{entry_for, Named}
@@ -84,13 +84,18 @@ RefusesData bytes index t =
     ((key : List ℕ) × RefusesNamed (footer_at bytes) bytes (entry_for key None index) t)
     ⊎ ((next : ℕ) × RefusesNext (footer_at bytes) bytes index next t)
 
--- an error of an evaluation: it is no damage, or that of a data block, or that of a row's value
+-- a key is after that of the summary row, as the texts of all keys are
+abbrev pub IsAfterSummary : List ℕ → Type 0
+IsAfterSummary key = IsTrue (is_before summary_key key)
+
+-- an error of an evaluation: it is no damage, or that of a data block, or that of the value of a
+-- row, which isn't the summary row
 abbrev pub RefusesEval : List ℕ → List RowView → EvalErr → Type 0
 RefusesEval bytes index e =
     NoDamage e
     ⊎ (((t : TableErr) × Repeats t e × RefusesData bytes index t)
-    ⊎ ((key : List ℕ) × (value : List ℕ) × Answers bytes index key (Some value)
-    × (damage_in e ≡ value_wrong value)))
+    ⊎ ((key : List ℕ) × (value : List ℕ) × IsAfterSummary key
+    × Answers bytes index key (Some value) × (damage_in e ≡ value_wrong value)))
 
 -- an error of a summary: it is no damage, or that of the data block that the index names for the
 -- summary row, or that of the row

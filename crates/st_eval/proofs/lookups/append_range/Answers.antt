@@ -7,6 +7,7 @@ use Rattle.st_rows.specs.Positions.{positions_in}
 use Rattle.st_eval.specs.Refusals.{Answers, value_wrong}
 use Rattle.st_eval.proofs.Gathering.{entered, no_damage, refuses_row}
 use Rattle.st_eval.proofs.Reading.{collects_more, collects_all, next_sound, holds_unread, step_says, step_named, step_refused}
+use Rattle.st_eval.proofs.AfterSummary.{after_low, from_unread, step_from}
 use Rattle.st_eval.proofs.lookups.append_range.Goals as goal
 
 pub rows-init : goal.rows-init
@@ -23,6 +24,7 @@ rows-init g c = (
     sound = λ s. s;
   },
   λ bytes index is. holds_unread _ bytes index _ _ _ c.in-Ok.cursor c.in-Ok.ensures.unread,
+  λ bytes index is. from_unread _ _ _ c.in-Ok.cursor c.in-Ok.ensures.unread,
 )
 
 pub rows-preserved : goal.rows-preserved
@@ -47,6 +49,8 @@ rows-preserved g c =
           added (before.5 bytes index rows is table),
       λ bytes index is.
           (step_named _ _ _ _ _ c.rows.cursor c.step.new.cursor bytes index (Ok c.in-Ok-Some.field-0) same.content (ap (λ v. v.items) before.0) step.sound is (before.6 bytes index is)).0,
+      λ bytes index is.
+          (step_from _ _ _ _ _ c.rows.cursor c.step.new.cursor bytes index c.args.low.now c.in-Ok-Some.field-0 row same.content (ap (λ v. v.items) before.0) step.steps is is_row (before.7 bytes index is)).1,
     )
 
 pub returns-in-Ok-None-clause-appends : goal.returns-in-Ok-None-clause-appends
@@ -94,4 +98,5 @@ returns-in-Err-append_positions-clause-refuses g c bytes index is =
     let value : c.bytes.result.now ≡ row.1 = c.bytes.ensures ∙ ap (λ (r : RowView). r.1) c.row.view_is in
     let named = (step_named _ _ _ _ _ c.rows.cursor c.step.new.cursor bytes index (Ok c.in-Ok-Some.field-0) before.4.content (ap (λ v. v.items) before.0) c.in-Ok-Some.ensures.sound is (before.6 bytes index is)).1 in
     let given : Answers bytes index row.0 (Some row.1) = subst (λ (o : Option RowView). GivesNamed (footer_at bytes) bytes index (Ok o)) is_row named in
-    refuses_row bytes index row.0 row.1 c.bytes.result.now c.in-Err-append_positions.error value given c.in-Err-append_positions.ensures.refuses
+    let from = (step_from _ _ _ _ _ c.rows.cursor c.step.new.cursor bytes index c.args.low.now c.in-Ok-Some.field-0 row before.4.content (ap (λ v. v.items) before.0) c.in-Ok-Some.ensures.steps is is_row (before.7 bytes index is)).0 in
+    refuses_row bytes index row.0 row.1 c.bytes.result.now c.in-Err-append_positions.error value (after_low c.args.low.now row.0 c.requires from) given c.in-Err-append_positions.ensures.refuses
