@@ -1,5 +1,5 @@
 -- What an error of an evaluation says of the index, and which checks it is about: docs/FORMAT.md,
--- "Checks".
+-- "Checks of a table" and "What a reader of rows checks".
 use Rattle.std.specs.Prelude.{◌≡◌, ℕ, ◌%◌, ◌⊎◌, List, [], ◌∷◌, length, Bool, true, ◌&&◌, nat_eq, nat_lt, if◌then◌else◌, Option, Some, None, IsTrue}
 use Rattle.std.specs.Option.{option_or}
 use Rattle.byteorder.specs.Endian.{big_number}
