@@ -28,7 +28,8 @@
 //! # Where to read
 //!
 //! `specs/Positions.antt`, `specs/KeyOrder.antt`, `specs/Rows.antt`, and `specs/Whole.antt` for a
-//! whole pair. `specs/Laws.antt` has the laws, `format` the numbers.
+//! whole pair. `specs/Values.antt` says what is wrong with a row's value. `specs/Laws.antt` has the
+//! laws, `format` the numbers.
 #![tactic(auto)]
 
 mod format;

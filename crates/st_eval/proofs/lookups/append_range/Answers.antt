@@ -4,7 +4,8 @@ use Rattle.st_table.specs.Cursor.{StepsRow, GivesNamed}
 use Rattle.st_table.specs.RowOrder.{in_range}
 use Rattle.st_table.specs.TableFile.{footer_at}
 use Rattle.st_rows.specs.Positions.{positions_in}
-use Rattle.st_eval.specs.Refusals.{Answers, value_wrong}
+use Rattle.st_rows.specs.Values.{positions_wrong}
+use Rattle.st_eval.specs.Refusals.{Answers}
 use Rattle.st_eval.proofs.Gathering.{entered, no_damage, refuses_row}
 use Rattle.st_eval.proofs.Reading.{collects_more, collects_all, next_sound, holds_unread, step_says, step_named, step_refused}
 use Rattle.st_eval.proofs.AfterSummary.{after_low, from_unread, step_from}
@@ -83,12 +84,12 @@ returns-in-Err-append_positions-clause-appends g c rows over sound =
     let is = over.is in
     let is_row : c.in-Ok-Some.field-0 ≡ Some row = cc in
     let value : c.bytes.result.now ≡ row.1 = c.bytes.ensures ∙ ap (λ (r : RowView). r.1) c.row.view_is in
-    let good : value_wrong row.1 ≡ None =
+    let good : positions_wrong row.1 ≡ None =
     next_sound over.bytes over.index c.rows.cursor c.step.new.cursor c.args.all.now.items c.rows.all.items row (in_range c.args.low.now c.args.high.now rows)
     (λ more coming. subst (λ (o : Option RowView). StepsRow (footer_at over.bytes) over.bytes over.index more c.step.new.cursor (Ok o)) is_row
     (step_says _ _ _ _ _ c.rows.cursor c.step.new.cursor over.bytes over.index (Ok c.in-Ok-Some.field-0) before.4.content (ap (λ v. v.items) before.0) step.table is more coming))
     (before.5 over.bytes over.index rows is over.table) sound in
-    ⊎_elim (λ n. n) (λ w. w ∙ (ap value_wrong value ∙ good)) c.in-Err-append_positions.ensures.refuses
+    ⊎_elim (λ n. n) (λ w. w ∙ (ap positions_wrong value ∙ good)) c.in-Err-append_positions.ensures.refuses
 
 pub returns-in-Err-append_positions-clause-refuses : goal.returns-in-Err-append_positions-clause-refuses
 returns-in-Err-append_positions-clause-refuses g c bytes index is =
