@@ -7,6 +7,7 @@ pub mod ValueTexts
 pub mod Gathering
 pub mod Reading
 pub mod SoundValues
+pub mod AfterSummary
 pub mod SummaryRows
 pub mod Evaluating
 pub mod NodeSizes

@@ -8,7 +8,7 @@ use Rattle.std.proofs.lemmas.List.Sorted.{Contains-permutation, IsPermutation-sy
 use Rattle.std.proofs.lemmas.Map.Keys.{IsStrictlyIncreasing-dedup}
 use Rattle.st_rows.specs.Positions.{has, Rising}
 use Rattle.st_rows.proofs.OneList.{has_from, has_to}
-use Rattle.st_eval.specs.Refusals.{rises}
+use Rattle.st_rows.specs.Values.{rises}
 
 -- ---- the test
 

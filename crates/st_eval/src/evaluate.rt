@@ -259,9 +259,9 @@ fn gather_common<R: Reader>(
 ///
 /// `Damaged` comes if a check of a data block that is read fails, as `Table::get` and `Table::step`
 /// have it, a compressed block by its type byte; or if the length of a row's value is no multiple
-/// of 4, or its positions don't rise, and then with place 0. It never comes over the index of
-/// packets. `ReadFault` comes only if the file failed in this call. The table's entries stay.
-/// Source: docs/FORMAT.md, "Index rows".
+/// of 4, or its positions don't rise, and then with place 0; that row is never the summary row.
+/// `Damaged` never comes over the index of packets. `ReadFault` comes only if the file failed in
+/// this call. The table's entries stay. Source: docs/FORMAT.md, "Index rows".
 pub fn eval<R: Reader>(
     alloc: Global,
     query: &Query,

@@ -3,7 +3,7 @@
 ghost use Rattle.std.specs.Prelude.{◌≡◌, ◌&&◌, ◌||◌, ◌<◌, ◌≤◌, ◌↔◌, ℕ, IfOk, IsTrue, length, slice_index};
 ghost use Rattle.std.specs.List.{filter};
 ghost use Rattle.st_rows.specs.Positions.{has, Rising};
-ghost use Rattle.st_eval.specs.Refusals.{rises};
+ghost use Rattle.st_rows.specs.Values.{rises};
 
 use st_base::NoMemory;
 use std::alloc::Global;

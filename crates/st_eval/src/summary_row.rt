@@ -5,7 +5,8 @@ ghost use Rattle.st_base.specs.Faults.{HasCauseOf};
 ghost use Rattle.st_base.specs.PlacedReads.{IsSameFile};
 ghost use Rattle.st_tblock.specs.Block.{RowView};
 ghost use Rattle.st_block.specs.Scan.{PositionedRecord};
-ghost use Rattle.st_eval.specs.Refusals.{RefusesSummary, damage_in, summary_wrong};
+ghost use Rattle.st_rows.specs.Values.{summary_wrong};
+ghost use Rattle.st_eval.specs.Refusals.{RefusesSummary, damage_in};
 ghost use Rattle.st_eval.specs.Selection.{IsEntered, IsOver, IsIndexOf, Summarizes, summary_view};
 ghost use Rattle.st_eval.specs.SummaryRow.{number_at, summary_at};
 

@@ -14,7 +14,7 @@ pub returns-in-Ok-Some-clause-refuses : goal.returns-in-Ok-Some-clause-refuses
 returns-in-Ok-Some-clause-refuses g c bytes index is =
     let named = c.in-Ok-Some.ensures.gets bytes is.known (entered _ _ _ bytes index is) is.marks in
     let value : c.in-Ok-Some.field-0 ≡ Some c.bytes.result.now = cc in
-    refuses_value bytes index c.args.key.now c.bytes.result.now c.append_positions.result
+    refuses_value bytes index c.args.key.now c.bytes.result.now c.append_positions.result c.requires
     (subst (λ (o : Option (List ℕ)). Answers bytes index c.args.key.now o) value named) c.append_positions.ensures.refuses
 
 pub returns-in-Ok-None-clause-appends : goal.returns-in-Ok-None-clause-appends
