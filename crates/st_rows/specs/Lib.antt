@@ -2,3 +2,4 @@ pub mod Positions
 pub mod KeyOrder
 pub mod Rows
 pub mod Whole
+pub mod Laws

@@ -1,0 +1,5 @@
+pub mod Adding
+pub mod Counting
+pub mod WalkSizes
+pub mod Summing
+pub mod Having

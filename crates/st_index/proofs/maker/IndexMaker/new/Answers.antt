@@ -1,0 +1,13 @@
+use Rattle.std.proofs.Common.{◌≡◌, ℕ, ◌<◌, List, [], length, All, sym, subst, ap, arith, refl}
+use Rattle.st_walk.specs.declared.text.Key.{Key}
+use Rattle.st_index.specs.PositionLists.{positions_at, count_in}
+use Rattle.st_index.proofs.Counting.{count_none}
+use Rattle.st_index.proofs.maker.IndexMaker.new.Goals as goal
+
+pub invariant_of-result : goal.invariant_of-result
+invariant_of-result c = record {
+  below = λ k. subst (λ (ps : List ℕ). All (λ p. p < 48) ps) (sym (c.new.ensures k)) (λ i d less. absurd (omega arith));
+  few = λ ks apart. let none = count_none c.new.result ks c.new.ensures in omega (arith, none);
+  counted = omega arith;
+  fits = omega arith;
+}

@@ -1,0 +1,4 @@
+pub mod NumberedLists
+pub mod PositionLists
+pub mod Summaries
+pub mod Maker

@@ -1,0 +1,57 @@
+-- The packets of a block file: their positions rise and fit, and so do their keys.
+use Rattle.std.proofs.Common.{◌≡◌, ℕ, ◌<◌, ◌^◌, List, length, get_or, All, slice_index_or, sym, ap, ◌∙◌, subst, arith, ⊎_elim}
+use Rattle.std.proofs.lemmas.List.{get_or_default, get_or-map, length-map}
+use Rattle.std.proofs.lemmas.List.Elements.{All-contains}
+use Rattle.std.proofs.lemmas.Bool.{cases_order}
+use Rattle.st_base.specs.Records.{Rec, InRange}
+use Rattle.st_walk.specs.declared.text.Key.{Key}
+use Rattle.st_walk.specs.KeyText.{Fits}
+use Rattle.st_walk.proofs.Fitting.{frame_fits}
+use Rattle.st_block.specs.BlockText.{HasBytes}
+use Rattle.st_block.specs.Position.{positions}
+use Rattle.st_block.specs.Scan.{PositionedRecord, positions_in, records_in}
+use Rattle.st_block.proofs.Rising.{positions_rise, positions_fit}
+use Rattle.st_rows.specs.Laws.{FilePackets, OnePacketAt, PacketKeysFit}
+
+-- the position of a packet, by the list of positions
+position_is : (size : ℕ) (given : List PositionedRecord) (i : ℕ) (d : PositionedRecord) → positions size (records_in given) ≡ positions_in given → i < length given → get_or (positions size (records_in given)) i 0 ≡ (get_or given i d).0
+position_is size given i d heads less = ap (λ (ps : List ℕ). get_or ps i 0) heads ∙ get_or-map (λ (x : PositionedRecord). x.0) given i d 0 less
+
+-- what all records have, each packet's has
+of_packet : (P : Rec → Type 0) (given : List PositionedRecord) (i : ℕ) (d : PositionedRecord) → All P (records_in given) → i < length given → P (get_or given i d).1
+of_packet P given i d all less =
+    let count : length (records_in given) ≡ length given = length-map given (λ (x : PositionedRecord). x.1) in
+    subst P (get_or-map (λ (x : PositionedRecord). x.1) given i d d.1 less) (all i d.1 (omega arith))
+
+pub file_packets : FilePackets
+file_packets bytes given f =
+    let count : length (records_in given) ≡ length given = length-map given (λ (x : PositionedRecord). x.1) in (
+      λ i j d less under.
+          let first = position_is f.size given i d f.heads (omega arith) in
+          let second = position_is f.size given j d f.heads under in
+          let rise = positions_rise f.size i j (records_in given) f.file less (omega arith) in
+          omega (arith, first, second, rise),
+      λ i d less.
+          let here = position_is f.size given i d f.heads less in
+          let fit = positions_fit f.size i (records_in given) f.file (omega arith) in
+          let range = of_packet InRange given i d f.file.range less in
+          (omega (arith, here, fit), range.sec, (let n = range.nsec in omega (arith, n)), of_packet HasBytes given i d f.file.of_bytes less),
+    )
+
+pub one_packet_at : OnePacketAt
+one_packet_at given p r q rise (i, less, e) (j, under, f) =
+    let first : (slice_index_or given i (p, r)).0 ≡ p = ap (λ (x : PositionedRecord). x.0) e in
+    let other : slice_index_or given j (p, r) ≡ (p, q) = get_or_default given j (p, r) (p, q) under ∙ f in
+    let second : (slice_index_or given j (p, r)).0 ≡ p = ap (λ (x : PositionedRecord). x.0) other in
+    ⊎_elim
+    (λ same. ap (λ (x : PositionedRecord). x.1) (sym e ∙ (ap (λ k. slice_index_or given k (p, r)) same ∙ other)))
+    (λ apart. ⊎_elim
+    (λ up. let rises = rise i j (p, r) up under in let no : ⊥ = omega arith in absurd no)
+    (λ down. let rises = rise j i (p, r) down less in let no : ⊥ = omega arith in absurd no)
+    apart)
+    (cases_order i j)
+
+pub packet_keys_fit : PacketKeysFit
+packet_keys_fit given k p fit (r, c, h) =
+    let (place, sec, nsec, bytes) = All-contains (λ (x : PositionedRecord). (x.0 < 2 ^ 32) × (x.1.sec < 2 ^ 32) × (x.1.nsec < 2 ^ 32) × HasBytes x.1) given (p, r) fit c in
+    ⊎_elim (λ e. subst (λ (j : Key). Fits j) (sym e) sec) (λ f. frame_fits r.body k bytes f) h
