@@ -1,0 +1,73 @@
+-- What a lane represents, and what its calls make of it.
+use Rattle.std.specs.Prelude.{◌≡◌, ◌≢◌, ℕ, ◌+◌, ◌<◌, ◌≤◌, ◌⊎◌, ◌↔◌, Bool, true, false, List, [], ◌∷◌, ◌++◌, length, Option, Some, Result, Ok, Err, IsSome}
+use Rattle.st_base.specs.Records.{Rec}
+use Rattle.st_base.specs.Faults.{Rose}
+use Rattle.st_block.specs.BlockText.{IsShort, BlockText, blocks, blocks_text}
+use Rattle.st_block.specs.Scan.{PositionedRecord, records_in}
+use Rattle.st_rows.specs.Whole.{IsWhole}
+use Rattle.st_lane.specs.Filling.{FillingView, but_last, Fills, IsFull}
+use Rattle.st_lane.specs.declared.errors.Pushed.{Pushed}
+use Rattle.st_lane.specs.declared.errors.Pushed.TheVariants.{Kept, Ready}
+use Rattle.st_lane.specs.declared.errors.LaneErr.{LaneErr}
+use Rattle.st_lane.specs.declared.errors.LaneErr.TheVariants as lane_err
+
+-- what contracts see of a lane: its two drafts, what it keeps of its records, and whether a write
+-- failed
+pub record LaneView (T : Type 0) : Type 0 where
+  pub block : T
+  pub index : T
+  pub filling : FillingView
+  pub broken : Bool
+
+-- these are the bytes of the file of these records without its last block
+abbrev pub IsTextButLast : ℕ → List Rec → Option (List ℕ) → Type 0
+IsTextButLast size rs written = written ≡ Some (blocks_text size 0 (but_last (blocks size rs)))
+
+-- A lane that isn't broken represents these records, in this order and no others: the block draft
+-- has all blocks of their file but the one at hand, and the index draft has nothing yet.
+pub record Represents {T : Type 0} (written : T → Option (List ℕ)) (l : LaneView T)
+    (rs : List Rec) : Type 0 where
+  pub whole : l.broken ≡ false
+  pub fills : Fills l.filling rs
+  pub block : IsTextButLast l.filling.size rs (written l.block)
+  pub index : written l.index ≡ Some []
+
+-- a push of a lane of these records: the record follows them, or they stay; of a lane that a fault
+-- broke nothing is said
+abbrev pub Pushes : {T : Type 0} → (T → Option (List ℕ)) → LaneView T → LaneView T → List Rec → Rec
+    → Result Pushed LaneErr → Type 0
+Pushes written old new rs r (Ok Kept) = Represents written new (rs ++ r ∷ [])
+Pushes written old new rs r (Ok Ready) = new ≡ old
+Pushes written old new rs r (Err (lane_err.DiskFault lost)) = Unit {0}
+Pushes written old new rs r (Err (lane_err.TooLong len)) = new ≡ old
+Pushes written old new rs r (Err lane_err.NoMemory) = Represents written new rs
+
+-- how many records there are after a push: one more where it was kept
+abbrev pub pushed_count : ℕ → Result Pushed LaneErr → ℕ
+pushed_count n (Ok Kept) = n + 1
+pushed_count n (Ok Ready) = n
+pushed_count n (Err e) = n
+
+-- a body that is too long for a block, and no other, is refused by its length
+pub record RefusesLong (size : ℕ) (r : Rec) (result : Result Pushed LaneErr) : Type 0 where
+  pub long : (IsShort size r → ⊥) → result ≡ Err (lane_err.TooLong (length r.body))
+  pub only : (len : ℕ) → result ≡ Err (lane_err.TooLong len)
+      → (IsShort size r → ⊥) × (len ≡ length r.body)
+
+-- a fault breaks the lane and says how many records are lost; nothing else breaks it
+abbrev pub Breaks : {T : Type 0} → LaneView T → LaneView T → Result Pushed LaneErr → Type 0
+Breaks old new (Ok p) = new.broken ≡ false
+Breaks old new (Err (lane_err.DiskFault lost)) =
+    (new.broken ≡ true) × (lost ≡ old.filling.records)
+Breaks old new (Err (lane_err.TooLong len)) = new.broken ≡ false
+Breaks old new (Err lane_err.NoMemory) = (new.broken ≡ false) × (new.block ≡ old.block)
+
+-- the files are the block file of these records, in blocks of this size, and its index: a whole
+-- pair
+pub record AreWhole (size : ℕ) (rs : List Rec) (block index : Option (List ℕ)) : Type 0 where
+  pub text : block ≡ Some (BlockText size rs)
+  pub table : List ℕ
+  pub indexed : index ≡ Some table
+  pub given : List PositionedRecord
+  pub records : records_in given ≡ rs
+  pub whole : IsWhole (BlockText size rs) table given

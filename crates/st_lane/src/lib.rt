@@ -1,0 +1,9 @@
+//! Lanes: one pair of a block file and its index that is being filled, record by record.
+#![tactic(auto)]
+
+mod errors;
+mod filling;
+mod lane;
+
+pub use errors::{LaneErr, LaneRefused, Pushed, SealErr};
+pub use lane::Lane;
