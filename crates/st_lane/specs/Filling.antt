@@ -1,13 +1,19 @@
 -- What a lane keeps of its records: the block at hand, and the index of all of them.
-use Rattle.std.specs.Prelude.{◌≡◌, ℕ, ◌+◌, ◌*◌, ◌<◌, ◌≤◌, List, [], ◌∷◌, ◌++◌, length, All, IsSome}
+use Rattle.std.specs.Prelude.{◌≡◌, ℕ, ◌+◌, ◌*◌, ◌<◌, ◌≤◌, List, [], ◌∷◌, ◌++◌, length, All, Option, Result, Ok, Err, MatchResult, IsSome}
+use Rattle.std.specs.Io.KnownBytes.{Appends}
 use Rattle.st_base.specs.Records.{Rec, InRange}
-use Rattle.st_block.specs.BlockText.{IsBlockSize, IsShort, room, blocks}
+use Rattle.st_base.specs.Faults.{Rose}
+use Rattle.st_block.specs.BlockText.{IsBlockSize, IsShort, room, block_text, blocks}
 use Rattle.st_block.specs.Position.{positions}
 use Rattle.st_block.specs.Builder.{BlockBuilderView, HoldsRecords}
 use Rattle.st_block.specs.Scan.{PositionedRecord, positions_in, records_in}
 use Rattle.st_block.specs.declared.format.TheConstants.{MAX_BLOCKS, BLOCK_HEAD}
 use Rattle.st_index.specs.Maker.{HasRecords}
 use Rattle.st_index.specs.declared.maker.IndexMaker.{IndexMaker}
+use Rattle.st_lane.specs.declared.errors.LaneErr.{LaneErr}
+use Rattle.st_lane.specs.declared.errors.LaneErr.TheVariants as lane_err
+use Rattle.st_lane.specs.declared.filling.Place.{Place}
+use Rattle.st_lane.specs.declared.filling.Place.TheVariants as place
 
 -- the block size, how many blocks the file may have, how many were written; the block at hand; the
 -- index of all records; and how many records there are
@@ -64,3 +70,37 @@ pub record IsFull (f : FillingView) (r : Rec) : Type 0 where
   pub others : 1 ≤ f.records
   pub room : f.size < f.here.used + room r
   pub last : f.done + 1 ≡ f.most
+
+-- where a record has its place: in the block at hand, if it fits there; else in the next block, or,
+-- if none is allowed, nowhere; one that is too long fits no block
+abbrev pub IsPlace : FillingView → Rec → Place → Type 0
+IsPlace f r place.Here = IsShort f.size r × (f.here.used + room r ≤ f.size)
+IsPlace f r place.Next =
+    IsShort f.size r × (f.size < f.here.used + room r) × (1 ≤ f.records) × (f.done + 1 < f.most)
+IsPlace f r place.Nowhere = IsFull f r
+IsPlace f r place.TooLong = IsShort f.size r → ⊥
+
+-- one record more, or after an error the same ones
+abbrev pub Adds : {T E : Type 0} → FillingView → FillingView → Rec → Result T E → Type 0
+Adds old new r result =
+    (rs : List Rec) → Fills old rs
+    → MatchResult result (λ _. Fills new (rs ++ r ∷ [])) (λ _. Fills new rs)
+
+-- the record begins the next block, after the block at hand was put to a sink; without memory
+-- nothing was put, and of a fault only the sink's bytes are said
+abbrev pub Begins : Option (List ℕ) → Option (List ℕ) → FillingView → FillingView → Rec → List Rec
+    → Result (Unit {0}) LaneErr → Type 0
+Begins before now old new r rs (Ok u) =
+    Fills new (rs ++ r ∷ [])
+    × Appends before now (block_text old.size old.done (last_block (blocks old.size rs)))
+Begins before now old new r rs (Err (lane_err.DiskFault lost)) = Unit {0}
+Begins before now old new r rs (Err (lane_err.TooLong len)) = ⊥
+Begins before now old new r rs (Err lane_err.NoMemory) = Fills new rs
+
+-- why the next block didn't begin: a fault of the sink, after which the records that there were are
+-- lost; or no memory, and then the sink is as it was
+abbrev pub FailsToBegin : {S : Type 0} → ℕ → ℕ → FillingView → S → S → LaneErr → Type 0
+FailsToBegin before now old sink_before sink_now (lane_err.DiskFault lost) =
+    Rose before now × (before ≤ now) × (lost ≡ old.records)
+FailsToBegin before now old sink_before sink_now (lane_err.TooLong len) = ⊥
+FailsToBegin before now old sink_before sink_now lane_err.NoMemory = sink_now ≡ sink_before
