@@ -177,7 +177,7 @@ pub begun_steady : (old new : FillingView) (r : Rec) → IsSteady old → IsShor
     → IsSteady new
 begun_steady old new r s short some next size most done whole used count end summary more few =
     let fits = fits_empty old.size r s.size short in
-    let step : old.size * (old.done + 1) ≡ old.size * old.done + old.size = simp mul-add in
+    let step : old.size * (old.done + 1) ≡ old.size * old.done + old.size = (let e : old.size * (old.done + 1) ≡ old.size * old.done + old.size * 1 = mul-add old.size old.done 1 in omega arith) in
     let now : new.size * new.done ≡ old.size * old.done + old.size = ap (λ n. n * new.done) size ∙ (ap (λ n. old.size * n) done ∙ step) in
     let was = s.few in
     let held = s.used in

@@ -2,16 +2,15 @@
 use Rattle.std.specs.Prelude.{◌≡◌, ℕ, ◌+◌, ◌*◌, ◌<◌, ◌≤◌, List, [], ◌∷◌, ◌++◌, length, All, Option, Result, Ok, Err, MatchResult, IsSome}
 use Rattle.std.specs.Io.KnownBytes.{Appends}
 use Rattle.st_base.specs.Records.{Rec, InRange}
-use Rattle.st_base.specs.Faults.{Rose}
 use Rattle.st_block.specs.BlockText.{IsBlockSize, IsShort, room, block_text, blocks}
 use Rattle.st_block.specs.Position.{positions}
 use Rattle.st_block.specs.Builder.{BlockBuilderView, HoldsRecords}
 use Rattle.st_block.specs.Scan.{PositionedRecord, positions_in, records_in}
 use Rattle.st_block.specs.declared.format.TheConstants.{MAX_BLOCKS, BLOCK_HEAD}
+use Rattle.st_table.specs.declared.build_errors.BuildErr.{BuildErr}
+use Rattle.st_table.specs.declared.build_errors.BuildErr.TheVariants as build_err
 use Rattle.st_index.specs.Maker.{HasRecords}
 use Rattle.st_index.specs.declared.maker.IndexMaker.{IndexMaker}
-use Rattle.st_lane.specs.declared.errors.LaneErr.{LaneErr}
-use Rattle.st_lane.specs.declared.errors.LaneErr.TheVariants as lane_err
 use Rattle.st_lane.specs.declared.filling.Place.{Place}
 use Rattle.st_lane.specs.declared.filling.Place.TheVariants as place
 
@@ -87,20 +86,11 @@ Adds old new r result =
     → MatchResult result (λ _. Fills new (rs ++ r ∷ [])) (λ _. Fills new rs)
 
 -- the record begins the next block, after the block at hand was put to a sink; without memory
--- nothing was put, and of a fault only the sink's bytes are said
+-- nothing was put, and after a fault nothing is said
 abbrev pub Begins : Option (List ℕ) → Option (List ℕ) → FillingView → FillingView → Rec → List Rec
-    → Result (Unit {0}) LaneErr → Type 0
+    → Result (Unit {0}) BuildErr → Type 0
 Begins before now old new r rs (Ok u) =
     Fills new (rs ++ r ∷ [])
     × Appends before now (block_text old.size old.done (last_block (blocks old.size rs)))
-Begins before now old new r rs (Err (lane_err.DiskFault lost)) = Unit {0}
-Begins before now old new r rs (Err (lane_err.TooLong len)) = ⊥
-Begins before now old new r rs (Err lane_err.NoMemory) = Fills new rs
-
--- why the next block didn't begin: a fault of the sink, after which the records that there were are
--- lost; or no memory, and then the sink is as it was
-abbrev pub FailsToBegin : {S : Type 0} → ℕ → ℕ → FillingView → S → S → LaneErr → Type 0
-FailsToBegin before now old sink_before sink_now (lane_err.DiskFault lost) =
-    Rose before now × (before ≤ now) × (lost ≡ old.records)
-FailsToBegin before now old sink_before sink_now (lane_err.TooLong len) = ⊥
-FailsToBegin before now old sink_before sink_now lane_err.NoMemory = sink_now ≡ sink_before
+Begins before now old new r rs (Err build_err.WriteFault) = Unit {0}
+Begins before now old new r rs (Err build_err.NoMemory) = Fills new rs

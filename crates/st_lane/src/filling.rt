@@ -1,16 +1,16 @@
-ghost use Rattle.std.specs.Prelude.{◌≡◌, ◌≤◌, ◌<◌, ◌+◌, ◌∷◌, ◌++◌, [], List, length, OnOk, OnErr, IfOk, MatchResult, IsSome};
+ghost use Rattle.std.specs.Prelude.{◌≡◌, ◌≤◌, ◌<◌, ◌+◌, ◌∷◌, ◌++◌, [], List, length, OnOk, OnErr, IfOk, MatchResult, IsSome, Err};
 ghost use Rattle.st_base.specs.Records.{Rec, InRange};
 ghost use Rattle.st_base.specs.Faults.{HasCause, HasCauseOf};
 ghost use Rattle.st_base.specs.Pieces.{Puts};
 ghost use Rattle.st_block.specs.BlockText.{IsBlockSize, IsShort, room, block_text};
 ghost use Rattle.st_block.specs.Builder.{HoldsRecords};
 ghost use Rattle.st_rows.specs.Rows.{AreRowsOf};
-ghost use Rattle.st_lane.specs.Filling.{Fills, IsPlace, Adds, Begins, FailsToBegin};
+ghost use Rattle.st_lane.specs.Filling.{Fills, IsPlace, Adds, Begins};
 
-use crate::errors::LaneErr;
 use st_base::{Failed, MemSink, NoMemory, RecordRef, Sink, put};
 use st_block::{BLOCK_HEAD, BlockBuilder, MAX_BLOCKS, RECORD_HEAD, position_in};
 use st_index::IndexMaker;
+use st_table::BuildErr;
 use std::alloc::Global;
 use std::marker::Model;
 
@@ -176,13 +176,13 @@ impl Filling {
     /// the file.
     ///
     /// The index takes the record first: after `NoMemory` nothing was put, and the records are as
-    /// they were. `DiskFault` comes only if the sink's `faults` rose in this call; the records are
+    /// they were. `WriteFault` comes only if the sink's `faults` rose in this call; the records are
     /// lost, and a prefix of the block follows what the sink had.
     pub(crate) fn begin_next<S: Sink>(
         &mut self,
         r: RecordRef<'_>,
         sink: &mut S,
-    ) -> Result<(), LaneErr>
+    ) -> Result<(), BuildErr>
         requires short { IsShort self.old.size r }
         requires some { 1 ≤ self.old.records }
         requires full { self.old.size < self.old.here.used + room r }
@@ -192,14 +192,15 @@ impl Filling {
         ensures size { (self.new.size ≡ self.old.size) × (self.new.most ≡ self.old.most) }
         ensures count { MatchResult result (λ _. self.new.records ≡ self.old.records + 1)
             (λ _. self.new.records ≡ self.old.records) }
-        ensures cause { MatchResult result (λ _. S.faults sink.new ≡ S.faults sink.old)
-            (FailsToBegin (S.faults sink.old) (S.faults sink.new) self.old sink.old sink.new) }
+        ensures cause { HasCauseOf BuildErr.WriteFault (S.faults sink.old) (S.faults sink.new)
+            result }
+        ensures memory { result ≡ Err BuildErr.NoMemory → sink.new ≡ sink.old }
         ensures rest { S.beside sink.new ≡ S.beside sink.old }
     {
         let position = position_in(self.size, self.done + 1, BLOCK_HEAD as u32);
         match self.maker.add(again(&r), position) {
             Ok(()) => {}
-            Err(NoMemory) => return Err(LaneErr::NoMemory),
+            Err(NoMemory) => return Err(BuildErr::NoMemory),
         }
         let written = put_block(&mut self.here, self.done, sink);
         // After a fault the lane is broken. Its numbers go on to fit together.
@@ -210,7 +211,7 @@ impl Filling {
                 self.records += 1;
                 Ok(())
             }
-            Err(Failed) => Err(LaneErr::DiskFault { lost: self.records }),
+            Err(Failed) => Err(BuildErr::WriteFault),
         }
     }
 }

@@ -61,4 +61,5 @@ returns-in-Ok-written-clause-begins g c rs f =
       (c.add-2.ensures.records [] c.put_block-written.ensures.none)
       (λ given h. subst (λ (p : ℕ). HasRecords c.add.new.self (given ++ (p, r) ∷ [])) c.position_in-position.ensures.value (subst (λ (x : Rec). HasRecords c.add.new.self (given ++ (c.position_in-position.result, x) ∷ [])) c.again.ensures.same (c.in-Ok.ensures.records given h))) in
     let put = c.in-Ok-written.ensures.bytes (last_block (blocks old.size rs)) was.here in
-    (fills, subst (λ (n : ℕ). Appends _ _ (block_text n old.done (last_block (blocks old.size rs)))) c.self.invariant.same put)
+    let at : ℕ → FillingView → Type 0 = λ n x. Appends (g.S.Sink.written c.args.sink.now) (g.S.Sink.written c.put_block-written.new.sink) (block_text n x.done (last_block (blocks x.size rs))) in
+    (fills, subst (λ (x : FillingView). at x.size x) c.self.view_is (subst (λ (n : ℕ). at n old) c.self.invariant.same put))
