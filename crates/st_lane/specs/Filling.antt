@@ -73,7 +73,8 @@ pub record IsFull (f : FillingView) (r : Rec) : Type 0 where
 -- where a record has its place: in the block at hand, if it fits there; else in the next block, or,
 -- if none is allowed, nowhere; one that is too long fits no block
 abbrev pub IsPlace : FillingView → Rec → Place → Type 0
-IsPlace f r place.Here = IsShort f.size r × (f.here.used + room r ≤ f.size)
+IsPlace f r place.Here =
+    IsShort f.size r × (f.here.used + room r ≤ f.size) × (f.done < f.most)
 IsPlace f r place.Next =
     IsShort f.size r × (f.size < f.here.used + room r) × (1 ≤ f.records) × (f.done + 1 < f.most)
 IsPlace f r place.Nowhere = IsFull f r

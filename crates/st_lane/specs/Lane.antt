@@ -5,6 +5,8 @@ use Rattle.st_base.specs.Faults.{Rose}
 use Rattle.st_block.specs.BlockText.{IsShort, BlockText, blocks, blocks_text}
 use Rattle.st_block.specs.Scan.{PositionedRecord, records_in}
 use Rattle.st_rows.specs.Whole.{IsWhole}
+use Rattle.st_disk.specs.declared.naming.Kind.TheVariants as kind
+use Rattle.st_shelf.specs.Origins.{DraftOrigin}
 use Rattle.st_lane.specs.Filling.{FillingView, but_last, Fills, IsFull}
 use Rattle.st_lane.specs.declared.errors.Pushed.{Pushed}
 use Rattle.st_lane.specs.declared.errors.Pushed.TheVariants.{Kept, Ready}
@@ -18,6 +20,22 @@ pub record LaneView (T : Type 0) : Type 0 where
   pub index : T
   pub filling : FillingView
   pub broken : Bool
+
+-- the first draft is of a block file, and the other one of an index
+abbrev pub AreOfKinds : DraftOrigin → DraftOrigin → Type 0
+AreOfKinds block index = (block.kind ≡ kind.Block) × (index.kind ≡ kind.Index)
+
+-- a lane of these drafts that has no records yet
+abbrev pub Begun : {T : Type 0} → T → T → ℕ → ℕ → LaneView T → Type 0
+Begun block index size most l =
+    (l.block ≡ block) × (l.index ≡ index) × (l.filling.size ≡ size) × (l.filling.most ≡ most)
+    × (l.filling.records ≡ 0) × (l.broken ≡ false)
+
+-- a lane keeps its numbers and its index draft, and which file its block draft is
+abbrev pub IsSameLane : {T : Type 0} → (T → DraftOrigin) → LaneView T → LaneView T → Type 0
+IsSameLane origin old new =
+    (origin new.block ≡ origin old.block) × (new.index ≡ old.index)
+    × (new.filling.size ≡ old.filling.size) × (new.filling.most ≡ old.filling.most)
 
 -- these are the bytes of the file of these records without its last block
 abbrev pub IsTextButLast : ℕ → List Rec → Option (List ℕ) → Type 0

@@ -1,12 +1,151 @@
-use crate::filling::Filling;
-use st_shelf::Draft;
-use std::alloc::Global;
+ghost use Rattle.std.specs.Prelude.{Option, ◌≡◌, ◌≤◌, ◌<◌, ◌+◌, ◌∷◌, ◌++◌, ◌↔◌, [], List, ℕ, false, Some, Ok, Err, length, OnOk, IfOk, IfErr, MatchResult};
+ghost use Rattle.st_base.specs.Records.{Rec};
+ghost use Rattle.st_base.specs.Faults.{HasCauseOf};
+ghost use Rattle.st_block.specs.BlockText.{IsBlockSize, IsShort};
+ghost use Rattle.st_block.specs.declared.format.TheConstants.{MAX_BLOCKS};
+ghost use Rattle.st_lane.specs.Cut.{EndsList};
+ghost use Rattle.st_lane.specs.Filling.{IsFull};
+ghost use Rattle.st_lane.specs.Lane.{AreOfKinds, Represents, Pushes, pushed_count, RefusesLong, Breaks, Begun, IsSameLane};
 
-/// A lane.
+use crate::errors::{LaneErr, LaneRefused, Pushed};
+use crate::filling::{Filling, Place};
+use st_base::{NoMemory, RecordRef};
+use st_shelf::Draft;
+use st_table::BuildErr;
+use std::alloc::Global;
+use std::marker::Model;
+
+/// One pair that is being filled: a draft of a block file, and one of its index.
+///
+/// Contracts see it as a `LaneView`; `Represents` says which records it has. Packets are in memory
+/// for one block only: the draft of the block file has all other blocks. It must be spent, by
+/// `seal` or `give_up`. After a fault it is broken, and can only be given up.
 pub struct Lane<T: Draft> {
     alloc: Global,
     block: T,
     index: T,
     filling: Filling,
     broken: bool,
+}
+
+impl<T: Draft> Model for Lane<T> {
+    ghost use Rattle.std.specs.Coded.{codes};
+    ghost use Rattle.st_index.specs.contracts.maker.IndexMaker as made;
+    ghost use Rattle.st_lane.specs.Lane.{LaneView, AreOfKinds};
+
+    ghost Value = { LaneView T };
+
+    ghost coded = { Prim.hlevel (codes, made.the_row.coded) };
+
+    ghost view = { λ a. record {
+      block = a.block;
+      index = a.index;
+      filling = a.filling;
+      broken = a.broken;
+    } };
+
+    ghost invariant = { λ a. AreOfKinds (T.origin a.block) (T.origin a.index) };
+}
+
+impl<T: Draft> Lane<T> {
+    /// A lane without records, for a block file of at most `blocks` blocks of `size` bytes. Both
+    /// drafts are empty.
+    ///
+    /// After a refusal, for want of memory, the drafts come back.
+    pub fn new(
+        alloc: Global,
+        block: T,
+        index: T,
+        size: u32,
+        blocks: u32,
+    ) -> Result<Lane<T>, LaneRefused<T>>
+        requires size { IsBlockSize size }
+        requires some { 1 ≤ blocks }
+        requires most { blocks ≤ MAX_BLOCKS }
+        requires kinds { AreOfKinds (T.origin block) (T.origin index) }
+        ensures begun { IfOk result (Begun block index size blocks) }
+        ensures records { T.written block ≡ Some [] → T.written index ≡ Some []
+            → IfOk result (λ l. Represents T.written l []) }
+        ensures back { IfErr result (λ e. (e.block ≡ block) × (e.index ≡ index)) }
+    {
+        match Filling::new(alloc, size, blocks) {
+            Ok(filling) => Ok(Lane {
+                alloc,
+                block,
+                index,
+                filling,
+                broken: false,
+            }),
+            Err(NoMemory) => Err(LaneRefused { block, index }),
+        }
+    }
+
+    /// How many records the lane has. A broken lane has those that it had before the fault.
+    pub fn records(&self) -> u64
+        ensures { result ≡ self.now.filling.records }
+    {
+        self.filling.records()
+    }
+
+    /// Whether a write failed.
+    pub fn is_broken(&self) -> bool
+        ensures { result ≡ self.now.broken }
+    {
+        self.broken
+    }
+
+    /// Hands the drafts back.
+    pub fn give_up(self) -> (T, T)
+        ensures { result ≡ (self.block, self.index) }
+    {
+        let Lane {
+            alloc: _alloc,
+            block,
+            index,
+            filling: _filling,
+            broken: _broken,
+        } = self;
+        (block, index)
+    }
+
+    /// Adds a record after the others.
+    pub fn push(&mut self, r: RecordRef<'_>) -> Result<Pushed, LaneErr>
+        requires { self.old.broken ≡ false }
+        // which records it then has
+        ensures records { (rs : List Rec) → Represents T.written self.old rs
+            → Pushes T.written self.old self.new rs r.entry result }
+        ensures count { self.new.filling.records
+            ≡ pushed_count self.old.filling.records result }
+        // when each answer comes
+        ensures ready { (result ≡ Ok Pushed.Ready) ↔ IsFull self.old.filling r.entry }
+        ensures ends { (rs : List Rec) → Represents T.written self.old rs
+            → (result ≡ Ok Pushed.Ready) ↔ (IsShort self.old.filling.size r.entry
+            × EndsList self.old.filling.size self.old.filling.most rs r.entry) }
+        ensures long { RefusesLong self.old.filling.size r.entry result }
+        ensures breaks { Breaks self.old self.new result }
+        // the drafts
+        ensures cause { HasCauseOf (LaneErr.DiskFault self.old.filling.records)
+            (T.faults self.old.block) (T.faults self.new.block) result }
+        ensures rest { IsSameLane T.origin self.old self.new }
+    {
+        let len = r.body.len() as u32;
+        match self.filling.place_for(len) {
+            Place::TooLong => Err(LaneErr::TooLong { len }),
+            Place::Nowhere => Ok(Pushed::Ready),
+            Place::Here => match self.filling.join(r) {
+                Ok(()) => Ok(Pushed::Kept),
+                Err(NoMemory) => Err(LaneErr::NoMemory),
+            },
+            Place::Next => match self.filling.begin_next(r, &mut self.block) {
+                Ok(()) => Ok(Pushed::Kept),
+                Err(BuildErr::NoMemory) => Err(LaneErr::NoMemory),
+                Err(BuildErr::WriteFault) => {
+                    self.broken = true;
+                    Err(LaneErr::DiskFault {
+                        lost: self.filling.records(),
+                    })
+                }
+            },
+        }
+    }
 }
