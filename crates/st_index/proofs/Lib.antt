@@ -3,3 +3,6 @@ pub mod Counting
 pub mod WalkSizes
 pub mod Summing
 pub mod Having
+pub mod KeyOrders
+pub mod RowsOf
+pub mod Writing

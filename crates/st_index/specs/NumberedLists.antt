@@ -1,5 +1,5 @@
 -- Lists of positions by number or by key, and what putting a position does to them.
-use Rattle.std.specs.Prelude.{◌≡◌, ℕ, ◌-◌, ◌<◌, ◌⊎◌, List, [], ◌∷◌, ◌++◌, length, Bool, ◌&&◌, nat_eq, nat_lt, if◌then◌else◌, option_map, unwrap_or, slice_index, slice_get, Vec, vec_len, vec_capacity, IsSomeAnd, IsTrue}
+use Rattle.std.specs.Prelude.{◌≡◌, ℕ, ◌-◌, ◌<◌, ◌⊎◌, List, [], ◌∷◌, ◌++◌, length, Bool, ◌&&◌, nat_eq, nat_lt, if◌then◌else◌, option_map, unwrap_or, slice_index, slice_get, Vec, vec_len, vec_capacity, IsSomeAnd, IsTrue, IsFalse, is_some}
 use Rattle.std.specs.Global.{Global}
 use Rattle.std.specs.BTreeMap.{BTreeMap, get}
 use Rattle.st_walk.specs.contracts.text.KeyOrd.TheImpl as derived
@@ -20,6 +20,10 @@ at_key lists k = unwrap_or (option_map (λ v. v.items) (get derived.ghosts.cmp l
 -- the list of a key is there and has room for one more
 abbrev pub HasRoomIn : BTreeMap Key (Vec ℕ Global) → Key → Type 0
 HasRoomIn lists k = IsSomeAnd (get derived.ghosts.cmp lists k) (λ v. vec_len v < vec_capacity v)
+
+-- no number of this kind of keys has a list in the map
+abbrev pub HasNone : BTreeMap Key (Vec ℕ Global) → (ℕ → Key) → Type 0
+HasNone lists key = (n : ℕ) → IsFalse (is_some (get derived.ghosts.cmp lists (key n)))
 
 -- the last of these positions is this one
 abbrev pub ends_with : List ℕ → ℕ → Bool

@@ -1,8 +1,11 @@
 //! The positions of the packets that have a key, for each key.
 
-ghost use Rattle.std.specs.Prelude.{◌≡◌, ℕ, ◌⊎◌, ◌<◌, ◌≤◌, ◌+◌, length, max, IsTrue, OnOk};
+ghost use Rattle.std.specs.Prelude.{◌≡◌, ℕ, ◌⊎◌, ◌<◌, ◌≤◌, ◌+◌, length, max, IsTrue, OnOk, is_some};
+ghost use Rattle.std.specs.BTreeMap.{get};
+ghost use Rattle.st_walk.specs.contracts.text.KeyOrd.TheImpl as derived;
+ghost use Rattle.st_walk.specs.declared.text.Key.TheVariants.{Proto, Port};
 ghost use Rattle.st_walk.specs.declared.text.Key.{Key};
-ghost use Rattle.st_index.specs.NumberedLists.{at_number, HasRoomAt, at_key, HasRoomIn, ends_with, with_last, Takes};
+ghost use Rattle.st_index.specs.NumberedLists.{at_number, HasRoomAt, at_key, HasRoomIn, ends_with, with_last, Takes, HasNone};
 ghost use Rattle.st_index.specs.declared.lists.TheConstants.{PROTOS, PORTS};
 
 use st_walk::{Key, keys};
@@ -69,6 +72,9 @@ fn make_keyed(
     ensures same { (k : Key) → at_key lists.new k ≡ at_key lists.old k }
     ensures keeps { (k : Key) → HasRoomIn lists.old k → HasRoomIn lists.new k }
     ensures room { OnOk result (HasRoomIn lists.new key) }
+    ensures keys { (k : Key) → (k ≡ key)
+        ⊎ (is_some (get derived.ghosts.cmp lists.new k)
+        ≡ is_some (get derived.ghosts.cmp lists.old k)) }
 {
     if let Some(list) = lists.get_mut(&key) {
         return list.reserve(1);
@@ -84,7 +90,10 @@ fn put_keyed(lists: &mut BTreeMap<Key, Vec<u32>>, key: Key, position: u32)
     requires { Takes (at_key lists.old key) (HasRoomIn lists.old key) position }
     ensures here { at_key lists.new key ≡ with_last (at_key lists.old key) position }
     ensures others { (k : Key) → (k ≡ key) ⊎ (at_key lists.new k ≡ at_key lists.old k) }
+    // What room other lists had, and which keys have a list.
     ensures rooms { (k : Key) → (k ≡ key) ⊎ (HasRoomIn lists.old k → HasRoomIn lists.new k) }
+    ensures keys { (k : Key) → is_some (get derived.ghosts.cmp lists.new k)
+        ≡ is_some (get derived.ghosts.cmp lists.old k) }
 {
     let Some(list) = lists.get_mut(&key) else {
         return;
@@ -109,6 +118,8 @@ pub(crate) struct PositionLists {
     pub(crate) others: BTreeMap<Key, Vec<u32>>,
     ghost few_protos: { length protos.items ≤ PROTOS },
     ghost few_ports: { length ports.items ≤ PORTS },
+    ghost no_protos: { HasNone others (λ n. Proto n) },
+    ghost no_ports: { HasNone others (λ n. Port n) },
 }
 
 impl PositionLists {

@@ -1,0 +1,127 @@
+//! The lists of a maker that have positions, one by one, in the order of their keys.
+
+ghost use Rattle.std.specs.Prelude.{◌≡◌, ◌+◌, ◌<◌, ◌≤◌, length, option_map, IfSome};
+ghost use Rattle.st_walk.specs.KeyText.{Fits};
+ghost use Rattle.st_index.specs.EntryLists.{GivesList, lists_of_entries};
+ghost use Rattle.st_index.specs.declared.lists.TheConstants.{PROTOS, PORTS};
+
+use crate::lists::PositionLists;
+use st_walk::Key;
+use std::collections::btree_map::Iter;
+
+/// The lists of the numbers from `number` on.
+#[derive(Drop)]
+struct Numbered<'a> {
+    number: usize,
+    rest: &'a [Vec<u32>],
+    ghost few: { number + length rest.now ≤ PORTS },
+}
+
+impl<'a> Numbered<'a> {
+    ghost use Rattle.std.specs.Prelude.{◌≡◌, ℕ, ◌+◌, ◌<◌, length, option_map, IfSome};
+    ghost use Rattle.st_walk.specs.declared.text.Key.{Key};
+    ghost use Rattle.st_index.specs.EntryLists.{lists_of_numbers, GivesList};
+
+    /// The next number that has positions, and these.
+    fn next(&mut self) -> Option<(usize, &'a [u32])>
+        ensures list { (key : ℕ → Key)
+            → GivesList (lists_of_numbers key self.old.number self.old.rest.now)
+            (lists_of_numbers key self.new.number self.new.rest.now)
+            (option_map (λ x. (key x.0, x.1.now)) result) }
+        ensures some { IfSome result (λ x. 0 < length x.1.now) }
+        ensures below { IfSome result (λ x. x.0 < self.old.number + length self.old.rest.now) }
+        ensures end { self.new.number + length self.new.rest.now
+            ≡ self.old.number + length self.old.rest.now }
+    {
+        'lists: while let Some((list, rest)) = self.rest.split_first() {
+            let number = self.number;
+            self.number += 1;
+            self.rest = rest;
+            if !list.is_empty() {
+                return Some((number, list.as_slice()));
+            }
+        }
+        None
+    }
+}
+
+// The key as it is, whose value fits the type of its kind.
+fn fitting(key: &Key) -> Key
+    ensures same { result ≡ key.now }
+    ensures fits { Fits result }
+{
+    match key {
+        Key::Proto(number) => Key::Proto(*number),
+        Key::Port(port) => Key::Port(*port),
+        Key::Vlan(id) => Key::Vlan(*id),
+        Key::V4(address) => Key::V4(*address),
+        Key::Mpls(label) => Key::Mpls(*label),
+        Key::V6(address) => Key::V6(*address),
+        Key::Second(second) => Key::Second(*second),
+    }
+}
+
+// The next key of a map that has positions, and these.
+fn next_other<'a>(others: &mut Iter<'a, Key, Vec<u32>>) -> Option<(Key, &'a [u32])>
+    ensures list { GivesList (lists_of_entries others.old) (lists_of_entries others.new)
+        (option_map (λ x. (x.0, x.1.now)) result) }
+    ensures some { IfSome result (λ x. 0 < length x.1.now) }
+    ensures fits { IfSome result (λ x. Fits x.0) }
+{
+    'others: while let Some((key, list)) = others.next() {
+        if !list.is_empty() {
+            return Some((fitting(key), list.as_slice()));
+        }
+    }
+    None
+}
+
+/// The lists that have positions and are still to come, in the order of their keys.
+#[derive(Drop)]
+pub(crate) struct KeyLists<'a> {
+    protos: Numbered<'a>,
+    ports: Numbered<'a>,
+    others: Iter<'a, Key, Vec<u32>>,
+    ghost few_protos: { protos.number + length protos.rest.now ≤ PROTOS },
+}
+
+impl<'a> KeyLists<'a> {
+    ghost use Rattle.std.specs.Prelude.{◌≡◌, ◌<◌, length, option_map, IfSome};
+    ghost use Rattle.st_walk.specs.KeyText.{Fits};
+    ghost use Rattle.st_index.specs.EntryLists.{GivesList};
+    ghost use Rattle.st_index.specs.KeyLists.{key_lists, lists_left, AreLists};
+
+    /// All lists that have positions.
+    pub(crate) fn new(lists: &'a PositionLists) -> KeyLists<'a>
+        ensures left { lists_left result ≡ key_lists lists.now }
+        ensures all { AreLists lists.now (key_lists lists.now) }
+    {
+        KeyLists {
+            protos: Numbered {
+                number: 0,
+                rest: lists.protos.as_slice(),
+            },
+            ports: Numbered {
+                number: 0,
+                rest: lists.ports.as_slice(),
+            },
+            others: lists.others.iter(),
+        }
+    }
+
+    /// The next key that has positions, and these.
+    pub(crate) fn next(&mut self) -> Option<(Key, &'a [u32])>
+        ensures list { GivesList (lists_left self.old) (lists_left self.new)
+            (option_map (λ x. (x.0, x.1.now)) result) }
+        ensures some { IfSome result (λ x. 0 < length x.1.now) }
+        ensures fits { IfSome result (λ x. Fits x.0) }
+    {
+        if let Some((number, list)) = self.protos.next() {
+            return Some((Key::Proto(number as u8), list));
+        }
+        if let Some((number, list)) = self.ports.next() {
+            return Some((Key::Port(number as u16), list));
+        }
+        next_other(&mut self.others)
+    }
+}
