@@ -79,13 +79,3 @@ Breaks old new (Err (lane_err.DiskFault lost)) =
     (new.broken ≡ true) × (lost ≡ old.filling.records)
 Breaks old new (Err (lane_err.TooLong len)) = new.broken ≡ false
 Breaks old new (Err lane_err.NoMemory) = (new.broken ≡ false) × (new.block ≡ old.block)
-
--- the files are the block file of these records, in blocks of this size, and its index: a whole
--- pair
-pub record AreWhole (size : ℕ) (rs : List Rec) (block index : Option (List ℕ)) : Type 0 where
-  pub text : block ≡ Some (BlockText size rs)
-  pub table : List ℕ
-  pub indexed : index ≡ Some table
-  pub given : List PositionedRecord
-  pub records : records_in given ≡ rs
-  pub whole : IsWhole (BlockText size rs) table given

@@ -2,10 +2,12 @@ ghost use Rattle.std.specs.Prelude.{◌≡◌, ◌≤◌, ◌<◌, ◌+◌, ◌�
 ghost use Rattle.st_base.specs.Records.{Rec, InRange};
 ghost use Rattle.st_base.specs.Faults.{HasCause, HasCauseOf};
 ghost use Rattle.st_base.specs.Pieces.{Puts};
-ghost use Rattle.st_block.specs.BlockText.{IsBlockSize, IsShort, room, block_text};
+ghost use Rattle.st_block.specs.BlockText.{IsBlockSize, IsShort, room, blocks, block_text};
+ghost use Rattle.st_block.specs.Scan.{PositionedRecord};
 ghost use Rattle.st_block.specs.Builder.{HoldsRecords};
-ghost use Rattle.st_rows.specs.Rows.{AreRowsOf};
-ghost use Rattle.st_lane.specs.Filling.{Fills, IsPlace, Adds, Begins};
+ghost use Rattle.st_index.specs.Maker.{HasRecords};
+ghost use Rattle.st_index.specs.Write.{IsIndexOf};
+ghost use Rattle.st_lane.specs.Filling.{last_block, Fills, IsPlace, Adds, Begins};
 
 use st_base::{Failed, MemSink, NoMemory, RecordRef, Sink, put};
 use st_block::{BLOCK_HEAD, BlockBuilder, MAX_BLOCKS, RECORD_HEAD, position_in};
@@ -213,5 +215,42 @@ impl Filling {
             }
             Err(Failed) => Err(BuildErr::WriteFault),
         }
+    }
+
+    /// The index of all records, which has one at least.
+    pub(crate) fn index_table(&self, alloc: Global) -> Result<MemSink, NoMemory>
+        requires { 1 ≤ self.now.records }
+        ensures { IfOk result (λ table. (given : List PositionedRecord)
+            → HasRecords self.now.maker given → IsIndexOf given table.written) }
+    {
+        let mut table = MemSink::new(alloc, &[])?;
+        match self.maker.write(alloc, &mut table) {
+            Ok(_) => Ok(table),
+            // The sink fails for want of memory alone.
+            Err(_) => Err(NoMemory),
+        }
+    }
+
+    /// Puts the block at hand, which has one record at least. It is the last one.
+    ///
+    /// `Failed` comes only if the sink's `faults` rose in this call; a prefix of the block then
+    /// follows what the sink had.
+    pub(crate) fn put_last<S: Sink>(self, sink: &mut S) -> Result<(), Failed>
+        requires { 1 ≤ self.records }
+        ensures bytes { (rs : List Rec) → Fills self rs
+            → Puts (S.written sink.old) (S.written sink.new)
+            (block_text self.size self.done (last_block (blocks self.size rs))) result }
+        ensures cause { HasCause (S.faults sink.old) (S.faults sink.new) result }
+        ensures rest { S.beside sink.new ≡ S.beside sink.old }
+    {
+        let Filling {
+            size: _,
+            most: _,
+            done,
+            mut here,
+            maker: _,
+            records: _,
+        } = self;
+        put_block(&mut here, done, sink)
     }
 }

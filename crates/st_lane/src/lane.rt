@@ -7,10 +7,11 @@ ghost use Rattle.st_lane.specs.Cut.{EndsList};
 ghost use Rattle.st_lane.specs.Filling.{IsFull};
 ghost use Rattle.st_lane.specs.Lane.{AreOfKinds, Represents, Pushes, pushed_count, RefusesLong, Breaks, Begun, IsSameLane};
 
-use crate::errors::{LaneErr, LaneRefused, Pushed};
+use crate::errors::{LaneErr, LaneRefused, Pushed, SealErr};
 use crate::filling::{Filling, Place};
-use st_base::{NoMemory, RecordRef};
-use st_shelf::Draft;
+use crate::sealing::{put_pair, seal_both};
+use st_base::{Failed, NoMemory, RecordRef};
+use st_shelf::{Draft, End, SealedPair};
 use st_table::BuildErr;
 use std::alloc::Global;
 use std::marker::Model;
@@ -48,6 +49,8 @@ impl<T: Draft> Model for Lane<T> {
 }
 
 impl<T: Draft> Lane<T> {
+    ghost use Rattle.st_lane.specs.Sealing.{AreWhole, FailsToSeal};
+
     /// A lane without records, for a block file of at most `blocks` blocks of `size` bytes. Both
     /// drafts are empty.
     ///
@@ -146,6 +149,54 @@ impl<T: Draft> Lane<T> {
                     })
                 }
             },
+        }
+    }
+
+    /// Writes the last block and the index, and seals both files: the pair of the lane's records,
+    /// of which there is one at least.
+    ///
+    /// `NoMemory` comes before anything is written, and hands the lane back as it was. `DiskFault`
+    /// comes only if a draft's `faults` rose; both drafts then come back.
+    pub fn seal(self) -> Result<SealedPair<T>, SealErr<T>>
+        requires whole { self.broken ≡ false }
+        requires some { 1 ≤ self.filling.records }
+        // the pair
+        ensures pair { (rs : List Rec) → Represents T.written self rs
+            → IfOk result (λ p. AreWhole self.filling.size rs (T.sealed_bytes p.block)
+            (T.sealed_bytes p.index)) }
+        ensures origins { IfOk result (λ p. (T.sealed_origin p.block ≡ T.origin self.block)
+            × (T.sealed_origin p.index ≡ T.origin self.index)) }
+        ensures kinds { IfOk result
+            (λ p. AreOfKinds (T.sealed_origin p.block) (T.sealed_origin p.index)) }
+        ensures still { IfOk result (λ p. (T.sealed_faults p.block ≡ T.faults self.block)
+            × (T.sealed_faults p.index ≡ T.faults self.index)) }
+        // what comes back
+        ensures failed { IfErr result
+            (FailsToSeal T.origin T.sealed_origin T.faults T.sealed_faults self) }
+    {
+        // The index is made in memory first: after this only a draft can fail.
+        let table = match self.filling.index_table(self.alloc) {
+            Ok(table) => table,
+            Err(NoMemory) => return Err(SealErr::NoMemory { lane: self }),
+        };
+        let Lane {
+            alloc: _alloc,
+            mut block,
+            mut index,
+            filling,
+            broken: _broken,
+        } = self;
+        let lost = filling.records();
+        if let Err(Failed) = put_pair(filling, table.bytes(), &mut block, &mut index) {
+            return Err(SealErr::DiskFault {
+                lost,
+                block: End::Unsealed(block),
+                index: End::Unsealed(index),
+            });
+        }
+        match seal_both(block, index) {
+            Ok(pair) => Ok(pair),
+            Err((block, index)) => Err(SealErr::DiskFault { lost, block, index }),
         }
     }
 }

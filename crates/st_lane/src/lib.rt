@@ -4,6 +4,7 @@
 mod errors;
 mod filling;
 mod lane;
+mod sealing;
 
 pub use errors::{LaneErr, LaneRefused, Pushed, SealErr};
 pub use lane::Lane;
