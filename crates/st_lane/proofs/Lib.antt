@@ -1,3 +1,4 @@
 mod Blocks
 mod Pushing
 mod Representing
+mod Wholes

@@ -50,7 +50,7 @@ pub next_goes_on : (f : FillingView) (rs : List Rec) (r : Rec) → Fills f rs �
 next_goes_on f rs r fills some l more ends = let e = count_begun f rs r fills some l in omega arith
 
 -- known bytes that grow are known
-known_after : (xs ys : List ℕ) (before now : Option (List ℕ)) → before ≡ Some xs → Appends before now ys → now ≡ Some (xs ++ ys)
+pub known_after : (xs ys : List ℕ) (before now : Option (List ℕ)) → before ≡ Some xs → Appends before now ys → now ≡ Some (xs ++ ys)
 known_after xs ys before now e put = after now (subst (λ (o : Option (List ℕ)). Appends o now ys) e put)
   where
     after : (o : Option (List ℕ)) → Appends (Some xs) o ys → o ≡ Some (xs ++ ys)
