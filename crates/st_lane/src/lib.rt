@@ -5,6 +5,8 @@ mod errors;
 mod filling;
 mod lane;
 mod sealing;
+#[cfg(test)]
+mod tests;
 
 pub use errors::{LaneErr, LaneRefused, Pushed, SealErr};
 pub use lane::Lane;
