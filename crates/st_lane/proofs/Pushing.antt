@@ -61,16 +61,18 @@ position_begun size rs r some l =
 
 -- one record more, wherever it is
 pub fills_push : (old new : FillingView) (rs : List Rec) (r : Rec) (p : ℕ) → Fills old rs → InRange r → IsShort old.size r
-    → new.size ≡ old.size → new.records ≡ old.records + 1
+    → new.size ≡ old.size → new.most ≡ old.most → new.records ≡ old.records + 1
+    → length (blocks old.size (rs ++ r ∷ [])) ≤ old.most
     → positions old.size (rs ++ r ∷ []) ≡ positions old.size rs ++ p ∷ []
     → new.done ≡ length (but_last (blocks old.size (rs ++ r ∷ [])))
     → HoldsRecords new.here (last_block (blocks old.size (rs ++ r ∷ [])))
     → ((given : List PositionedRecord) → HasRecords old.maker given → HasRecords new.maker (given ++ (p, r) ∷ []))
     → Fills new (rs ++ r ∷ [])
-fills_push old new rs r p f range short same count places done here made =
+fills_push old new rs r p f range short same most count few places done here made =
     let back = sym same in
     record {
       count = let e = f.count in let n = length-append rs (r ∷ []) in omega arith;
+      few = subst (λ s. length (blocks s (rs ++ r ∷ [])) ≤ new.most) back (omega arith);
       done = subst (λ s. new.done ≡ length (but_last (blocks s (rs ++ r ∷ [])))) back done;
       here = subst (λ s. HoldsRecords new.here (last_block (blocks s (rs ++ r ∷ [])))) back here;
       given = f.given ++ (p, r) ∷ [];
@@ -83,12 +85,12 @@ fills_push old new rs r p f range short same count places done here made =
 
 -- in the block at hand
 pub fills_joined : (old new : FillingView) (rs : List Rec) (r : Rec) → Fills old rs → InRange r → 48 ≤ old.here.used
-    → old.here.used + room r ≤ old.size
-    → new.size ≡ old.size → new.records ≡ old.records + 1 → new.done ≡ old.done
+    → old.here.used + room r ≤ old.size → old.done < old.most
+    → new.size ≡ old.size → new.most ≡ old.most → new.records ≡ old.records + 1 → new.done ≡ old.done
     → ((hs : List Rec) → HoldsRecords old.here hs → HoldsRecords new.here (hs ++ r ∷ []))
     → ((given : List PositionedRecord) → HasRecords old.maker given → HasRecords new.maker (given ++ (old.size * old.done + old.here.used, r) ∷ []))
     → Fills new (rs ++ r ∷ [])
-fills_joined old new rs r f range begun fits same count done here made =
+fills_joined old new rs r f range begun fits less same most count done here made =
     let bs = blocks old.size rs in
     let used = f.here.used in
     let room_here : used_bytes (last_block bs) + room r ≤ old.size = omega arith in
@@ -99,19 +101,22 @@ fills_joined old new rs r f range begun fits same count done here made =
         position_joined old.size rs r room_here
         ∙ (ap (λ n. positions old.size rs ++ (old.size * n + used_bytes (last_block bs)) ∷ []) (sym f.done)
         ∙ ap (λ n. positions old.size rs ++ (old.size * old.done + n) ∷ []) (sym used)) in
-    fills_push old new rs r (old.size * old.done + old.here.used) f range (omega arith) same count places
+    let parts = length-append (but_last bs) ((last_block bs ++ r ∷ []) ∷ []) in
+    let many = ap length joined in
+    let d = f.done in
+    fills_push old new rs r (old.size * old.done + old.here.used) f range (omega arith) same most count (omega arith) places
       (done ∙ (f.done ∙ ap length (sym (ap but_last joined ∙ front))))
       (subst (HoldsRecords new.here) (sym (ap last_block joined ∙ last)) (here (last_block bs) f.here))
       made
 
 -- in the next block
 pub fills_begun : (old new : FillingView) (rs : List Rec) (r : Rec) → Fills old rs → InRange r → IsShort old.size r → 1 ≤ old.records
-    → old.size < old.here.used + room r
-    → new.size ≡ old.size → new.records ≡ old.records + 1 → new.done ≡ old.done + 1
+    → old.size < old.here.used + room r → old.done + 1 < old.most
+    → new.size ≡ old.size → new.most ≡ old.most → new.records ≡ old.records + 1 → new.done ≡ old.done + 1
     → HoldsRecords new.here (r ∷ [])
     → ((given : List PositionedRecord) → HasRecords old.maker given → HasRecords new.maker (given ++ (old.size * (old.done + 1) + 48, r) ∷ []))
     → Fills new (rs ++ r ∷ [])
-fills_begun old new rs r f range short some full same count done here made =
+fills_begun old new rs r f range short some full less same most count done here made =
     let bs = blocks old.size rs in
     let used = f.here.used in
     let n = f.count in
@@ -125,19 +130,22 @@ fills_begun old new rs r f range short some full same count done here made =
     let places : positions old.size (rs ++ r ∷ []) ≡ positions old.size rs ++ (old.size * (old.done + 1) + 48) ∷ [] =
         position_begun old.size rs r many no_room
         ∙ ap (λ n. positions old.size rs ++ (old.size * (n + 1) + 48) ∷ []) (sym f.done) in
-    fills_push old new rs r (old.size * (old.done + 1) + 48) f range short same count places
+    let longer = ap length begun in
+    let one = length-append bs ((r ∷ []) ∷ []) in
+    fills_push old new rs r (old.size * (old.done + 1) + 48) f range short same most count (omega arith) places
       (now ∙ ap length (sym (ap but_last begun ∙ but_last-push bs (r ∷ []))))
       (subst (HoldsRecords new.here) (sym (ap last_block begun ∙ last-push bs (r ∷ []))) here)
       made
 
 -- the same records, with an index of the same
-pub fills_same : (old new : FillingView) (rs : List Rec) → Fills old rs → new.size ≡ old.size → new.records ≡ old.records → new.done ≡ old.done → new.here ≡ old.here
+pub fills_same : (old new : FillingView) (rs : List Rec) → Fills old rs → new.size ≡ old.size → new.most ≡ old.most → new.records ≡ old.records → new.done ≡ old.done → new.here ≡ old.here
     → ((given : List PositionedRecord) → HasRecords old.maker given → HasRecords new.maker given)
     → Fills new rs
-fills_same old new rs f same count done here made =
+fills_same old new rs f same most count done here made =
     let back = sym same in
     record {
       count = count ∙ f.count;
+      few = subst (λ s. length (blocks s rs) ≤ new.most) back (let l = f.few in omega arith);
       done = done ∙ (f.done ∙ ap (λ s. length (but_last (blocks s rs))) back);
       here = subst (λ h. HoldsRecords h (last_block (blocks new.size rs))) (sym here) (subst (λ s. HoldsRecords old.here (last_block (blocks s rs))) back f.here);
       given = f.given;

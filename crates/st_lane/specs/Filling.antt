@@ -36,10 +36,12 @@ last_block [] = []
 last_block (b ∷ []) = b
 last_block (b ∷ c ∷ bs) = last_block (c ∷ bs)
 
--- What is kept is of these records, in their order, and of no others: the block at hand holds those
--- of the last block of their file, and the index has each at its position.
+-- What is kept is of these records, in their order, and of no others: their file has no more blocks
+-- than are allowed, the block at hand holds those of the last one, and the index has each record at
+-- its position.
 pub record Fills (f : FillingView) (rs : List Rec) : Type 0 where
   pub count : f.records ≡ length rs
+  pub few : length (blocks f.size rs) ≤ f.most
   pub done : f.done ≡ length (but_last (blocks f.size rs))
   pub here : HoldsRecords f.here (last_block (blocks f.size rs))
   pub given : List PositionedRecord

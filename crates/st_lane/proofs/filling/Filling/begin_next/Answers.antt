@@ -12,7 +12,7 @@ use Rattle.st_lane.proofs.filling.Filling.begin_next.Goals as goal
 pub returns-in-Err-clause-begins : goal.returns-in-Err-clause-begins
 returns-in-Err-clause-begins g c rs f =
     let old : FillingView = the_view c.self.inside in
-    fills_same old _ rs (subst (λ (x : FillingView). Fills x rs) (sym c.self.view_is) f) refl refl refl refl c.in-Err.ensures.records
+    fills_same old _ rs (subst (λ (x : FillingView). Fills x rs) (sym c.self.view_is) f) refl refl refl refl refl c.in-Err.ensures.records
 
 pub add-requires-2 : goal.add-requires-2
 add-requires-2 g c =
@@ -57,7 +57,8 @@ returns-in-Ok-written-clause-begins g c rs f =
     let short : IsShort old.size r = subst (λ (x : FillingView). IsShort x.size r) (sym c.self.view_is) c.requires.short in
     let some : 1 ≤ old.records = subst (λ (x : FillingView). 1 ≤ x.records) (sym c.self.view_is) c.requires.some in
     let full : old.size < old.here.used + room r = subst (λ (x : FillingView). x.size < x.here.used + room r) (sym c.self.view_is) c.requires.full in
-    let fills = fills_begun old _ rs r was c.again.ensures.range short some full refl refl refl
+    let next : old.done + 1 < old.most = subst (λ (x : FillingView). x.done + 1 < x.most) (sym c.self.view_is) c.requires.next in
+    let fills = fills_begun old _ rs r was c.again.ensures.range short some full next refl refl refl refl
       (c.add-2.ensures.records [] c.put_block-written.ensures.none)
       (λ given h. subst (λ (p : ℕ). HasRecords c.add.new.self (given ++ (p, r) ∷ [])) c.position_in-position.ensures.value (subst (λ (x : Rec). HasRecords c.add.new.self (given ++ (c.position_in-position.result, x) ∷ [])) c.again.ensures.same (c.in-Ok.ensures.records given h))) in
     let put = c.in-Ok-written.ensures.bytes (last_block (blocks old.size rs)) was.here in
