@@ -2,3 +2,4 @@ mod Blocks
 mod Pushing
 mod Representing
 mod Wholes
+mod Cuts
