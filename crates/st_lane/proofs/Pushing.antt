@@ -71,6 +71,8 @@ pub fills_push : (old new : FillingView) (rs : List Rec) (r : Rec) (p : ℕ) →
 fills_push old new rs r p f range short same most count few places done here made =
     let back = sym same in
     record {
+      size = subst IsBlockSize back f.size;
+      allowed = let a = f.allowed in omega arith;
       count = let e = f.count in let n = length-append rs (r ∷ []) in omega arith;
       few = subst (λ s. length (blocks s (rs ++ r ∷ [])) ≤ new.most) back (omega arith);
       done = subst (λ s. new.done ≡ length (but_last (blocks s (rs ++ r ∷ [])))) back done;
@@ -144,6 +146,8 @@ pub fills_same : (old new : FillingView) (rs : List Rec) → Fills old rs → ne
 fills_same old new rs f same most count done here made =
     let back = sym same in
     record {
+      size = subst IsBlockSize back f.size;
+      allowed = let a = f.allowed in omega arith;
       count = count ∙ f.count;
       few = subst (λ s. length (blocks s rs) ≤ new.most) back (let l = f.few in omega arith);
       done = done ∙ (f.done ∙ ap (λ s. length (but_last (blocks s rs))) back);

@@ -3,7 +3,7 @@ use Rattle.std.proofs.Common.{◌≡◌, ℕ, zero, suc, ◌+◌, ◌<◌, ◌�
 use Rattle.std.specs.Prelude.{All}
 use Rattle.std.specs.Io.KnownBytes.{Appends}
 use Rattle.st_base.specs.Records.{Rec}
-use Rattle.st_block.specs.BlockText.{IsBlockSize, HasBytes, HasFile, BlockText, blocks, block_text, blocks_text}
+use Rattle.st_block.specs.BlockText.{HasBytes, HasFile, BlockText, blocks, block_text, blocks_text}
 use Rattle.st_block.specs.Scan.{PositionedRecord, IsFile, records_in, positions_in}
 use Rattle.st_block.specs.Position.{positions}
 use Rattle.st_block.proofs.Going.{text_push}
@@ -31,13 +31,13 @@ whole_text size rs some =
     ∙ (sym (text_push size 0 (but_last bs) (last_block bs)) ∙ ap (λ l. blocks_text size 0 l) (whole_blocks size rs some))
 
 pub whole_pair : {T : Type 0} (written : T → Option (List ℕ)) (l : LaneView T) (rs : List Rec) (block index sealed_block sealed_index : Option (List ℕ)) (table : List ℕ)
-    → Represents written l rs → 1 ≤ l.filling.records → IsBlockSize l.filling.size → l.filling.done < 4095
+    → Represents written l rs → 1 ≤ l.filling.records
     → Appends (written l.block) block (block_text l.filling.size l.filling.done (last_block (blocks l.filling.size rs)))
     → Appends (written l.index) index table
     → ((given : List PositionedRecord) → HasRecords l.filling.maker given → IsIndexOf given table)
     → sealed_block ≡ block → sealed_index ≡ index
     → AreWhole l.filling.size rs sealed_block sealed_index
-whole_pair written l rs block index sealed_block sealed_index table was some size most put_block put_index indexed block_is index_is =
+whole_pair written l rs block index sealed_block sealed_index table was some put_block put_index indexed block_is index_is =
     let f = l.filling in
     let fills = was.fills in
     let c = fills.count in
@@ -46,11 +46,13 @@ whole_pair written l rs block index sealed_block sealed_index table was some siz
     let all = ap length (whole_blocks f.size rs many) in
     let parts = length-append (but_last bs) (last_block bs ∷ []) in
     let d = fills.done in
+    let allowed = fills.allowed in
+    let limit = fills.few in
     let few : length bs ≤ 4095 = omega arith in
     let text : blocks_text f.size 0 (but_last bs) ++ block_text f.size f.done (last_block bs) ≡ BlockText f.size rs =
         ap (λ k. blocks_text f.size 0 (but_last bs) ++ block_text f.size k (last_block bs)) d ∙ whole_text f.size rs many in
     let same = fills.records in
-    let file : HasFile f.size rs = record { block_size = size; some = many; range = fills.range; of_bytes = subst (All HasBytes) same (all_bytes fills.given fills.made.fit); short = fills.short; blocks = few } in
+    let file : HasFile f.size rs = record { block_size = fills.size; some = many; range = fills.range; of_bytes = subst (All HasBytes) same (all_bytes fills.given fills.made.fit); short = fills.short; blocks = few } in
     let made = indexed fills.given fills.made in
     record {
       text = block_is ∙ (known_after (blocks_text f.size 0 (but_last bs)) (block_text f.size f.done (last_block bs)) (written l.block) block was.block put_block ∙ ap (λ (x : List ℕ). Some x) text);

@@ -40,6 +40,8 @@ last_block (b ∷ c ∷ bs) = last_block (c ∷ bs)
 -- than are allowed, the block at hand holds those of the last one, and the index has each record at
 -- its position.
 pub record Fills (f : FillingView) (rs : List Rec) : Type 0 where
+  pub size : IsBlockSize f.size
+  pub allowed : f.most ≤ MAX_BLOCKS
   pub count : f.records ≡ length rs
   pub few : length (blocks f.size rs) ≤ f.most
   pub done : f.done ≡ length (but_last (blocks f.size rs))

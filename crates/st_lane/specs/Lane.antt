@@ -72,10 +72,13 @@ pub record RefusesLong (size : ℕ) (r : Rec) (result : Result Pushed LaneErr) :
   pub only : (len : ℕ) → result ≡ Err (lane_err.TooLong len)
       → (IsShort size r → ⊥) × (len ≡ length r.body)
 
--- a fault breaks the lane and says how many records are lost; nothing else breaks it
-abbrev pub Breaks : {T : Type 0} → LaneView T → LaneView T → Result Pushed LaneErr → Type 0
-Breaks old new (Ok p) = new.broken ≡ false
-Breaks old new (Err (lane_err.DiskFault lost)) =
+-- Whatever is known of the drafts: a fault breaks the lane and says how many records are lost, and
+-- nothing else breaks it; without memory nothing is written; a record that is not taken leaves the
+-- lane as it was.
+abbrev pub Leaves : {T : Type 0} → LaneView T → LaneView T → Result Pushed LaneErr → Type 0
+Leaves old new (Ok Kept) = new.broken ≡ false
+Leaves old new (Ok Ready) = new ≡ old
+Leaves old new (Err (lane_err.DiskFault lost)) =
     (new.broken ≡ true) × (lost ≡ old.filling.records)
-Breaks old new (Err (lane_err.TooLong len)) = new.broken ≡ false
-Breaks old new (Err lane_err.NoMemory) = (new.broken ≡ false) × (new.block ≡ old.block)
+Leaves old new (Err (lane_err.TooLong len)) = new ≡ old
+Leaves old new (Err lane_err.NoMemory) = (new.broken ≡ false) × (new.block ≡ old.block)

@@ -220,14 +220,13 @@ impl Filling {
     /// The index of all records, which has one at least.
     pub(crate) fn index_table(&self, alloc: Global) -> Result<MemSink, NoMemory>
         requires { 1 ≤ self.now.records }
-        ensures index { IfOk result (λ table. (given : List PositionedRecord)
+        ensures { IfOk result (λ table. (given : List PositionedRecord)
             → HasRecords self.now.maker given → IsIndexOf given table.written) }
-        ensures bounds { OnOk result (IsBlockSize self.now.size × (self.now.done < MAX_BLOCKS)) }
     {
         let mut table = MemSink::new(alloc, &[])?;
         match self.maker.write(alloc, &mut table) {
             Ok(_) => Ok(table),
-            // The sink fails for want of memory alone.
+            // The sink fails only if memory runs out.
             Err(_) => Err(NoMemory),
         }
     }

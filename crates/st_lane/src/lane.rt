@@ -5,7 +5,7 @@ ghost use Rattle.st_block.specs.BlockText.{IsBlockSize, IsShort};
 ghost use Rattle.st_block.specs.declared.format.TheConstants.{MAX_BLOCKS};
 ghost use Rattle.st_lane.specs.Cut.{EndsList};
 ghost use Rattle.st_lane.specs.Filling.{IsFull};
-ghost use Rattle.st_lane.specs.Lane.{AreOfKinds, Represents, Pushes, pushed_count, RefusesLong, Breaks, Begun, IsSameLane};
+ghost use Rattle.st_lane.specs.Lane.{AreOfKinds, Represents, Pushes, pushed_count, RefusesLong, Leaves, Begun, IsSameLane};
 
 use crate::errors::{LaneErr, LaneRefused, Pushed, SealErr};
 use crate::filling::{Filling, Place};
@@ -51,10 +51,10 @@ impl<T: Draft> Model for Lane<T> {
 impl<T: Draft> Lane<T> {
     ghost use Rattle.st_lane.specs.Sealing.{AreWhole, FailsToSeal};
 
-    /// A lane without records, for a block file of at most `blocks` blocks of `size` bytes. Both
-    /// drafts are empty.
+    /// A lane without records, for a block file of at most `blocks` blocks of `size` bytes. The
+    /// drafts are to be empty.
     ///
-    /// After a refusal, for want of memory, the drafts come back.
+    /// If memory runs out both drafts come back.
     pub fn new(
         alloc: Global,
         block: T,
@@ -111,7 +111,15 @@ impl<T: Draft> Lane<T> {
         (block, index)
     }
 
-    /// Adds a record after the others.
+    /// Adds a record after the others, or says why it was not added. The lane isn't broken.
+    ///
+    /// `Ready` adds nothing. It comes if and only if a block would take the record, the lane has
+    /// records, the block at hand has no room for it and is the last one allowed. `TooLong` comes
+    /// if and only if the body is longer than the block size less the two heads, 96 bytes.
+    /// `DiskFault` comes only if the `faults` of the draft of the block file rose in this call; the
+    /// lane is then broken, and names the records that it had as lost. After `TooLong` and
+    /// `NoMemory` the lane has the records that it had.
+    /// Source: docs/FORMAT.md, "Block file".
     pub fn push(&mut self, r: RecordRef<'_>) -> Result<Pushed, LaneErr>
         requires { self.old.broken ≡ false }
         // which records it then has
@@ -125,7 +133,7 @@ impl<T: Draft> Lane<T> {
             → (result ≡ Ok Pushed.Ready) ↔ (IsShort self.old.filling.size r.entry
             × EndsList self.old.filling.size self.old.filling.most rs r.entry) }
         ensures long { RefusesLong self.old.filling.size r.entry result }
-        ensures breaks { Breaks self.old self.new result }
+        ensures leaves { Leaves self.old self.new result }
         // the drafts
         ensures cause { HasCauseOf (LaneErr.DiskFault self.old.filling.records)
             (T.faults self.old.block) (T.faults self.new.block) result }
@@ -153,10 +161,12 @@ impl<T: Draft> Lane<T> {
     }
 
     /// Writes the last block and the index, and seals both files: the pair of the lane's records,
-    /// of which there is one at least.
+    /// of which there is at least one. The lane isn't broken.
     ///
     /// `NoMemory` comes before anything is written, and hands the lane back as it was. `DiskFault`
-    /// comes only if a draft's `faults` rose; both drafts then come back.
+    /// comes only if a draft's `faults` rose in this call; both drafts come back, sealed or not,
+    /// and the lane's records are lost.
+    /// Source: docs/FORMAT.md, "Index rows".
     pub fn seal(self) -> Result<SealedPair<T>, SealErr<T>>
         requires whole { self.broken ≡ false }
         requires some { 1 ≤ self.filling.records }

@@ -6,8 +6,8 @@ use Rattle.st_index.specs.Write.{IsIndexOf, index_text}
 use Rattle.st_lane.specs.Filling.{FillingView}
 use Rattle.st_lane.proofs.filling.Filling.index_table.Goals as goal
 
-pub returns-in-Ok-clause-index : goal.returns-in-Ok-clause-index
-returns-in-Ok-clause-index c given h =
+pub returns-in-Ok : goal.returns-in-Ok
+returns-in-Ok c given h =
     let was : HasRecords c.self.inside.maker given = subst (λ (x : FillingView). HasRecords x.maker given) (sym c.self.view_is) h in
     let made : IsIndexOf given (index_text c.self.inside.maker) = c.in-Ok.ensures.index given was in
     let empty : c.in_ok-table.table.written ≡ [] = ap (λ (x : SinkView). x.written) c.in_ok-table.ensures in
