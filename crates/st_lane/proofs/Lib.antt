@@ -3,3 +3,4 @@ mod Pushing
 mod Representing
 mod Wholes
 mod Cuts
+mod OneLane

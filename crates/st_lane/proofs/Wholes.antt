@@ -17,7 +17,7 @@ use Rattle.st_lane.proofs.Blocks.{whole_blocks}
 use Rattle.st_lane.proofs.Representing.{known_after}
 
 -- packets whose numbers fit are of bytes
-all_bytes : (given : List PositionedRecord) → AllFit given → All HasBytes (records_in given)
+pub all_bytes : (given : List PositionedRecord) → AllFit given → All HasBytes (records_in given)
 all_bytes [] fit k d l = absurd (omega arith)
 all_bytes (x ∷ given) fit zero d l = (fit zero x (omega arith)).3
 all_bytes (x ∷ given) fit (suc k) d l = all_bytes given (λ i e h. fit (suc i) e (omega arith)) k d (omega arith)

@@ -1,7 +1,7 @@
 -- Laws of lanes and of cuts, which the functions of `laws` ensure.
 use Rattle.std.specs.Prelude.{◌≡◌, ℕ, ◌<◌, ◌≤◌, Option, List, [], ◌∷◌, ◌++◌, length, All}
 use Rattle.st_base.specs.Records.{Rec}
-use Rattle.st_block.specs.BlockText.{IsBlockSize, IsShort, blocks}
+use Rattle.st_block.specs.BlockText.{IsShort, blocks}
 use Rattle.st_lane.specs.Cut.{Cut, EndsList}
 use Rattle.st_lane.specs.Filling.{FillingView, Fills}
 use Rattle.st_lane.specs.Lane.{IsTextButLast}
@@ -29,3 +29,9 @@ CutGoesOn =
     → All (IsShort size) rs → 1 ≤ length rs → length (blocks size rs) ≤ most
     → EndsList size most rs r → Cut size most (r ∷ rest) lists
     → Cut size most (rs ++ r ∷ rest) (rs ∷ lists)
+
+-- what a lane keeps and what its draft of the block file has are of one list of records only
+abbrev pub OneLane : Type 0
+OneLane =
+    (f : FillingView) (block : Option (List ℕ)) (rs qs : List Rec) → Fills f rs → Fills f qs
+    → IsTextButLast f.size rs block → IsTextButLast f.size qs block → rs ≡ qs

@@ -1,6 +1,6 @@
 //! Laws of the definitions. These functions do nothing; what they ensure is what counts.
 
-ghost use Rattle.st_lane.specs.Laws.{CutEnds, CutGoesOn, CutOfNone, OneCut};
+ghost use Rattle.st_lane.specs.Laws.{CutEnds, CutGoesOn, CutOfNone, OneCut, OneLane};
 
 /// Records are cut in one way only.
 pub fn one_cut()
@@ -21,4 +21,9 @@ pub fn cut_ends()
 /// that follow it.
 pub fn cut_goes_on()
     ensures { CutGoesOn }
+{}
+
+/// If the bytes of its drafts are known, a lane represents one list of records only.
+pub fn one_lane()
+    ensures { OneLane }
 {}

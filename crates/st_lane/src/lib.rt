@@ -39,4 +39,4 @@ mod tests;
 
 pub use errors::{LaneErr, LaneRefused, Pushed, SealErr};
 pub use lane::Lane;
-pub use laws::{cut_ends, cut_goes_on, cut_of_none, one_cut};
+pub use laws::{cut_ends, cut_goes_on, cut_of_none, one_cut, one_lane};
