@@ -1,12 +1,10 @@
 -- The blocks of some records and one more: it joins the last block, or begins the next.
-use Rattle.std.proofs.Common.{◌≡◌, ℕ, zero, suc, ◌+◌, ◌-◌, ◌*◌, ◌<◌, ◌≤◌, true, false, cond, List, [], ◌∷◌, ◌++◌, length, length-append, refl, sym, ap, ◌∙◌, subst, arith, append_assoc, append-nil, inl, inr}
+use Rattle.std.proofs.Common.{◌≡◌, ℕ, ◌+◌, ◌-◌, ◌<◌, ◌≤◌, true, false, cond, List, [], ◌∷◌, ◌++◌, length, refl, sym, ap, ◌∙◌, subst, arith}
 use Rattle.std.specs.Prelude.{nat_le}
-use Rattle.std.proofs.lemmas.Bool.{cases_lt}
 use Rattle.st_base.specs.Records.{Rec}
 use Rattle.st_block.specs.BlockText.{room, used_bytes, blocks_from, blocks}
-use Rattle.st_block.specs.Position.{positions_from, positions_in_blocks, positions}
+use Rattle.st_block.specs.Position.{positions_from}
 use Rattle.st_block.proofs.Rooms.{joins, begins_next, used_least}
-use Rattle.st_block.proofs.Going.{places_push}
 use Rattle.st_lane.specs.Filling.{but_last, last_block}
 
 -- the blocks after one: there is one at least, so the one before it isn't the last
@@ -54,10 +52,10 @@ joins_from : (size : ℕ) (here rs : List Rec) (r : Rec) → used_bytes (last_bl
 joins_from size here [] r = λ l. joins size here r [] l
 joins_from size here (q ∷ rs) r =
     elim (nat_le (used_bytes here + room q) size) as (λ t.
-      used_bytes (last_block (cond t (blocks_from size (here ++ q ∷ []) rs) (here ∷ blocks_from size (q ∷ []) rs))) + room r ≤ size
-      → cond t (blocks_from size (here ++ q ∷ []) (rs ++ r ∷ [])) (here ∷ blocks_from size (q ∷ []) (rs ++ r ∷ []))
-      ≡ but_last (cond t (blocks_from size (here ++ q ∷ []) rs) (here ∷ blocks_from size (q ∷ []) rs))
-      ++ (last_block (cond t (blocks_from size (here ++ q ∷ []) rs) (here ∷ blocks_from size (q ∷ []) rs)) ++ r ∷ []) ∷ []) [
+    used_bytes (last_block (cond t (blocks_from size (here ++ q ∷ []) rs) (here ∷ blocks_from size (q ∷ []) rs))) + room r ≤ size
+    → cond t (blocks_from size (here ++ q ∷ []) (rs ++ r ∷ [])) (here ∷ blocks_from size (q ∷ []) (rs ++ r ∷ []))
+    ≡ but_last (cond t (blocks_from size (here ++ q ∷ []) rs) (here ∷ blocks_from size (q ∷ []) rs))
+    ++ (last_block (cond t (blocks_from size (here ++ q ∷ []) rs) (here ∷ blocks_from size (q ∷ []) rs)) ++ r ∷ []) ∷ []) [
       | true ↦ joins_from size (here ++ q ∷ []) rs r
       | false ↦
           let s = some_from size (q ∷ []) rs in
@@ -81,9 +79,9 @@ begins_from : (size : ℕ) (here rs : List Rec) (r : Rec) → size < used_bytes 
 begins_from size here [] r = λ l. begins_next size here r [] l
 begins_from size here (q ∷ rs) r =
     elim (nat_le (used_bytes here + room q) size) as (λ t.
-      size < used_bytes (last_block (cond t (blocks_from size (here ++ q ∷ []) rs) (here ∷ blocks_from size (q ∷ []) rs))) + room r
-      → cond t (blocks_from size (here ++ q ∷ []) (rs ++ r ∷ [])) (here ∷ blocks_from size (q ∷ []) (rs ++ r ∷ []))
-      ≡ cond t (blocks_from size (here ++ q ∷ []) rs) (here ∷ blocks_from size (q ∷ []) rs) ++ (r ∷ []) ∷ []) [
+    size < used_bytes (last_block (cond t (blocks_from size (here ++ q ∷ []) rs) (here ∷ blocks_from size (q ∷ []) rs))) + room r
+    → cond t (blocks_from size (here ++ q ∷ []) (rs ++ r ∷ [])) (here ∷ blocks_from size (q ∷ []) (rs ++ r ∷ []))
+    ≡ cond t (blocks_from size (here ++ q ∷ []) rs) (here ∷ blocks_from size (q ∷ []) rs) ++ (r ∷ []) ∷ []) [
       | true ↦ begins_from size (here ++ q ∷ []) rs r
       | false ↦
           let s = some_from size (q ∷ []) rs in

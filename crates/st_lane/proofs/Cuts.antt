@@ -4,7 +4,7 @@ use Rattle.std.specs.Prelude.{All}
 use Rattle.std.proofs.lemmas.Bool.{cases_lt}
 use Rattle.st_base.specs.Records.{Rec}
 use Rattle.st_block.specs.BlockText.{IsShort, room, used_bytes, blocks}
-use Rattle.st_lane.specs.Cut.{IsLongest, AreLongest, Cut, EndsList}
+use Rattle.st_lane.specs.Cut.{IsLongest, AreLongest, EndsList}
 use Rattle.st_lane.specs.Laws.{OneCut, CutOfNone, CutEnds, CutGoesOn}
 use Rattle.st_lane.specs.Filling.{but_last, last_block}
 use Rattle.st_lane.proofs.Blocks.{joins_last, begins_last, whole_blocks}
@@ -45,9 +45,9 @@ prefixes (x ∷ xs) (y ∷ ys) ps qs e =
     let head : x ≡ y = cc in
     let tail : xs ++ ps ≡ ys ++ qs = cc in
     ⊎_elim
-      (λ (m, same, rest). inl (m, ap (λ l. y ∷ l) same ∙ ap (λ h. h ∷ (xs ++ m)) (sym head), rest))
-      (λ (m, same, rest). inr (m, ap (λ l. x ∷ l) same ∙ ap (λ h. h ∷ (ys ++ m)) head, rest))
-      (prefixes xs ys ps qs tail)
+    (λ (m, same, rest). inl (m, ap (λ l. y ∷ l) same ∙ ap (λ h. h ∷ (xs ++ m)) (sym head), rest))
+    (λ (m, same, rest). inr (m, ap (λ l. x ∷ l) same ∙ ap (λ h. h ∷ (ys ++ m)) head, rest))
+    (prefixes xs ys ps qs tail)
 
 -- so the longest prefix is one
 nothing_more : (size most : ℕ) (xs ps m ys qs : List Rec) → IsLongest size most xs ps → IsLongest size most ys qs → ys ≡ xs ++ m → ps ≡ m ++ qs → m ≡ []
@@ -60,11 +60,11 @@ nothing_more size most xs ps (q ∷ m) ys qs l k e f =
 one_longest : (size most : ℕ) (xs ps ys qs : List Rec) → IsLongest size most xs ps → IsLongest size most ys qs → xs ++ ps ≡ ys ++ qs → (xs ≡ ys) × (ps ≡ qs)
 one_longest size most xs ps ys qs l k e = ⊎_elim
     (λ (m, same, rest).
-      let none = nothing_more size most xs ps m ys qs l k same rest in
-      (sym (same ∙ (ap (λ n. xs ++ n) none ∙ append-nil xs)), rest ∙ ap (λ n. n ++ qs) none))
+    let none = nothing_more size most xs ps m ys qs l k same rest in
+    (sym (same ∙ (ap (λ n. xs ++ n) none ∙ append-nil xs)), rest ∙ ap (λ n. n ++ qs) none))
     (λ (m, same, rest).
-      let none = nothing_more size most ys qs m xs ps k l same rest in
-      (same ∙ (ap (λ n. ys ++ n) none ∙ append-nil ys), sym (rest ∙ ap (λ n. n ++ ps) none)))
+    let none = nothing_more size most ys qs m xs ps k l same rest in
+    (same ∙ (ap (λ n. ys ++ n) none ∙ append-nil ys), sym (rest ∙ ap (λ n. n ++ ps) none)))
     (prefixes xs ys ps qs e)
 
 none_left : (size most : ℕ) (first rest : List Rec) {A : Type 0} → IsLongest size most first rest → [] ≡ first ++ rest → A

@@ -1,10 +1,9 @@
 -- A lane represents one list of records only.
-use Rattle.std.proofs.Common.{◌≡◌, ℕ, zero, suc, ◌+◌, ◌<◌, ◌≤◌, Option, Some, List, [], ◌∷◌, ◌++◌, length, length-append, refl, sym, ap, ◌∙◌, subst, arith}
+use Rattle.std.proofs.Common.{◌≡◌, ℕ, zero, suc, ◌≤◌, Option, Some, List, [], ◌∷◌, ◌++◌, length, length-append, refl, sym, ap, ◌∙◌, subst, arith}
 use Rattle.std.specs.Prelude.{All}
 use Rattle.std.specs.List.{flat_map}
 use Rattle.st_base.specs.Records.{Rec, InRange}
-use Rattle.st_block.specs.BlockText.{IsBlockSize, IsShort, HasBytes, HasFile, AreFilled, BlockText, blocks, blocks_text, used_bytes}
-use Rattle.st_block.specs.Scan.{PositionedRecord}
+use Rattle.st_block.specs.BlockText.{IsShort, HasBytes, HasFile, AreFilled, BlockText, blocks, blocks_text}
 use Rattle.st_block.proofs.Rooms.{flat_blocks, file_fills, fills_are}
 use Rattle.st_block.proofs.Going.{flat_push}
 use Rattle.st_block.proofs.Unique.{one_file, one_block}
@@ -56,15 +55,17 @@ front_file f rs fills some done =
     let parts = length-append (but_last bs) (last_block bs ∷ []) in
     let few = fills.few in
     let allowed = fills.allowed in
-    let n = ap length same in
-    (record {
-      block_size = fills.size;
-      some = some_flat f.size (but_last bs) filled (omega arith);
-      range = all_first_part InRange first (last_block bs) (subst (All InRange) split fills.range);
-      of_bytes = all_first_part HasBytes first (last_block bs) (subst (All HasBytes) (fills.records ∙ split) (all_bytes fills.given fills.made.fit));
-      short = all_first_part (IsShort f.size) first (last_block bs) (subst (All (IsShort f.size)) split fills.short);
-      blocks = omega arith;
-    }, same)
+    let n = ap length same in (
+      record {
+        block_size = fills.size;
+        some = some_flat f.size (but_last bs) filled (omega arith);
+        range = all_first_part InRange first (last_block bs) (subst (All InRange) split fills.range);
+        of_bytes = all_first_part HasBytes first (last_block bs) (subst (All HasBytes) (fills.records ∙ split) (all_bytes fills.given fills.made.fit));
+        short = all_first_part (IsShort f.size) first (last_block bs) (subst (All (IsShort f.size)) split fills.short);
+        blocks = omega arith;
+      },
+      same,
+    )
 
 some_known : (a b : List ℕ) (o : Option (List ℕ)) → o ≡ Some a → o ≡ Some b → a ≡ b
 some_known a b o e d = let k : ◌≡◌ {A = Option (List ℕ)} (Some a) (Some b) = sym e ∙ d in cc
@@ -88,7 +89,7 @@ same_front f block rs qs h k a b some other (suc n) more =
     let two = front_file f qs k other (omega arith) in
     let texts = some_known (blocks_text f.size 0 (but_last (blocks f.size rs))) (blocks_text f.size 0 (but_last (blocks f.size qs))) block a b in
     let same : BlockText f.size (flat_map (λ (b : List Rec). b) (but_last (blocks f.size rs))) ≡ BlockText f.size (flat_map (λ (b : List Rec). b) (but_last (blocks f.size qs))) =
-        ap (λ l. blocks_text f.size 0 l) one.1 ∙ (texts ∙ ap (λ l. blocks_text f.size 0 l) (sym two.1)) in
+    ap (λ l. blocks_text f.size 0 l) one.1 ∙ (texts ∙ ap (λ l. blocks_text f.size 0 l) (sym two.1)) in
     (one_file f.size f.size (flat_map (λ (b : List Rec). b) (but_last (blocks f.size rs))) (flat_map (λ (b : List Rec). b) (but_last (blocks f.size qs))) one.0 two.0 same).1
 
 one_some : (f : FillingView) (block : Option (List ℕ)) (rs qs : List Rec) → Fills f rs → Fills f qs → IsTextButLast f.size rs block → IsTextButLast f.size qs block
@@ -100,8 +101,8 @@ one_some f block rs qs h k a b some other =
     let split = parted f.size rs some in
     let apart = parted f.size qs other in
     let last = one_block f.here (last_block (blocks f.size rs)) (last_block (blocks f.size qs)) h.here k.here
-      (all_last_part InRange first (last_block (blocks f.size rs)) (subst (All InRange) split h.range))
-      (all_last_part InRange second (last_block (blocks f.size qs)) (subst (All InRange) apart k.range)) in
+    (all_last_part InRange first (last_block (blocks f.size rs)) (subst (All InRange) split h.range))
+    (all_last_part InRange second (last_block (blocks f.size qs)) (subst (All InRange) apart k.range)) in
     split ∙ (ap (λ (l : List Rec). l ++ last_block (blocks f.size rs)) front ∙ (ap (λ (l : List Rec). second ++ l) last ∙ sym apart))
 
 pub one_lane : OneLane

@@ -1,17 +1,16 @@
 -- What a lane keeps of its records, with one record more.
-use Rattle.std.proofs.Common.{◌≡◌, ℕ, mul-add, zero, suc, ◌+◌, ◌-◌, ◌*◌, ◌<◌, ◌≤◌, List, [], ◌∷◌, ◌++◌, length, length-append, map, true, false, IsTrue, IsSome, inl, inr, refl, sym, ap, ◌∙◌, subst, arith, append_assoc, append-nil}
+use Rattle.std.proofs.Common.{◌≡◌, ℕ, mul-add, ◌+◌, ◌-◌, ◌*◌, ◌<◌, ◌≤◌, List, [], ◌∷◌, ◌++◌, length, length-append, false, IsTrue, IsSome, inl, inr, refl, sym, ap, ◌∙◌, subst, arith, append_assoc}
 use Rattle.std.specs.Prelude.{All}
 use Rattle.std.proofs.lemmas.Bool.{cases_lt}
 use Rattle.std.proofs.lemmas.List.Elements.{All-push}
 use Rattle.st_base.specs.Records.{Rec, InRange}
 use Rattle.st_block.specs.BlockText.{IsBlockSize, IsShort, padded_len, room, used_bytes, blocks}
 use Rattle.st_block.specs.Position.{positions_from, positions_in_blocks, positions}
-use Rattle.st_block.specs.Builder.{BlockBuilderView, HoldsRecords}
-use Rattle.st_block.specs.Scan.{PositionedRecord, positions_in, records_in}
+use Rattle.st_block.specs.Builder.{HoldsRecords}
+use Rattle.st_block.specs.Scan.{PositionedRecord}
 use Rattle.st_block.proofs.Rooms.{room_fits, used_least}
 use Rattle.st_block.proofs.Going.{map_push, places_push}
 use Rattle.st_index.specs.Maker.{HasRecords}
-use Rattle.st_index.specs.declared.maker.IndexMaker.{IndexMaker}
 use Rattle.st_lane.specs.Filling.{FillingView, but_last, last_block, Fills, IsSteady}
 use Rattle.st_lane.proofs.Blocks.{but_last-push, last-push, joins_last, begins_last, whole_blocks, positions_from-push}
 
@@ -100,16 +99,16 @@ fills_joined old new rs r f range begun fits less same most count done here made
     let front = but_last-push (but_last bs) (last_block bs ++ r ∷ []) in
     let last = last-push (but_last bs) (last_block bs ++ r ∷ []) in
     let places : positions old.size (rs ++ r ∷ []) ≡ positions old.size rs ++ (old.size * old.done + old.here.used) ∷ [] =
-        position_joined old.size rs r room_here
-        ∙ (ap (λ n. positions old.size rs ++ (old.size * n + used_bytes (last_block bs)) ∷ []) (sym f.done)
-        ∙ ap (λ n. positions old.size rs ++ (old.size * old.done + n) ∷ []) (sym used)) in
+    position_joined old.size rs r room_here
+    ∙ (ap (λ n. positions old.size rs ++ (old.size * n + used_bytes (last_block bs)) ∷ []) (sym f.done)
+    ∙ ap (λ n. positions old.size rs ++ (old.size * old.done + n) ∷ []) (sym used)) in
     let parts = length-append (but_last bs) ((last_block bs ++ r ∷ []) ∷ []) in
     let many = ap length joined in
     let d = f.done in
     fills_push old new rs r (old.size * old.done + old.here.used) f range (omega arith) same most count (omega arith) places
-      (done ∙ (f.done ∙ ap length (sym (ap but_last joined ∙ front))))
-      (subst (HoldsRecords new.here) (sym (ap last_block joined ∙ last)) (here (last_block bs) f.here))
-      made
+    (done ∙ (f.done ∙ ap length (sym (ap but_last joined ∙ front))))
+    (subst (HoldsRecords new.here) (sym (ap last_block joined ∙ last)) (here (last_block bs) f.here))
+    made
 
 -- in the next block
 pub fills_begun : (old new : FillingView) (rs : List Rec) (r : Rec) → Fills old rs → InRange r → IsShort old.size r → 1 ≤ old.records
@@ -130,14 +129,14 @@ fills_begun old new rs r f range short some full less same most count done here 
     let e = f.done in
     let now : new.done ≡ length bs = omega arith in
     let places : positions old.size (rs ++ r ∷ []) ≡ positions old.size rs ++ (old.size * (old.done + 1) + 48) ∷ [] =
-        position_begun old.size rs r many no_room
-        ∙ ap (λ n. positions old.size rs ++ (old.size * (n + 1) + 48) ∷ []) (sym f.done) in
+    position_begun old.size rs r many no_room
+    ∙ ap (λ n. positions old.size rs ++ (old.size * (n + 1) + 48) ∷ []) (sym f.done) in
     let longer = ap length begun in
     let one = length-append bs ((r ∷ []) ∷ []) in
     fills_push old new rs r (old.size * (old.done + 1) + 48) f range short same most count (omega arith) places
-      (now ∙ ap length (sym (ap but_last begun ∙ but_last-push bs (r ∷ []))))
-      (subst (HoldsRecords new.here) (sym (ap last_block begun ∙ last-push bs (r ∷ []))) here)
-      made
+    (now ∙ ap length (sym (ap but_last begun ∙ but_last-push bs (r ∷ []))))
+    (subst (HoldsRecords new.here) (sym (ap last_block begun ∙ last-push bs (r ∷ []))) here)
+    made
 
 -- the same records, with an index of the same
 pub fills_same : (old new : FillingView) (rs : List Rec) → Fills old rs → new.size ≡ old.size → new.most ≡ old.most → new.records ≡ old.records → new.done ≡ old.done → new.here ≡ old.here

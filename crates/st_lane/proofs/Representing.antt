@@ -1,12 +1,12 @@
 -- Which records a lane represents after a push, and when a push ends a list.
-use Rattle.std.proofs.Common.{◌≡◌, ℕ, ◌+◌, ◌<◌, ◌≤◌, Option, Some, None, List, [], ◌∷◌, ◌++◌, length, length-append, refl, sym, ap, ◌∙◌, subst, arith}
+use Rattle.std.proofs.Common.{◌≡◌, ℕ, ◌+◌, ◌<◌, ◌≤◌, Option, Some, None, List, [], ◌∷◌, ◌++◌, length, length-append, sym, ap, ◌∙◌, subst, arith}
 use Rattle.std.specs.Io.KnownBytes.{Appends}
 use Rattle.st_base.specs.Records.{Rec}
-use Rattle.st_block.specs.BlockText.{IsShort, room, used_bytes, blocks, block_text, blocks_text}
+use Rattle.st_block.specs.BlockText.{room, used_bytes, blocks, block_text, blocks_text}
 use Rattle.st_block.proofs.Going.{text_push}
 use Rattle.st_lane.specs.Cut.{EndsList}
 use Rattle.st_lane.specs.Filling.{FillingView, but_last, last_block, Fills, IsFull}
-use Rattle.st_lane.specs.Lane.{LaneView, IsTextButLast, Represents}
+use Rattle.st_lane.specs.Lane.{LaneView, Represents}
 use Rattle.st_lane.proofs.Blocks.{but_last-push, joins_last, begins_last, whole_blocks}
 
 -- a record has room in the last block, or none
@@ -88,8 +88,8 @@ represents_begun written old new rs r was fills some l put size index broken =
     let front : but_last (blocks f.size (rs ++ r ∷ [])) ≡ but_last bs ++ last_block bs ∷ [] = ap but_last begun ∙ (but_last-push bs (r ∷ []) ∙ sym (whole_blocks f.size rs many)) in
     let number : 0 + length (but_last bs) ≡ f.done = let d = was.fills.done in omega arith in
     let text : blocks_text f.size 0 (but_last bs) ++ block_text f.size f.done (last_block bs) ≡ blocks_text f.size 0 (but_last (blocks f.size (rs ++ r ∷ []))) =
-        ap (λ n. blocks_text f.size 0 (but_last bs) ++ block_text f.size n (last_block bs)) (sym number)
-        ∙ (sym (text_push f.size 0 (but_last bs) (last_block bs)) ∙ ap (λ l. blocks_text f.size 0 l) (sym front)) in
+    ap (λ n. blocks_text f.size 0 (but_last bs) ++ block_text f.size n (last_block bs)) (sym number)
+    ∙ (sym (text_push f.size 0 (but_last bs) (last_block bs)) ∙ ap (λ l. blocks_text f.size 0 l) (sym front)) in
     record {
       whole = broken ∙ was.whole;
       fills = fills;

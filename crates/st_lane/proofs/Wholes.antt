@@ -1,17 +1,17 @@
 -- The files of a lane that was sealed are a whole pair.
-use Rattle.std.proofs.Common.{◌≡◌, ℕ, zero, suc, ◌+◌, ◌<◌, ◌≤◌, ◌^◌, Option, Some, None, List, [], ◌∷◌, ◌++◌, length, length-append, map, refl, sym, ap, ◌∙◌, subst, arith}
+use Rattle.std.proofs.Common.{◌≡◌, ℕ, zero, suc, ◌+◌, ◌≤◌, Option, Some, List, [], ◌∷◌, ◌++◌, length, length-append, sym, ap, ◌∙◌, subst, arith}
 use Rattle.std.specs.Prelude.{All}
 use Rattle.std.specs.Io.KnownBytes.{Appends}
 use Rattle.st_base.specs.Records.{Rec}
 use Rattle.st_block.specs.BlockText.{HasBytes, HasFile, BlockText, blocks, block_text, blocks_text}
-use Rattle.st_block.specs.Scan.{PositionedRecord, IsFile, records_in, positions_in}
+use Rattle.st_block.specs.Scan.{PositionedRecord, records_in}
 use Rattle.st_block.specs.Position.{positions}
 use Rattle.st_block.proofs.Going.{text_push}
 use Rattle.st_rows.specs.Rows.{AllFit}
 use Rattle.st_index.specs.Maker.{HasRecords}
 use Rattle.st_index.specs.Write.{IsIndexOf}
-use Rattle.st_lane.specs.Filling.{FillingView, but_last, last_block, Fills}
-use Rattle.st_lane.specs.Lane.{LaneView, IsTextButLast, Represents}
+use Rattle.st_lane.specs.Filling.{but_last, last_block}
+use Rattle.st_lane.specs.Lane.{LaneView, Represents}
 use Rattle.st_lane.specs.Sealing.{AreWhole}
 use Rattle.st_lane.proofs.Blocks.{whole_blocks}
 use Rattle.st_lane.proofs.Representing.{known_after}
@@ -50,7 +50,7 @@ whole_pair written l rs block index sealed_block sealed_index table was some put
     let limit = fills.few in
     let few : length bs ≤ 4095 = omega arith in
     let text : blocks_text f.size 0 (but_last bs) ++ block_text f.size f.done (last_block bs) ≡ BlockText f.size rs =
-        ap (λ k. blocks_text f.size 0 (but_last bs) ++ block_text f.size k (last_block bs)) d ∙ whole_text f.size rs many in
+    ap (λ k. blocks_text f.size 0 (but_last bs) ++ block_text f.size k (last_block bs)) d ∙ whole_text f.size rs many in
     let same = fills.records in
     let file : HasFile f.size rs = record { block_size = fills.size; some = many; range = fills.range; of_bytes = subst (All HasBytes) same (all_bytes fills.given fills.made.fit); short = fills.short; blocks = few } in
     let made = indexed fills.given fills.made in

@@ -1,13 +1,10 @@
 -- What a lane represents, and what its calls make of it.
-use Rattle.std.specs.Prelude.{◌≡◌, ◌≢◌, ℕ, ◌+◌, ◌<◌, ◌≤◌, ◌⊎◌, ◌↔◌, Bool, true, false, List, [], ◌∷◌, ◌++◌, length, Option, Some, Result, Ok, Err, IsSome}
+use Rattle.std.specs.Prelude.{◌≡◌, ℕ, ◌+◌, Bool, true, false, List, [], ◌∷◌, ◌++◌, length, Option, Some, Result, Ok, Err}
 use Rattle.st_base.specs.Records.{Rec}
-use Rattle.st_base.specs.Faults.{Rose}
-use Rattle.st_block.specs.BlockText.{IsShort, BlockText, blocks, blocks_text}
-use Rattle.st_block.specs.Scan.{PositionedRecord, records_in}
-use Rattle.st_rows.specs.Whole.{IsWhole}
+use Rattle.st_block.specs.BlockText.{IsShort, blocks, blocks_text}
 use Rattle.st_disk.specs.declared.naming.Kind.TheVariants as kind
 use Rattle.st_shelf.specs.Origins.{DraftOrigin}
-use Rattle.st_lane.specs.Filling.{FillingView, but_last, Fills, IsFull}
+use Rattle.st_lane.specs.Filling.{FillingView, but_last, Fills}
 use Rattle.st_lane.specs.declared.errors.Pushed.{Pushed}
 use Rattle.st_lane.specs.declared.errors.Pushed.TheVariants.{Kept, Ready}
 use Rattle.st_lane.specs.declared.errors.LaneErr.{LaneErr}

@@ -1,5 +1,5 @@
 -- Laws of lanes and of cuts, which the functions of `laws` ensure.
-use Rattle.std.specs.Prelude.{◌≡◌, ℕ, ◌<◌, ◌≤◌, Option, List, [], ◌∷◌, ◌++◌, length, All}
+use Rattle.std.specs.Prelude.{◌≡◌, ℕ, ◌≤◌, Option, List, [], ◌∷◌, ◌++◌, length, All}
 use Rattle.st_base.specs.Records.{Rec}
 use Rattle.st_block.specs.BlockText.{IsShort, blocks}
 use Rattle.st_lane.specs.Cut.{Cut, EndsList}

@@ -37,5 +37,7 @@ pub enum SealErr<T: Draft> {
         index: End<T>,
     },
     /// Out of memory. Nothing was written, and the lane is as it was.
-    NoMemory { lane: Lane<T> },
+    NoMemory {
+        lane: Lane<T>,
+    },
 }

@@ -45,11 +45,7 @@ fn again<'a>(r: &RecordRef<'a>) -> RecordRef<'a>
 ///
 /// `Failed` comes only if the sink's `faults` rose in this call; a prefix of the block then follows
 /// what the sink had.
-fn put_block<S: Sink>(
-    here: &mut BlockBuilder,
-    number: u32,
-    sink: &mut S,
-) -> Result<(), Failed>
+fn put_block<S: Sink>(here: &mut BlockBuilder, number: u32, sink: &mut S) -> Result<(), Failed>
     requires some { 1 ≤ here.old.count }
     requires below { number < MAX_BLOCKS }
     ensures bytes { (rs : List Rec) → HoldsRecords here.old rs

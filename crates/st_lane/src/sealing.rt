@@ -37,10 +37,7 @@ pub(crate) fn put_pair<T: Draft>(
 }
 
 /// Seals both drafts. If one fails, both come back.
-pub(crate) fn seal_both<T: Draft>(
-    block: T,
-    index: T,
-) -> Result<SealedPair<T>, (End<T>, End<T>)>
+pub(crate) fn seal_both<T: Draft>(block: T, index: T) -> Result<SealedPair<T>, (End<T>, End<T>)>
     // the files
     ensures bytes { IfOk result (λ p. (T.sealed_bytes p.block ≡ T.written block)
         × (T.sealed_bytes p.index ≡ T.written index)) }

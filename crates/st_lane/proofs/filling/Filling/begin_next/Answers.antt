@@ -1,8 +1,7 @@
-use Rattle.std.proofs.Common.{◌≡◌, ℕ, ◌+◌, ◌*◌, ◌<◌, ◌≤◌, List, ◌∷◌, [], ◌++◌, length, refl, sym, ap, ◌∙◌, subst, arith}
+use Rattle.std.proofs.Common.{◌≡◌, ℕ, ◌+◌, ◌*◌, ◌<◌, ◌≤◌, ◌∷◌, [], ◌++◌, length, refl, sym, ap, ◌∙◌, subst, arith}
 use Rattle.std.specs.Io.KnownBytes.{Appends}
-use Rattle.st_base.specs.Records.{Rec, InRange}
+use Rattle.st_base.specs.Records.{Rec}
 use Rattle.st_block.specs.BlockText.{room, IsShort, block_text, blocks}
-use Rattle.st_block.specs.Scan.{PositionedRecord}
 use Rattle.st_index.specs.Maker.{HasRecords}
 use Rattle.st_lane.specs.Filling.{FillingView, last_block, Fills}
 use Rattle.st_lane.specs.contracts.filling.Filling.{the_view}
@@ -59,8 +58,8 @@ returns-in-Ok-written-clause-begins g c rs f =
     let full : old.size < old.here.used + room r = subst (λ (x : FillingView). x.size < x.here.used + room r) (sym c.self.view_is) c.requires.full in
     let next : old.done + 1 < old.most = subst (λ (x : FillingView). x.done + 1 < x.most) (sym c.self.view_is) c.requires.next in
     let fills = fills_begun old _ rs r was c.again.ensures.range short some full next refl refl refl refl
-      (c.add-2.ensures.records [] c.put_block-written.ensures.none)
-      (λ given h. subst (λ (p : ℕ). HasRecords c.add.new.self (given ++ (p, r) ∷ [])) c.position_in-position.ensures.value (subst (λ (x : Rec). HasRecords c.add.new.self (given ++ (c.position_in-position.result, x) ∷ [])) c.again.ensures.same (c.in-Ok.ensures.records given h))) in
+    (c.add-2.ensures.records [] c.put_block-written.ensures.none)
+    (λ given h. subst (λ (p : ℕ). HasRecords c.add.new.self (given ++ (p, r) ∷ [])) c.position_in-position.ensures.value (subst (λ (x : Rec). HasRecords c.add.new.self (given ++ (c.position_in-position.result, x) ∷ [])) c.again.ensures.same (c.in-Ok.ensures.records given h))) in
     let put = c.in-Ok-written.ensures.bytes (last_block (blocks old.size rs)) was.here in
     let at : ℕ → FillingView → Type 0 = λ n x. Appends (g.S.Sink.written c.args.sink.now) (g.S.Sink.written c.put_block-written.new.sink) (block_text n x.done (last_block (blocks x.size rs))) in
     (fills, subst (λ (x : FillingView). at x.size x) c.self.view_is (subst (λ (n : ℕ). at n old) c.self.invariant.same put))

@@ -1,5 +1,4 @@
-use Rattle.std.proofs.Common.{◌≡◌, ℕ, Some, List, [], ◌++◌, refl, sym, ap, ◌∙◌, subst}
-use Rattle.std.specs.Io.KnownBytes.{Appends}
+use Rattle.std.proofs.Common.{◌≡◌, [], ◌++◌, sym, ap, ◌∙◌, subst}
 use Rattle.st_base.specs.MemoryViews.{SinkView}
 use Rattle.st_index.specs.Maker.{HasRecords}
 use Rattle.st_index.specs.Write.{IsIndexOf, index_text}

@@ -1,5 +1,4 @@
-use Rattle.std.proofs.Common.{◌≡◌, ℕ, ◌+◌, ◌≤◌, ◌<◌, length, subst, arith}
-use Rattle.st_base.specs.Records.{Rec}
+use Rattle.std.proofs.Common.{◌+◌, ◌≤◌, ◌<◌, subst, arith}
 use Rattle.st_block.specs.BlockText.{IsShort, room}
 use Rattle.st_lane.specs.Filling.{FillingView, IsFull}
 use Rattle.st_lane.specs.contracts.filling.Filling.{the_view}

@@ -1,6 +1,6 @@
-use Rattle.std.proofs.Common.{◌≡◌, ℕ, ◌+◌, ◌<◌, ◌≤◌, Result, Ok, Err, List, [], ◌∷◌, ◌++◌, length, refl, sym, ap, ◌∙◌, subst, arith}
+use Rattle.std.proofs.Common.{◌≡◌, ◌+◌, ◌<◌, ◌≤◌, Result, Ok, Err, List, length, refl, sym, ap, ◌∙◌, subst}
 use Rattle.st_base.specs.Records.{Rec}
-use Rattle.st_block.specs.BlockText.{IsShort, room}
+use Rattle.st_block.specs.BlockText.{room}
 use Rattle.st_lane.specs.Filling.{FillingView, IsFull, Fills, IsPlace}
 use Rattle.st_lane.specs.Cut.{EndsList}
 use Rattle.st_lane.specs.Lane.{LaneView, Represents, Pushes}
