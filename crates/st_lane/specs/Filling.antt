@@ -53,7 +53,7 @@ pub record Fills (f : FillingView) (rs : List Rec) : Type 0 where
   pub range : All InRange rs
   pub short : All (IsShort f.size) rs
 
--- what always holds of the numbers, until a block couldn't be written
+-- what always holds of the numbers, also if a block couldn't be written
 pub record IsSteady (f : FillingView) : Type 0 where
   pub size : IsBlockSize f.size
   pub same : f.here.size ≡ f.size

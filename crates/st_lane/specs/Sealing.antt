@@ -29,7 +29,8 @@ OneFailed block_before block_now index_before index_now =
 
 -- both drafts came back, sealed or not, and one of them failed
 pub record CameBack {T S : Type 0} (origin : T → DraftOrigin) (sealed_origin : S → DraftOrigin)
-    (faults : T → ℕ) (sealed_faults : S → ℕ) (block index : T) (block_now index_now : End T S) : Type 0 where
+    (faults : T → ℕ) (sealed_faults : S → ℕ) (block index : T) (block_now index_now : End T S)
+    : Type 0 where
   pub block_is : end_origin origin sealed_origin block_now ≡ origin block
   pub index_is : end_origin origin sealed_origin index_now ≡ origin index
   pub failed : OneFailed (faults block) (end_faults faults sealed_faults block_now)

@@ -48,11 +48,13 @@ fn again<'a>(r: &RecordRef<'a>) -> RecordRef<'a>
 fn put_block<S: Sink>(here: &mut BlockBuilder, number: u32, sink: &mut S) -> Result<(), Failed>
     requires some { 1 ≤ here.old.count }
     requires below { number < MAX_BLOCKS }
+    // what is put, and the block that begins
     ensures bytes { (rs : List Rec) → HoldsRecords here.old rs
         → Puts (S.written sink.old) (S.written sink.new) (block_text here.old.size number rs)
         result }
     ensures size { here.new.size ≡ here.old.size }
     ensures none { HoldsRecords here.new [] }
+    // the sink
     ensures cause { HasCause (S.faults sink.old) (S.faults sink.new) result }
     ensures rest { S.beside sink.new ≡ S.beside sink.old }
 {
@@ -112,6 +114,7 @@ impl Filling {
         requires size { IsBlockSize size }
         requires some { 1 ≤ most }
         requires most { most ≤ MAX_BLOCKS }
+        // what is kept
         ensures numbers { IfOk result
             (λ f. (f.size ≡ size) × (f.most ≡ most) × (f.records ≡ 0)) }
         ensures fills { IfOk result (λ f. Fills f []) }
@@ -155,6 +158,7 @@ impl Filling {
     /// After `NoMemory` the records are as they were.
     pub(crate) fn join(&mut self, r: RecordRef<'_>) -> Result<(), NoMemory>
         requires { self.old.here.used + room r ≤ self.old.size }
+        // which records there are
         ensures adds { Adds self.old self.new r.entry result }
         ensures size { (self.new.size ≡ self.old.size) × (self.new.most ≡ self.old.most) }
         ensures count { OnOk result (self.new.records ≡ self.old.records + 1) }
@@ -170,8 +174,7 @@ impl Filling {
         Ok(())
     }
 
-    /// Puts the block at hand, and begins the next one with this record. That block may be added to
-    /// the file.
+    /// Puts the block at hand, and begins the next one with this record, which has its place there.
     ///
     /// The index takes the record first: after `NoMemory` nothing was put, and the records are as
     /// they were. `WriteFault` comes only if the sink's `faults` rose in this call; the records are
@@ -181,15 +184,14 @@ impl Filling {
         r: RecordRef<'_>,
         sink: &mut S,
     ) -> Result<(), BuildErr>
-        requires short { IsShort self.old.size r }
-        requires some { 1 ≤ self.old.records }
-        requires full { self.old.size < self.old.here.used + room r }
-        requires next { self.old.done + 1 < self.old.most }
+        requires { IsPlace self.old r Place.Next }
+        // what is kept
         ensures begins { (rs : List Rec) → Fills self.old rs
             → Begins (S.written sink.old) (S.written sink.new) self.old self.new r.entry rs result }
         ensures size { (self.new.size ≡ self.old.size) × (self.new.most ≡ self.old.most) }
         ensures count { MatchResult result (λ _. self.new.records ≡ self.old.records + 1)
             (λ _. self.new.records ≡ self.old.records) }
+        // the sink
         ensures cause { HasCauseOf BuildErr.WriteFault (S.faults sink.old) (S.faults sink.new)
             result }
         ensures memory { result ≡ Err BuildErr.NoMemory → sink.new ≡ sink.old }

@@ -66,6 +66,7 @@ impl<T: Draft> Lane<T> {
         requires some { 1 ≤ blocks }
         requires most { blocks ≤ MAX_BLOCKS }
         requires kinds { AreOfKinds (T.origin block) (T.origin index) }
+        // the lane, or the drafts
         ensures begun { IfOk result (Begun block index size blocks) }
         ensures records { T.written block ≡ Some [] → T.written index ≡ Some []
             → IfOk result (λ l. Represents T.written l []) }

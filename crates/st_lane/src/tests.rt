@@ -48,7 +48,7 @@ const INDEX: &[u8] = b"\x00\x01\x18\x00\x00\x00\x00\x01\x00\x00\x00\x01\x3b\x9a\
 /// A body of zeros, one byte too long for a block of 4,096 bytes.
 const ZEROS: [u8; 4001] = [0; 4001];
 
-/// A lane of at most `blocks` blocks of 4,096 bytes, or none where a draft was not created or memory
+/// A lane of at most `blocks` blocks of 4,096 bytes, or none if a draft was not created or memory
 /// ran out. It takes no name that files are settled under.
 fn begin(shelf: &mut MemShelf, alloc: Global, blocks: u32) -> Option<Lane<MemDraft>>
     requires some { 1 ≤ blocks }

@@ -13,11 +13,8 @@ use Rattle.st_lane.proofs.Representing.{full_ends, here_goes_on, next_goes_on, r
 use Rattle.st_lane.proofs.lane.Lane.push.Goals as goal
 use Rattle.st_lane.proofs.lane.Lane.push.Goals.{in-Ok, in-Err}
 
-pub begin_next-requires-clause-some : goal.begin_next-requires-clause-some
-begin_next-requires-clause-some g c = (c.in-Next.ensures c.args.r (ap (λ (x : Rec). length x.body) (sym c.r.view_is))).2
-
-pub begin_next-requires-clause-next : goal.begin_next-requires-clause-next
-begin_next-requires-clause-next g c = (c.in-Next.ensures c.args.r (ap (λ (x : Rec). length x.body) (sym c.r.view_is))).3
+pub begin_next-requires : goal.begin_next-requires
+begin_next-requires g c = c.in-Next.ensures c.args.r (ap (λ (x : Rec). length x.body) (sym c.r.view_is))
 
 pub returns-in-Nowhere-clause-ready : goal.returns-in-Nowhere-clause-ready
 returns-in-Nowhere-clause-ready g c =
