@@ -107,8 +107,6 @@ impl Model for Filling {
 }
 
 impl Filling {
-    ghost use Rattle.std.specs.Prelude.{◌≡◌, ◌≤◌, ◌<◌, ◌+◌, [], List, length, OnOk, OnErr, IfOk, IfErr, MatchResult};
-
     /// Nothing yet, of a file of at most `most` blocks of `size` bytes.
     pub(crate) fn new(alloc: Global, size: u32, most: u32) -> Result<Filling, NoMemory>
         requires size { IsBlockSize size }
