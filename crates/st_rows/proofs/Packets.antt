@@ -1,5 +1,5 @@
 -- The packets of a block file: their positions rise and fit, and so do their keys.
-use Rattle.std.proofs.Common.{◌≡◌, ℕ, ◌<◌, ◌^◌, List, length, get_or, All, slice_index_or, sym, ap, ◌∙◌, subst, arith, ⊎_elim}
+use Rattle.std.proofs.Common.{◌≡◌, ℕ, ◌<◌, List, length, get_or, All, slice_index_or, sym, ap, ◌∙◌, subst, arith, ⊎_elim}
 use Rattle.std.proofs.lemmas.List.{get_or_default, get_or-map, length-map}
 use Rattle.std.proofs.lemmas.List.Elements.{All-contains}
 use Rattle.std.proofs.lemmas.Bool.{cases_order}
@@ -11,6 +11,7 @@ use Rattle.st_block.specs.BlockText.{HasBytes}
 use Rattle.st_block.specs.Position.{positions}
 use Rattle.st_block.specs.Scan.{PositionedRecord, positions_in, records_in}
 use Rattle.st_block.proofs.Rising.{positions_rise, positions_fit}
+use Rattle.st_rows.specs.Rows.{FitsFields}
 use Rattle.st_rows.specs.Laws.{FilePackets, OnePacketAt, PacketKeysFit}
 
 -- the position of a packet, by the list of positions
@@ -53,5 +54,5 @@ one_packet_at given p r q rise (i, less, e) (j, under, f) =
 
 pub packet_keys_fit : PacketKeysFit
 packet_keys_fit given k p fit (r, c, h) =
-    let (place, sec, nsec, bytes) = All-contains (λ (x : PositionedRecord). (x.0 < 2 ^ 32) × (x.1.sec < 2 ^ 32) × (x.1.nsec < 2 ^ 32) × HasBytes x.1) given (p, r) fit c in
+    let (place, sec, nsec, bytes) = All-contains FitsFields given (p, r) fit c in
     ⊎_elim (λ e. subst (λ (j : Key). Fits j) (sym e) sec) (λ f. frame_fits r.body k bytes f) h
