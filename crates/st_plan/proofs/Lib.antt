@@ -7,4 +7,5 @@ mod Faults
 mod Back
 mod Finish
 mod Texts
+mod Named
 pub mod OnePlan

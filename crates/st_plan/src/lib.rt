@@ -21,8 +21,11 @@ mod command;
 mod jobs;
 mod laws;
 mod limits;
+mod operands;
+mod options;
 mod plans;
 
-pub use jobs::{Once, Plan};
+pub use jobs::{Job, LanePlan, LoadPlan, Plan, QueryPlan, SpoolPlan};
 pub use laws::one_plan;
+pub use limits::{DEFAULT_BLOCKS, DEFAULT_SIZE};
 pub use plans::plan_of;

@@ -1,5 +1,5 @@
 -- From a reply to the query of a plan to what the words of a command line ask for.
-use Rattle.std.proofs.Common.{◌≡◌, ◌≢◌, ℕ, List, [], Option, refl, sym, subst, inl, inr}
+use Rattle.std.proofs.Common.{◌≡◌, ◌≢◌, ℕ, List, [], Option, Some, None, MatchOption, refl, sym, subst, inl, inr}
 use Rattle.std.proofs.KnownBytes.{Appends-nil, Keeps-refl}
 use Rattle.st_base.specs.Records.{Rec}
 use Rattle.st_base.specs.Ticks.{Ticks}
@@ -7,6 +7,8 @@ use Rattle.st_pcap.specs.declared.errors.PcapErr.{PcapErr}
 use Rattle.st_pcap.specs.Input.{Input, End, Whole, Refused}
 use Rattle.st_pcap.proofs.Uniqueness.{one_input}
 use Rattle.st_plan.specs.Jobs.{Job}
+use Rattle.st_plan.specs.Plans as plans
+use Rattle.st_plan.specs.declared.jobs.Plan.{Plan}
 use Rattle.st_plan.specs.declared.jobs.Plan.TheVariants.{Once}
 use Rattle.st_plan.proofs.OnePlan.{one_plan}
 use Rattle.st_query.specs.declared.errors.QueryErr.{QueryErr}
@@ -78,6 +80,12 @@ job_leaves words job now bytes BadQuery message old new plan (output, asked, put
 job_leaves words job now bytes DiskFault message old new plan (output, asked, put) = (output, (job, plan, asked), put)
 job_leaves words job now bytes Damaged message old new plan (output, asked, put) = (output, (job, plan, asked), put)
 job_leaves words job now bytes StampsSpent message old new plan (output, asked, put) = (output, (job, plan, asked), put)
+
+-- the job of a plan, if it is one of `once`, is that of the words
+pub once_only : (words : List (List ℕ)) (p : Plan) (found : Option Job) → plans.IsPlan words p → MatchOption found ((job : Job) → Once job ≡ p → ⊥) (λ job. Once job ≡ p)
+    → MatchOption found ((job : Job) → IsPlan words job → ⊥) (λ job. IsPlan words job)
+once_only words p None is none = λ job asked. none job (one_plan words (Once job) p asked is)
+once_only words p (Some job) is e = subst (plans.IsPlan words) (sym e) is
 
 once_same : (a b : Job) → Once a ≡ Once b → a ≡ b
 once_same a b e = cc
