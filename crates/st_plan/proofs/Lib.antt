@@ -9,3 +9,4 @@ mod Finish
 mod Texts
 mod Named
 pub mod OnePlan
+mod Standing

@@ -3,3 +3,4 @@ pub mod Rules
 pub mod Jobs
 pub mod Plans
 pub mod Found
+pub mod Places

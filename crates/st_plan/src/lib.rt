@@ -23,9 +23,11 @@ mod laws;
 mod limits;
 mod operands;
 mod options;
+mod places;
 mod plans;
 
 pub use jobs::{Job, LanePlan, LoadPlan, Plan, QueryPlan, SpoolPlan};
 pub use laws::one_plan;
 pub use limits::{DEFAULT_BLOCKS, DEFAULT_SIZE};
+pub use places::spool_word;
 pub use plans::plan_of;
