@@ -17,10 +17,11 @@ name_of bytes = codes "bytes"
 name_of block = codes "block"
 name_of blocks = codes "blocks"
 
--- the argument that names an option, and the one that has its value too
+-- the argument that names an option
 abbrev pub long_name : Valued → Text
 long_name x = codes "--" ++ name_of x
 
+-- the argument that names it and has its value too
 abbrev pub name_and_value : Valued → Text → Text
 name_and_value x v = codes "--" ++ (name_of x ++ (codes "=" ++ v))
 
@@ -29,10 +30,11 @@ pub record Options : Type 0 where
   pub ns : Bool
   pub value : Valued → Option Text
 
+-- no option is given
 abbrev pub no_options : Options
 no_options = record { ns = false; value = λ _. None }
 
--- the options with a value for this one too
+-- these options and this value of one of them
 abbrev pub with_value : Options → Valued → Text → Options
 with_value o x v = record o {
   value = λ y. if bytes_eq (name_of x) (name_of y) then Some v else o.value y;

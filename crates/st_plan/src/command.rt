@@ -1,5 +1,5 @@
-//! The arguments after the program's name as one simple command: options in any place, and
-//! operands.
+//! The arguments after the program's name as one simple command: the options of all commands in any
+//! place, and operands.
 
 ghost use Rattle.std.specs.Prelude.{◌≡◌, ◌≢◌, IfOk, IsNone, MatchOption, map, string_bytes, true, false};
 ghost use Rattle.clap.specs.Words.{rule_of, app_of, found_of};
