@@ -7,7 +7,7 @@ ghost use Rattle.st_plan.specs.Jobs.{Job as JobView};
 ghost use Rattle.st_query.specs.declared.nodes.Node.{Node};
 ghost use Rattle.st_query.specs.Spelling.{Spells};
 ghost use Rattle.steno.specs.Messages.{line_of};
-ghost use Rattle.steno.specs.Plans.{IsPlan};
+ghost use Rattle.steno.specs.Plans.{IsOnce};
 ghost use Rattle.steno.specs.Running.{EndsInput, EndsAndTells, EndsRun, TellsRun, IsRunMessage, AsksClock, HasWordCause, HasFaultCause, NoneRose, EndsBy, LeavesAlone, LeavesStreams};
 
 use crate::once::once;
@@ -51,7 +51,7 @@ pub fn run<I: Source, O: Sink, E: Sink, C: Clock>(
 
     // Where nothing failed, the input's end decides; it was read to its end, or to its refusal.
     ensures complete { (asked : JobView) (bytes : List ℕ) (q : Node) (rs : List Rec) (end : End)
-        → IsPlan (map string_bytes words.now) asked → Spells asked.query q
+        → IsOnce (map string_bytes words.now) asked → Spells asked.query q
         → I.left input.old ≡ Some bytes → Input bytes rs end
         → NoneRose (I.faults input.old) (I.faults input.new) (O.faults out.old) (O.faults out.new)
         → EndsBy end result.status }
@@ -108,8 +108,8 @@ fn obey<I: Source, O: Sink, C: Clock>(
 // The job of the arguments, if their plan is one of `once`; no other command is built.
 fn once_of<'a>(alloc: Global, words: &'a [String]) -> Result<Option<Job<'a>>, NoMemory>
     ensures { IfOk result (λ found. MatchOption found
-        ((job : JobView) → IsPlan (map string_bytes words.entry.now) job → ⊥)
-        (λ job. IsPlan (map string_bytes words.entry.now) job)) }
+        ((job : JobView) → IsOnce (map string_bytes words.entry.now) job → ⊥)
+        (λ job. IsOnce (map string_bytes words.entry.now) job)) }
 {
     match plan_of(alloc, words) {
         Ok(Some(plan)) => Ok(job_of(plan)),

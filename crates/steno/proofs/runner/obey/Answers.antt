@@ -3,26 +3,26 @@ use Rattle.std.specs.Prelude.{MatchOption}
 use Rattle.st_plan.specs.Jobs.{Job}
 use Rattle.st_query.specs.Spelling.{Refuses}
 use Rattle.steno.specs.Messages.{line_of}
-use Rattle.steno.specs.Plans.{IsPlan}
+use Rattle.steno.specs.Plans.{IsOnce}
 use Rattle.steno.proofs.Asking.{job_leaves, asks_clock, jobs_same, unplanned_ends, unplanned_cause}
 use Rattle.steno.proofs.runner.obey.Goals as goal
 
 pub returns-in-Ok-None-clause-job : goal.returns-in-Ok-None-clause-job
 returns-in-Ok-None-clause-job g c = λ bytes told.
     let given = map string_bytes c.args.words.now in
-    let none = subst (λ found. MatchOption found ((job : Job) → IsPlan given job → ⊥) (λ job. IsPlan given job)) c.in-Ok-None.field-0-is c.in-Ok-None.ensures in
+    let none = subst (λ found. MatchOption found ((job : Job) → IsOnce given job → ⊥) (λ job. IsOnce given job)) c.in-Ok-None.field-0-is c.in-Ok-None.ensures in
     unplanned_ends given bytes _ _ c.plain.result c.plain.ensures none
 
 pub returns-in-Ok-None-clause-asked : goal.returns-in-Ok-None-clause-asked
 returns-in-Ok-None-clause-asked g c =
     let given = map string_bytes c.args.words.now in
-    let none = subst (λ found. MatchOption found ((job : Job) → IsPlan given job → ⊥) (λ job. IsPlan given job)) c.in-Ok-None.field-0-is c.in-Ok-None.ensures in
+    let none = subst (λ found. MatchOption found ((job : Job) → IsOnce given job → ⊥) (λ job. IsOnce given job)) c.in-Ok-None.field-0-is c.in-Ok-None.ensures in
     unplanned_cause given c.plain.result c.plain.ensures none
 
 pub returns-in-Ok-Some-clause-job : goal.returns-in-Ok-Some-clause-job
 returns-in-Ok-Some-clause-job g c = λ bytes told.
     let given = map string_bytes c.args.words.now in
-    let plan = subst (λ found. MatchOption found ((job : Job) → IsPlan given job → ⊥) (λ job. IsPlan given job)) c.in-Ok-Some.field-0-is c.in-Ok-Some.ensures in
+    let plan = subst (λ found. MatchOption found ((job : Job) → IsOnce given job → ⊥) (λ job. IsOnce given job)) c.in-Ok-Some.field-0-is c.in-Ok-Some.ensures in
     let answered = c.once.ensures.job bytes told in (
       answered.0,
       asks_clock _ _ c.once.result.status answered.0 c.once.ensures.asked.planned answered.1,
@@ -33,7 +33,7 @@ pub returns-in-Ok-Some-clause-asked : goal.returns-in-Ok-Some-clause-asked
 returns-in-Ok-Some-clause-asked g c =
     let given = map string_bytes c.args.words.now in
     let job = c.in-Ok-Some.job in
-    let plan = subst (λ found. MatchOption found ((job : Job) → IsPlan given job → ⊥) (λ job. IsPlan given job)) c.in-Ok-Some.field-0-is c.in-Ok-Some.ensures in
+    let plan = subst (λ found. MatchOption found ((job : Job) → IsOnce given job → ⊥) (λ job. IsOnce given job)) c.in-Ok-Some.field-0-is c.in-Ok-Some.ensures in
     record {
       usage = λ e. absurd (c.once.ensures.asked.planned e);
       unplanned = λ none. absurd (none job plan);
