@@ -13,7 +13,7 @@ use Rattle.st_plan.specs.Line.{name_of, long_name, name_and_value, Options, with
 use Rattle.st_plan.specs.Line as line
 use Rattle.clap.specs.declared.parser.matches.Found.{Found}
 use Rattle.st_plan.specs.Found.{IsTaken, IsNoLine, options_of, operands_of}
-use Rattle.st_plan.specs.Places.{HasOperands, IsSecondAt, IsFolderAt}
+use Rattle.st_plan.specs.Places.{HasOperands, IsSecondAt, IsSecond, IsFolderAt}
 use Rattle.st_plan.specs.Plans.{IsPlan, operands, folder_of}
 use Rattle.st_plan.proofs.OnePlan.{one_plan}
 use Rattle.st_plan.specs.declared.jobs.Plan.{Plan}
@@ -193,7 +193,7 @@ at_place words i s argument b below read e =
 -- the folder of a plan stands where it was found, and where none was there is no plan with a folder
 
 place_found : (words : List (String Global)) (p : Plan) (f : Text) (found : Option ℕ) → IsPlan (map string_bytes words) p → folder_of p ≡ Some f
-    → MatchOption found ((i : ℕ) → i < length words → IsSecondAt (map string_bytes words) i f → ⊥) (λ i. IsSecondAt (map string_bytes words) i f)
+    → MatchOption found ((i : ℕ) → i < length words → IsSecondAt (map string_bytes words) i f → ⊥) (λ i. IsSecond (map string_bytes words) i f)
     → MatchOption found ((q : Plan) → IsPlan (map string_bytes words) q → folder_of q ≡ None) (λ i. IsFolderAt (map string_bytes words) i)
 place_found words p f None is named none =
     let (i, below, at) = folder_stands (map string_bytes words) p f is named in
@@ -201,7 +201,7 @@ place_found words p f None is named none =
 place_found words p f (Some i) is named at = record { plan = p; is = is; folder = f; named = named; place = at }
 
 pub folder_found : {E : Type 0} (words : List (String Global)) (p : Plan) (f : Text) (r : Result (Option ℕ) E) → IsPlan (map string_bytes words) p → folder_of p ≡ Some f
-    → IfOk r (λ found. MatchOption found ((i : ℕ) → i < length words → IsSecondAt (map string_bytes words) i f → ⊥) (λ i. IsSecondAt (map string_bytes words) i f))
+    → IfOk r (λ found. MatchOption found ((i : ℕ) → i < length words → IsSecondAt (map string_bytes words) i f → ⊥) (λ i. IsSecond (map string_bytes words) i f))
     → IfOk r (λ found. MatchOption found ((q : Plan) → IsPlan (map string_bytes words) q → folder_of q ≡ None) (λ i. IsFolderAt (map string_bytes words) i))
 folder_found words p f r is named h = IfOk-weaker r _ _ (λ found at. place_found words p f found is named at) h
 

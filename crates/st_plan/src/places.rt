@@ -5,7 +5,7 @@ ghost use Rattle.std.specs.Bool.{Decides};
 ghost use Rattle.clap.specs.Words.{found_of};
 ghost use Rattle.st_plan.specs.declared.jobs.Plan.{Plan as Planned};
 ghost use Rattle.st_plan.specs.Found.{operands_of};
-ghost use Rattle.st_plan.specs.Places.{HasOperands, IsSecondAt, IsFolderAt};
+ghost use Rattle.st_plan.specs.Places.{HasOperands, IsSecondAt, IsSecond, IsFolderAt};
 ghost use Rattle.st_plan.specs.Plans.{IsPlan, folder_of};
 
 use crate::command::matches_of;
@@ -67,7 +67,7 @@ fn second_place(alloc: Global, words: &[String], operand: &str) -> Result<Option
     ensures { IfOk result (λ found. MatchOption found
         ((i : ℕ) → i < length words.now
         → IsSecondAt (map string_bytes words.now) i operand.now → ⊥)
-        (λ i. IsSecondAt (map string_bytes words.now) i operand.now)) }
+        (λ i. IsSecond (map string_bytes words.now) i operand.now)) }
 {
     'places: for i in 0..words.len() {
         match is_second_at(alloc, words, i, operand) {
