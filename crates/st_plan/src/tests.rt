@@ -123,6 +123,12 @@ fn each_command_is_read_with_its_options(rt: HostRuntime) -> Result<(), Fail> {
         "query F --bytes=4294967295, nano 1 18446744073709551615",
         Some(5),
     )?;
+    has_plan(
+        rt,
+        "query F q --bytes 7 --packets=0",
+        "query F q, micro 0 7",
+        Some(1),
+    )?;
     has_plan(rt, "list -", "list -", Some(1))?;
     has_plan(rt, "-- check --ns", "check --ns", Some(2))
 }
