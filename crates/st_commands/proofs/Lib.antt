@@ -1,0 +1,5 @@
+pub mod Staying
+pub mod Telling
+pub mod Reporting
+pub mod Commanding
+pub mod Naming

@@ -1,0 +1,6 @@
+pub mod Commands
+pub mod Laws
+pub mod Lines
+pub mod Pairs
+pub mod Reports
+pub mod Telling

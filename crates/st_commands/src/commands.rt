@@ -1,0 +1,130 @@
+//! The commands: they open a spool, hold what was found, and give the shelf back.
+
+ghost use Rattle.std.specs.Prelude.{◌≡◌, List, Some};
+ghost use Rattle.st_disk.specs.Disks.{Log, reads};
+ghost use Rattle.st_disk.specs.Pairs.{Entry, PairsIn};
+ghost use Rattle.st_commands.specs.Commands.{GivesAllBack, HasDiskFault, HasWriteFault, KeepsPairs, EndsUnentered};
+ghost use Rattle.st_commands.specs.Reports.{Reports};
+
+use crate::outcomes::{Outcome, Report};
+use crate::reports::report_pairs;
+use crate::rule::WholePairs;
+use st_base::Sink;
+use st_shelf::Shelf;
+use st_spool::{EnterErr, NotEntered, Spool};
+use std::alloc::Global;
+
+/// The limit in pairs of the spools that commands open. Nothing is removed at opening, whatever
+/// it is.
+const LIMIT: u32 = 4_096;
+
+/// What a command returns: how it ended, and its shelf.
+pub struct Ended<D> {
+    pub outcome: Outcome,
+    pub shelf: D,
+}
+
+// How a command ends that could not open a spool.
+fn unentered(cause: EnterErr) -> Outcome
+    ensures { EndsUnentered cause result }
+{
+    match cause {
+        EnterErr::DiskFault => Outcome::DiskFault,
+        EnterErr::NoMemory => Outcome::NoMemory,
+    }
+}
+
+// Writes a line for each pair of the shelf.
+fn run<D: Shelf, O: Sink>(report: Report, alloc: Global, shelf: D, out: &mut O) -> Ended<D>
+    // What it writes and what crashes leave, if what is on the disk is known.
+    ensures lines { (first : Log) (pairs : List Entry) → D.log shelf ≡ Some first
+        → PairsIn (reads first) pairs
+        → Reports report pairs (O.written out.old) (O.written out.new) result.outcome }
+    ensures images { (first : Log) → D.log shelf ≡ Some first
+        → KeepsPairs first (D.log result.shelf) result.outcome }
+
+    // When it ends in a fault.
+    ensures disk { HasDiskFault (D.faults shelf) (D.faults result.shelf) result.outcome }
+    ensures write { HasWriteFault (O.faults out.old) (O.faults out.new) result.outcome }
+
+    // What stays as it was.
+    ensures loans { GivesAllBack (D.loans shelf) (D.loans result.shelf) }
+    ensures rest { (D.id result.shelf ≡ D.id shelf) × (O.beside out.new ≡ O.beside out.old) }
+{
+    let entered: Result<Spool<D, WholePairs>, NotEntered<D>> = Spool::enter(alloc, shelf, LIMIT);
+    let mut spool = match entered {
+        Ok(spool) => spool,
+        Err(NotEntered { cause, shelf }) => {
+            return Ended {
+                outcome: unentered(cause),
+                shelf,
+            };
+        }
+    };
+    let hold = match spool.hold() {
+        Ok(hold) => hold,
+        Err(_) => {
+            return Ended {
+                outcome: Outcome::NoMemory,
+                shelf: spool.close(),
+            };
+        }
+    };
+    let outcome = report_pairs(report, alloc, &mut spool, &hold, out);
+    spool.release(hold);
+    Ended {
+        outcome,
+        shelf: spool.close(),
+    }
+}
+
+/// Writes for each pair of the shelf, by stamp, what its summary row says: the stamp, the number of
+/// packets, and the least and the greatest time, in seconds since 1970 with nine decimals.
+///
+/// `Damaged` comes at the first pair that has no summary, and only of a pair that is not whole; the
+/// lines of the pairs before it are written. `DiskFault` and `WriteFault` come only if the shelf's
+/// or the output's count of faults rose; then a prefix of the lines is written. No pair is changed.
+pub fn list<D: Shelf, O: Sink>(alloc: Global, shelf: D, out: &mut O) -> Ended<D>
+    // What it writes and what crashes leave, if what is on the disk is known.
+    ensures lines { (first : Log) (pairs : List Entry) → D.log shelf ≡ Some first
+        → PairsIn (reads first) pairs
+        → Reports Report.Summaries pairs (O.written out.old) (O.written out.new) result.outcome }
+    ensures images { (first : Log) → D.log shelf ≡ Some first
+        → KeepsPairs first (D.log result.shelf) result.outcome }
+
+    // When it ends in a fault.
+    ensures disk { HasDiskFault (D.faults shelf) (D.faults result.shelf) result.outcome }
+    ensures write { HasWriteFault (O.faults out.old) (O.faults out.new) result.outcome }
+
+    // What stays as it was.
+    ensures loans { GivesAllBack (D.loans shelf) (D.loans result.shelf) }
+    ensures rest { (D.id result.shelf ≡ D.id shelf) × (O.beside out.new ≡ O.beside out.old) }
+{
+    run(Report::Summaries, alloc, shelf, out)
+}
+
+/// Writes for each pair of the shelf, by stamp, whether it is whole: the stamp, `whole` and the
+/// number of packets; or the stamp, `damaged`, and the first check that fails, by its part, its
+/// place, what was found and what was wanted.
+///
+/// `Damaged` comes after all lines, and has the first pair that is not whole. `DiskFault` and
+/// `WriteFault` come only if the shelf's or the output's count of faults rose; then a prefix of the
+/// lines is written. No pair is changed.
+pub fn check<D: Shelf, O: Sink>(alloc: Global, shelf: D, out: &mut O) -> Ended<D>
+    // What it writes and what crashes leave, if what is on the disk is known.
+    ensures lines { (first : Log) (pairs : List Entry) → D.log shelf ≡ Some first
+        → PairsIn (reads first) pairs
+        → Reports Report.Verdicts pairs (O.written out.old) (O.written out.new) result.outcome }
+    ensures images { (first : Log) → D.log shelf ≡ Some first
+        → KeepsPairs first (D.log result.shelf) result.outcome }
+
+    // When it ends in a fault.
+    ensures disk { HasDiskFault (D.faults shelf) (D.faults result.shelf) result.outcome }
+    ensures write { HasWriteFault (O.faults out.old) (O.faults out.new) result.outcome }
+
+    // What stays as it was.
+    ensures loans { GivesAllBack (D.loans shelf) (D.loans result.shelf) }
+    ensures rest { (D.id result.shelf ≡ D.id shelf) × (O.beside out.new ≡ O.beside out.old) }
+{
+    run(Report::Verdicts, alloc, shelf, out)
+}

@@ -1,0 +1,79 @@
+//! The text of the lines. Their layout is ours: `specs/Lines.antt`.
+
+ghost use Rattle.std.specs.Prelude.{◌≡◌, ◌≢◌, ◌/◌, ◌%◌, IfOk, string_bytes};
+ghost use Rattle.st_eval.specs.Selection.{summary_view};
+ghost use Rattle.st_commands.specs.Lines.{digit_text, nine_digits, moment_text, part_text, summary_line, verdict_line};
+
+use st_eval::Summary;
+use st_index::{Part, Verdict};
+use std::alloc::{AllocError, Global};
+
+// The digit of `n` whose unit is this power of ten.
+fn digit(n: u32, unit: u32) -> u32
+    requires { unit ≢ 0 }
+    ensures { result ≡ n / unit % 10 }
+{
+    n / unit % 10
+}
+
+// Nine decimal digits.
+fn nine_digits_text(alloc: Global, n: u32) -> Result<String, AllocError>
+    ensures { IfOk result (λ t. string_bytes t ≡ nine_digits n) }
+{
+    let a = digit(n, 100_000_000);
+    let b = digit(n, 10_000_000);
+    let c = digit(n, 1_000_000);
+    let d = digit(n, 100_000);
+    let e = digit(n, 10_000);
+    let f = digit(n, 1_000);
+    let g = digit(n, 100);
+    let h = digit(n, 10);
+    let i = digit(n, 1);
+    format!(in alloc; "{a}{b}{c}{d}{e}{f}{g}{h}{i}")
+}
+
+// A moment: seconds, and nanoseconds in nine digits.
+fn moment(alloc: Global, moment: (u32, u32)) -> Result<String, AllocError>
+    ensures { IfOk result (λ t. string_bytes t ≡ moment_text moment) }
+{
+    let (seconds, nanoseconds) = moment;
+    let fraction = nine_digits_text(alloc, nanoseconds)?;
+    format!(in alloc; "{seconds}.{fraction}")
+}
+
+/// The line of a pair with this summary.
+pub fn summary_text(alloc: Global, stamp: u64, summary: Summary) -> Result<String, AllocError>
+    ensures { IfOk result (λ t. string_bytes t ≡ summary_line stamp (summary_view summary)) }
+{
+    let packets = summary.packets;
+    let first = moment(alloc, summary.first)?;
+    let last = moment(alloc, summary.last)?;
+    format!(in alloc; "{stamp} {packets} {first} {last}\n")
+}
+
+// The name of a part of a pair.
+fn part_name(part: Part) -> &'static str
+    ensures { result.now ≡ part_text part }
+{
+    match part {
+        Part::Block => "block",
+        Part::Index => "index",
+        Part::Rows => "rows",
+    }
+}
+
+/// The line of a pair with this verdict.
+pub fn verdict_text(alloc: Global, stamp: u64, verdict: Verdict) -> Result<String, AllocError>
+    ensures { IfOk result (λ t. string_bytes t ≡ verdict_line stamp verdict) }
+{
+    match verdict {
+        Verdict::Whole { packets } => format!(in alloc; "{stamp} whole {packets}\n"),
+        Verdict::Differs { part, damage } => {
+            let part = part_name(part);
+            let place = damage.place;
+            let found = damage.found;
+            let want = damage.want;
+            format!(in alloc; "{stamp} damaged {part} {place} {found} {want}\n")
+        }
+    }
+}
