@@ -96,6 +96,13 @@ impl BlockBuilder {
         u64::from(self.used) + room_of(len) <= u64::from(self.size)
     }
 
+    /// The offset in the block at which the head of the next record begins.
+    pub fn next_offset(&self) -> u32
+        ensures { result ≡ self.now.used }
+    {
+        self.used
+    }
+
     /// Adds a record after the others, and answers the offset of its head in the block.
     pub fn add(&mut self, r: RecordRef<'_>) -> u32
         requires { self.old.used + room r ≤ self.old.size }

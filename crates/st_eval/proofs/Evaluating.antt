@@ -126,7 +126,7 @@ pub selects_found : (given : List PositionedRecord) (rows : List RowView) (q : N
 selects_found given rows q now (Ok ps) is ok rise h = record {
   rising = rise;
   exact = λ p.
-    let law = selects_matching given rows q now p is ok in
-    (λ a. law.0 (sym (h p) ∙ a), λ b. h p ∙ law.1 b);
+      let law = selects_matching given rows q now p is ok in
+      (λ a. law.0 (sym (h p) ∙ a), λ b. h p ∙ law.1 b);
 }
 selects_found given rows q now (Err e) is ok rise h = h (sound_values given rows is)

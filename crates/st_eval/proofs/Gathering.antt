@@ -18,7 +18,8 @@ use Rattle.st_rows.specs.Positions.{has, positions_in}
 use Rattle.st_rows.specs.Laws.{found_row}
 use Rattle.st_rows.proofs.Lookups.{lookup_range}
 use Rattle.st_eval.specs.declared.errors.EvalErr.{EvalErr}
-use Rattle.st_eval.specs.Refusals.{NoDamage, Repeats, RefusesEval, Answers, damage_in, value_wrong}
+use Rattle.st_rows.specs.Values.{positions_wrong}
+use Rattle.st_eval.specs.Refusals.{NoDamage, Repeats, RefusesEval, IsAfterSummary, Answers, damage_in}
 use Rattle.st_eval.specs.Selection.{IsEntered, IsOver}
 use Rattle.st_walk.specs.declared.text.Key.{Key}
 use Rattle.st_walk.specs.KeyText.{key_text}
@@ -54,11 +55,11 @@ refuses_named bytes index key t e r h = ⊎_elim (λ n. inl (no_damage t e r n))
 
 -- an error on a row's value
 abbrev pub RefusesValue : List ℕ → EvalErr → Type 0
-RefusesValue value e = NoDamage e ⊎ (damage_in e ≡ value_wrong value)
+RefusesValue value e = NoDamage e ⊎ (damage_in e ≡ positions_wrong value)
 
-pub refuses_value : {T : Type 0} (bytes : List ℕ) (index : List RowView) (key value : List ℕ) (result : Result T EvalErr) → Answers bytes index key (Some value) → IfErr result (RefusesValue value) → IfErr result (RefusesEval bytes index)
-refuses_value bytes index key value (Ok x) a h = h
-refuses_value bytes index key value (Err e) a h = ⊎_elim (λ n. inl n) (λ w. inr (inr (key, value, a, w))) h
+pub refuses_value : {T : Type 0} (bytes : List ℕ) (index : List RowView) (key value : List ℕ) (result : Result T EvalErr) → IsAfterSummary key → Answers bytes index key (Some value) → IfErr result (RefusesValue value) → IfErr result (RefusesEval bytes index)
+refuses_value bytes index key value (Ok x) after a h = h
+refuses_value bytes index key value (Err e) after a h = ⊎_elim (λ n. inl n) (λ w. inr (inr (key, value, after, a, w))) h
 
 -- ---- a table that was entered
 
@@ -82,7 +83,7 @@ one_row : (key : List ℕ) (rows : List RowView) (o : Option (List ℕ)) → Key
 one_row key rows o rise e = lookup_range key rows rise ∙ ap (found_row key) (sym e)
 
 pub appends_value : {T : Type 0} (test : ℕ → Bool) (Sound : Type 0) (value old new : List ℕ) (result : Result T EvalErr)
-    → ((p : ℕ) → has (positions_in value) p ≡ test p) → (Sound → value_wrong value ≡ None)
+    → ((p : ℕ) → has (positions_in value) p ≡ test p) → (Sound → positions_wrong value ≡ None)
     → OnOk result (new ≡ old ++ positions_in value) → IfErr result (RefusesValue value) → Appends test Sound old new result
 appends_value test Sound value old new (Ok x) says sound added refused = λ p.
     ap (λ (xs : List ℕ). has xs p) added ∙ (has_append old (positions_in value) p ∙ ap (λ b. has old p || b) (says p))
@@ -96,8 +97,8 @@ pub appends_one : {T : Type 0} (key value : List ℕ) (rows : List RowView) (old
 appends_one key value rows old new result rise e =
     let one : in_range key key rows ≡ (key, value) ∷ [] = one_row key rows (Some value) rise e in
     appends_value (any_has key key rows) (SoundBetween key key rows) value old new result
-      (λ p. sym (ap (λ (rs : List RowView). list_any (row_has p) rs) one ∙ or_false (has (positions_in value) p)))
-      (λ sound. let all = subst (λ (rs : List RowView). All (λ row. value_wrong row.1 ≡ None) rs) one sound in all 0 (key, value) (omega arith))
+    (λ p. sym (ap (λ (rs : List RowView). list_any (row_has p) rs) one ∙ or_false (has (positions_in value) p)))
+    (λ sound. let all = subst (λ (rs : List RowView). All (λ row. positions_wrong row.1 ≡ None) rs) one sound in all 0 (key, value) (omega arith))
 
 -- a key without a row
 pub appends_none : (key : List ℕ) (rows : List RowView) (old : List ℕ) → KeysRise rows → None ≡ lookup key rows → Gains (any_has key key rows) old old
@@ -106,8 +107,8 @@ appends_none key rows old rise e p =
     sym (or_false (has old p)) ∙ ap (λ (rs : List RowView). has old p || list_any (row_has p) rs) (sym none)
 
 -- a row of the table whose value is refused
-pub refuses_row : (bytes : List ℕ) (index : List RowView) (key value read : List ℕ) (e : EvalErr) → read ≡ value → Answers bytes index key (Some value) → RefusesValue read e → RefusesEval bytes index e
-refuses_row bytes index key value read e same a h = ⊎_elim (λ n. inl n) (λ w. inr (inr (key, value, a, w ∙ ap value_wrong same))) h
+pub refuses_row : (bytes : List ℕ) (index : List RowView) (key value read : List ℕ) (e : EvalErr) → read ≡ value → IsAfterSummary key → Answers bytes index key (Some value) → RefusesValue read e → RefusesEval bytes index e
+refuses_row bytes index key value read e same after a h = ⊎_elim (λ n. inl n) (λ w. inr (inr (key, value, after, a, w ∙ ap positions_wrong same))) h
 
 -- ---- keys
 

@@ -89,12 +89,12 @@ picks_from given rows low high p is f g h =
     let (row, c, l, i) = any_from (row_has p) (key_text low) (key_text high) rows h in
     let split = is.are.split in
     ⊎_elim
-      (λ same. absurd (no_summary low high (subst (λ (t : List ℕ). IsTrue (lies_text (key_text low) (key_text high) t)) (ap (λ (x : RowView). x.0) (sym same)) l)))
-      (λ d.
-        let (k, fk, of_key) = All-contains (λ (x : RowView). (k : Key) × Fits k × IsKeyRow given k x) is.are.keys row is.are.of_keys.each d in
-        let (r, cr, hk) = (rows_say given k row p is.fit of_key).0 i in
-        (r, cr, (k, hk, sym (texts_between low high k f g fk) ∙ (ap (λ (t : List ℕ). lies_text (key_text low) (key_text high) t) (sym of_key.key) ∙ l))))
-      (here_or (summary_key, summary_value is.are.summary) row is.are.keys (subst (λ (xs : List RowView). Contains xs row) split c))
+    (λ same. absurd (no_summary low high (subst (λ (t : List ℕ). IsTrue (lies_text (key_text low) (key_text high) t)) (ap (λ (x : RowView). x.0) (sym same)) l)))
+    (λ d.
+    let (k, fk, of_key) = All-contains (λ (x : RowView). (k : Key) × Fits k × IsKeyRow given k x) is.are.keys row is.are.of_keys.each d in
+    let (r, cr, hk) = (rows_say given k row p is.fit of_key).0 i in
+    (r, cr, (k, hk, sym (texts_between low high k f g fk) ∙ (ap (λ (t : List ℕ). lies_text (key_text low) (key_text high) t) (sym of_key.key) ∙ l))))
+    (here_or (summary_key, summary_value is.are.summary) row is.are.keys (subst (λ (xs : List RowView). Contains xs row) split c))
 
 picks_to : (given : List PositionedRecord) (rows : List RowView) (low high : Key) (p : ℕ) → IsIndexOf given rows → Fits low → Fits high → (r : Rec) → Contains given (p, r) → HasIn (Some (low, high)) r → IsTrue (picks rows (Some (low, high)) p)
 picks_to given rows low high p is f g r cr (k, hk, l) =
@@ -104,7 +104,7 @@ picks_to given rows low high p is f g r cr (k, hk, l) =
     let same : j ≡ k = same_key j k fj fk (sym of_key.key ∙ name) in
     let has_it = (rows_say given j row p is.fit of_key).1 (subst (λ (x : Key). HasAt given x p) (sym same) (r, cr, hk)) in
     any_to (row_has p) (key_text low) (key_text high) rows row (subst (λ (xs : List RowView). Contains xs row) (sym is.are.split) (there (summary_key, summary_value is.are.summary) row is.are.keys c))
-      (ap (λ (t : List ℕ). lies_text (key_text low) (key_text high) t) name ∙ (texts_between low high k f g fk ∙ l)) has_it
+    (ap (λ (t : List ℕ). lies_text (key_text low) (key_text high) t) name ∙ (texts_between low high k f g fk ∙ l)) has_it
 
 picks_range : (given : List PositionedRecord) (rows : List RowView) (o : Option (Key × Key)) (p : ℕ) → IsIndexOf given rows → EndsFit o → IsTrue (picks rows o p) ↔ HasInAt given o p
 picks_range given rows None p is f = (λ h. absurd (true≢false (sym h)), λ (r, c, h). absurd h)
@@ -125,22 +125,25 @@ MatchesTreeAt q now given p = (r : Rec) × Contains given (p, r) × MatchesTree 
 pub selects_tree : (given : List PositionedRecord) (rows : List RowView) (q : Tree) (now p : ℕ) → IsIndexOf given rows → InRange q → IsTrue (selects rows q now p) ↔ MatchesTreeAt q now given p
 selects_tree given rows (both a b) now p is ok =
     let x = selects_tree given rows a now p is ok.0 in
-    let y = selects_tree given rows b now p is ok.1 in
-    (λ h.
-      let s = and_from _ _ h in
-      let (r, c, f) = x.0 s.0 in
-      let (t, d, g) = y.0 s.1 in
-      (r, c, (f, subst (λ (z : Rec). MatchesTree b now z) (one_packet_at given p t r is.rise d c) g)),
-    λ (r, c, f). and_to _ _ (x.1 (r, c, f.0)) (y.1 (r, c, f.1)))
+    let y = selects_tree given rows b now p is ok.1 in (
+      λ h.
+          let s = and_from _ _ h in
+          let (r, c, f) = x.0 s.0 in
+          let (t, d, g) = y.0 s.1 in
+          (r, c, (f, subst (λ (z : Rec). MatchesTree b now z) (one_packet_at given p t r is.rise d c) g)),
+      λ (r, c, f). and_to _ _ (x.1 (r, c, f.0)) (y.1 (r, c, f.1)),
+    )
 selects_tree given rows (either a b) now p is ok =
     let x = selects_tree given rows a now p is ok.0 in
-    let y = selects_tree given rows b now p is ok.1 in
-    (λ h. ⊎_elim (λ s. let (r, c, f) = x.0 s in (r, c, inl f)) (λ s. let (r, c, f) = y.0 s in (r, c, inr f)) (or_from _ _ h),
-    λ (r, c, f). ⊎_elim (λ s. or_left _ _ (x.1 (r, c, s))) (λ s. or_right _ _ (y.1 (r, c, s))) f)
+    let y = selects_tree given rows b now p is ok.1 in (
+      λ h. ⊎_elim (λ s. let (r, c, f) = x.0 s in (r, c, inl f)) (λ s. let (r, c, f) = y.0 s in (r, c, inr f)) (or_from _ _ h),
+      λ (r, c, f). ⊎_elim (λ s. or_left _ _ (x.1 (r, c, s))) (λ s. or_right _ _ (y.1 (r, c, s))) f,
+    )
 selects_tree given rows (one q) now p is ok =
-    let x = picks_range given rows (range_of q now) p is (ranges_fit q now ok) in
-    (λ h. let (r, c, i) = x.0 h in (r, c, (matches_by_range q now r (second_fits given p r is.fit c)).1 i),
-    λ (r, c, i). x.1 (r, c, (matches_by_range q now r (second_fits given p r is.fit c)).0 i))
+    let x = picks_range given rows (range_of q now) p is (ranges_fit q now ok) in (
+      λ h. let (r, c, i) = x.0 h in (r, c, (matches_by_range q now r (second_fits given p r is.fit c)).1 i),
+      λ (r, c, i). x.1 (r, c, (matches_by_range q now r (second_fits given p r is.fit c)).0 i),
+    )
 
 pub selects_matching : SelectsMatching
 selects_matching given rows q now p is ok = selects_tree given rows (tree q) now p is ok

@@ -2,10 +2,12 @@ pub mod NetRanges
 pub mod PrimitiveRanges
 pub mod Joining
 pub mod Risings
+pub mod Merging
 pub mod ValueTexts
 pub mod Gathering
 pub mod Reading
 pub mod SoundValues
+pub mod AfterSummary
 pub mod SummaryRows
 pub mod Evaluating
 pub mod NodeSizes

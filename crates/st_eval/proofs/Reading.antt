@@ -9,7 +9,8 @@ use Rattle.st_table.specs.declared.errors.TableErr.{TableErr}
 use Rattle.st_table.specs.declared.index.IndexEntry.{IndexEntry}
 use Rattle.st_rows.specs.Positions.{has, positions_in}
 use Rattle.st_eval.specs.declared.errors.EvalErr.{EvalErr}
-use Rattle.st_eval.specs.Refusals.{Repeats, RefusesEval, value_wrong}
+use Rattle.st_rows.specs.Values.{positions_wrong}
+use Rattle.st_eval.specs.Refusals.{Repeats, RefusesEval}
 use Rattle.st_eval.specs.Selection.{IsEntered}
 use Rattle.st_eval.specs.Selecting.{row_has}
 use Rattle.st_eval.proofs.Gathering.{or_assoc, or_false, has_append}
@@ -20,7 +21,7 @@ entered_later entries next bytes index e has decoded = record { index = index; h
 
 -- the values of rows are sound
 abbrev pub AreSound : List RowView → Type 0
-AreSound rows = All (λ row. value_wrong row.1 ≡ None) rows
+AreSound rows = All (λ row. positions_wrong row.1 ≡ None) rows
 
 -- what was appended so far, or is still to come, is all that is to be appended
 pub record Collects (bytes : List ℕ) (index : List RowView) (cursor : CursorView) (old all : List ℕ) (whole : List RowView) : Type 0 where
@@ -49,10 +50,10 @@ collects_more bytes index old new start all added r whole says e has_it =
       more = rest;
       coming = on;
       test = λ p.
-        ap (λ (xs : List ℕ). has xs p || list_any (row_has p) rest) e
-        ∙ (ap (λ b. b || list_any (row_has p) rest) (has_append all (positions_in r.1) p)
-        ∙ (or_assoc (has all p) (has (positions_in r.1) p) (list_any (row_has p) rest)
-        ∙ (ap (λ (rs : List RowView). has all p || list_any (row_has p) rs) (sym first) ∙ has_it.test p)));
+          ap (λ (xs : List ℕ). has xs p || list_any (row_has p) rest) e
+          ∙ (ap (λ b. b || list_any (row_has p) rest) (has_append all (positions_in r.1) p)
+          ∙ (or_assoc (has all p) (has (positions_in r.1) p) (list_any (row_has p) rest)
+          ∙ (ap (λ (rs : List RowView). has all p || list_any (row_has p) rs) (sym first) ∙ has_it.test p)));
       sound = λ s. all_tail r rest (subst (λ (rs : List RowView). AreSound rs) first (has_it.sound s));
     }
 
@@ -67,7 +68,7 @@ collects_all bytes index old new start all whole says has_it p =
 -- the next row's value is sound where all are
 pub next_sound : (bytes : List ℕ) (index : List RowView) (old new : CursorView) (start all : List ℕ) (r : RowView) (whole : List RowView)
     → ((more : List RowView) → Coming (footer_at bytes) bytes index old more → StepsRow (footer_at bytes) bytes index more new (Ok (Some r)))
-    → Collects bytes index old start all whole → AreSound whole → value_wrong r.1 ≡ None
+    → Collects bytes index old start all whole → AreSound whole → positions_wrong r.1 ≡ None
 next_sound bytes index old new start all r whole says has_it s =
     let (rest, first, on) = says has_it.more has_it.coming in
     subst (λ (rs : List RowView). AreSound rs) first (has_it.sound s) 0 r (omega arith)

@@ -1,16 +1,14 @@
 -- Lists that rise, and what sorting and searching them gives.
-use Rattle.std.proofs.Common.{◌≡◌, ℕ, zero, suc, ◌+◌, ◌-◌, ◌<◌, ◌≤◌, Bool, true, false, ◌&&◌, ◌||◌, nat_eq, nat_lt, eqb, nat_cmp, List, [], ◌∷◌, length, drop, slice_index, slice_index_or, filter, Result, Ok, Err, is_ok, IsTrue, refl, sym, ap, ◌∙◌, subst, arith, true≢false, if◌then◌else◌, MatchResult, ◌⊎◌, inl, inr, ⊎_elim}
+use Rattle.std.proofs.Common.{◌≡◌, ℕ, zero, suc, ◌+◌, ◌-◌, ◌<◌, ◌≤◌, Bool, true, false, ◌&&◌, ◌||◌, nat_eq, nat_lt, eqb, nat_cmp, List, [], ◌∷◌, length, drop, slice_index, filter, IsTrue, refl, sym, ap, ◌∙◌, subst, arith, true≢false, if◌then◌else◌}
 use Rattle.std.specs.List.{dedup}
-use Rattle.std.specs.List.Sorted.{IsPermutation, IsSorted, IsBinarySearchResult}
-use Rattle.std.proofs.lemmas.Bool.{cases_order}
+use Rattle.std.specs.List.Sorted.{IsPermutation, IsSorted}
 use Rattle.std.proofs.lemmas.Bool.Decides.{nat_tests}
-use Rattle.std.proofs.lemmas.List.{get_or_default}
 use Rattle.std.proofs.lemmas.List.Kept.{AllPairs-from_increasing, Contains-dedup_nat, Contains-from_dedup}
-use Rattle.std.proofs.lemmas.List.Sorted.{Contains-permutation, IsPermutation-sym, searched}
+use Rattle.std.proofs.lemmas.List.Sorted.{Contains-permutation, IsPermutation-sym}
 use Rattle.std.proofs.lemmas.Map.Keys.{IsStrictlyIncreasing-dedup}
 use Rattle.st_rows.specs.Positions.{has, Rising}
 use Rattle.st_rows.proofs.OneList.{has_from, has_to}
-use Rattle.st_eval.specs.Refusals.{rises}
+use Rattle.st_rows.specs.Values.{rises}
 
 -- ---- the test
 
@@ -75,33 +73,11 @@ same_test false false h i = refl
 
 pub sorted_has : (xs ys : List ℕ) (p : ℕ) → IsPermutation xs ys → has (dedup eqb ys) p ≡ has xs p
 sorted_has xs ys p h = same_test _ _
-  (λ a. has_from xs p (Contains-permutation ys xs p (IsPermutation-sym xs ys h) (Contains-from_dedup eqb ys p (has_to (dedup eqb ys) p a))))
-  (λ b. has_from (dedup eqb ys) p (Contains-dedup_nat ys p (Contains-permutation xs ys p h (has_to xs p b))))
+    (λ a. has_from xs p (Contains-permutation ys xs p (IsPermutation-sym xs ys h) (Contains-from_dedup eqb ys p (has_to (dedup eqb ys) p a))))
+    (λ b. has_from (dedup eqb ys) p (Contains-dedup_nat ys p (Contains-permutation xs ys p h (has_to xs p b))))
 
 pub sorted_rises : (ys : List ℕ) → IsSorted nat_cmp ys → Rising (dedup eqb ys)
 sorted_rises ys h = AllPairs-from_increasing (dedup eqb ys) (IsStrictlyIncreasing-dedup ys h)
-
--- ---- searching
-
--- in a rising list a binary search finds a number if and only if it is there
-pub found : (xs : List ℕ) (x : ℕ) (r : Result ℕ ℕ) → Rising xs → IsBinarySearchResult (λ y. nat_cmp y x) xs r → is_ok r ≡ has xs x
-found xs x r rise h = answer r (searched xs x r h (λ i j le less. ⊎_elim (λ same. let e : slice_index_or xs i 0 ≡ slice_index_or xs j 0 = ap (λ k. slice_index_or xs k 0) same in omega (arith, e)) (λ up. let below = rise i j 0 up less in omega arith) (first_or_less i j le)))
-  where
-    first_or_less : (i j : ℕ) → i ≤ j → (i ≡ j) ⊎ (i < j)
-    first_or_less i j le = ⊎_elim (λ e. inl e) (λ apart. ⊎_elim (λ up. inr up) (λ down. let no : ⊥ = omega arith in absurd no) apart) (cases_order i j)
-
-    cases_at_most : (i k : ℕ) → (i ≤ k) ⊎ (k < i)
-    cases_at_most i k = ⊎_elim (λ e. inl (omega arith)) (λ apart. ⊎_elim (λ up. inl (omega arith)) (λ down. inr down) apart) (cases_order i k)
-
-    answer : (r : Result ℕ ℕ) → MatchResult r (λ i. (i < length xs) × (slice_index_or xs i 0 ≡ x)) (λ i. (i ≤ length xs) × ((k : ℕ) → k < i → slice_index_or xs k 0 < x) × ((k : ℕ) → i ≤ k → k < length xs → x < slice_index_or xs k 0)) → is_ok r ≡ has xs x
-    answer (Ok i) (less, e) = sym (has_from xs x (i, less, get_or_default xs i x 0 less ∙ e))
-    answer (Err i) (le, below, above) = same_test false (has xs x) (λ h. absurd (true≢false (sym h))) (λ h.
-      let (k, less, e) = has_to xs x h in
-      let same : slice_index_or xs k 0 ≡ x = get_or_default xs k 0 x less ∙ e in
-      ⊎_elim
-        (λ up. let out = above k up less in let no : ⊥ = omega arith in absurd no)
-        (λ down. let out = below k down in let no : ⊥ = omega arith in absurd no)
-        (cases_at_most i k))
 
 -- ---- filters
 

@@ -15,7 +15,8 @@ use Rattle.st_block.specs.Scan.{PositionedRecord}
 use Rattle.st_rows.specs.Rows.{SummaryView, IsSummary, Moment, WasAt, summary_key, summary_value, AreRowsOf, AllFit}
 use Rattle.st_eval.specs.declared.errors.EvalErr.{EvalErr}
 use Rattle.st_eval.specs.declared.summaries.Summary.{Summary}
-use Rattle.st_eval.specs.Refusals.{Repeats, RefusesSummary, Answers, damage_in, summary_wrong}
+use Rattle.st_rows.specs.Values.{summary_wrong}
+use Rattle.st_eval.specs.Refusals.{Repeats, RefusesSummary, Answers, damage_in}
 use Rattle.st_eval.specs.Selection.{IsIndexOf, Summarizes, summary_view}
 use Rattle.st_eval.specs.SummaryRow.{summary_at}
 use Rattle.st_eval.proofs.Gathering.{no_damage}

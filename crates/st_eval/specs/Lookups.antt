@@ -5,12 +5,13 @@ use Rattle.st_walk.specs.KeyText.{key_text}
 use Rattle.st_tblock.specs.Block.{RowView}
 use Rattle.st_table.specs.RowOrder.{in_range}
 use Rattle.st_rows.specs.Positions.{has}
-use Rattle.st_eval.specs.Refusals.{value_wrong, NoDamage}
+use Rattle.st_rows.specs.Values.{positions_wrong}
+use Rattle.st_eval.specs.Refusals.{NoDamage}
 use Rattle.st_eval.specs.declared.errors.EvalErr.{EvalErr}
 
 -- nothing is wrong with the values of the rows between two keys
 abbrev pub SoundBetween : List ℕ → List ℕ → List RowView → Type 0
-SoundBetween low high rows = All (λ row. value_wrong row.1 ≡ None) (in_range low high rows)
+SoundBetween low high rows = All (λ row. positions_wrong row.1 ≡ None) (in_range low high rows)
 
 -- nothing is wrong with the values of the rows of keys
 abbrev pub HasSoundValues : List RowView → Type 0

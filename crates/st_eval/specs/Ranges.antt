@@ -66,7 +66,8 @@ EndsFit (Some x) = Fits x.0 × Fits x.1
 
 -- a packet has an address in a net if and only if it has a key from the net's first key to its last
 abbrev pub NetIsRange : Type 0
-NetIsRange = (a : Addr) (n : ℕ) (r : Rec) → IsInNet a n r ↔ HasIn (Some (net_low a n, net_high a n)) r
+NetIsRange =
+    (a : Addr) (n : ℕ) (r : Rec) → IsInNet a n r ↔ HasIn (Some (net_low a n, net_high a n)) r
 
 -- a packet matches a primitive if and only if it has a key in the primitive's range
 abbrev pub MatchesByRange : Type 0

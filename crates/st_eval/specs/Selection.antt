@@ -21,12 +21,12 @@ MatchesAt q now given p = (r : Rec) × Contains given (p, r) × Matches q now r
 
 -- these are the positions of exactly the packets that match the query, and they rise
 pub record AreMatching (q : Node) (now : ℕ) (given : List PositionedRecord) (ps : List ℕ) : Type 0
-    where
-  pub rising : Rising ps
-  pub exact : (p : ℕ) → IsTrue (has ps p) ↔ MatchesAt q now given p
+  where
+    pub rising : Rising ps
+    pub exact : (p : ℕ) → IsTrue (has ps p) ↔ MatchesAt q now given p
 
--- the content is known, it has this index block, a table was entered over it with these entries, and
--- the data blocks that count as checked hold all their checks
+-- the content is known, it has this index block, a table was entered over it with these entries,
+-- and the data blocks that count as checked hold all their checks
 pub record IsEntered (content : Option (List ℕ)) (entries : List IndexEntry) (checked : List Bool)
     (bytes : List ℕ) (index : List RowView) : Type 0 where
   pub known : content ≡ Some bytes

@@ -121,8 +121,8 @@ fn find<R: Reader>(
 /// Appends the positions that a query selects.
 ///
 /// The alternatives of a chain joined by `or` are appended one after the other, the last one first,
-/// so that they are sorted once for all. No call goes deeper than the query's parentheses and the
-/// changes from `or` to `and` in its chains.
+/// so that they are sorted once. A chain is gone along by a loop, so that calls go deeper only with
+/// the parentheses.
 #[cycle(evaluation)]
 fn gather<R: Reader>(
     alloc: Global,
@@ -254,8 +254,14 @@ fn gather_common<R: Reader>(
     }
 }
 
-/// The positions of the packets that match the query, in an index that was entered, where the clock
-/// stands at `now` microseconds since 1970.
+/// The positions of the packets that match the query, by the index of their pair, which was
+/// entered; the clock stands at `now` microseconds since 1970.
+///
+/// `Damaged` comes if a check of a data block that is read fails, as `Table::get` and `Table::step`
+/// have it, a compressed block by its type byte; or if the length of a row's value is no multiple
+/// of 4, or its positions don't rise, and then with place 0; that row is never the summary row.
+/// `Damaged` never comes over the index of packets. `ReadFault` comes only if the file failed in
+/// this call. The table's entries stay. Source: docs/FORMAT.md, "Index rows".
 pub fn eval<R: Reader>(
     alloc: Global,
     query: &Query,

@@ -4,7 +4,7 @@ ghost use Rattle.std.specs.Prelude.{◌≡◌, ℕ, List, IfErr, Some};
 ghost use Rattle.st_base.specs.Faults.{HasCauseOf};
 ghost use Rattle.st_base.specs.PlacedReads.{IsSameFile};
 ghost use Rattle.st_tblock.specs.Block.{RowView};
-ghost use Rattle.st_eval.specs.Refusals.{RefusesEval};
+ghost use Rattle.st_eval.specs.Refusals.{RefusesEval, IsAfterSummary};
 ghost use Rattle.st_eval.specs.Selection.{IsEntered, IsOver};
 ghost use Rattle.st_eval.specs.Selecting.{any_has, picks};
 ghost use Rattle.st_eval.specs.Lookups.{Appends, SoundBetween, HasSoundValues};
@@ -23,6 +23,7 @@ fn append_found<R: Reader>(
     key: &[u8],
     all: &mut Vec<u32>,
 ) -> Result<(), EvalErr>
+    requires { IsAfterSummary key.now }
     // What is appended, and what is refused.
     ensures appends { (rows : List RowView)
         → IsOver (R.content table.old.file.now) table.old.kept.entries.items
@@ -65,6 +66,7 @@ fn append_range<R: Reader>(
     high: &[u8],
     all: &mut Vec<u32>,
 ) -> Result<(), EvalErr>
+    requires { IsAfterSummary low.now }
     // What is appended, and what is refused.
     ensures appends { (rows : List RowView)
         → IsOver (R.content table.old.file.now) table.old.kept.entries.items

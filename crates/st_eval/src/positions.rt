@@ -1,8 +1,9 @@
 //! Lists of positions that rise.
 
-ghost use Rattle.std.specs.Prelude.{◌≡◌, ◌&&◌, ◌||◌, ℕ, IfOk};
+ghost use Rattle.std.specs.Prelude.{◌≡◌, ◌&&◌, ◌||◌, ◌<◌, ◌≤◌, ◌↔◌, ℕ, IfOk, IsTrue, length, slice_index};
+ghost use Rattle.std.specs.List.{filter};
 ghost use Rattle.st_rows.specs.Positions.{has, Rising};
-ghost use Rattle.st_eval.specs.Refusals.{rises};
+ghost use Rattle.st_rows.specs.Values.{rises};
 
 use st_base::NoMemory;
 use std::alloc::Global;
@@ -50,11 +51,56 @@ pub fn sorted(mut items: Vec<u32>) -> Positions
     Positions { items }
 }
 
+/// The first place from `at` on where `items` has no number below `bound`, or their end.
+fn skip_below(items: &[u32], at: usize, bound: u32) -> usize
+    requires { at ≤ length items.now }
+    ensures from { at ≤ result }
+    ensures within { result ≤ length items.now }
+    ensures below { (k : ℕ) → at ≤ k → k < result → slice_index items.now k < bound }
+    ensures stops { result < length items.now → bound ≤ slice_index items.now result }
+{
+    let mut next = at;
+    'numbers: while next < items.len() {
+        if items[next] >= bound {
+            return next;
+        }
+        next += 1;
+    }
+    next
+}
+
+/// Whether the number at this place, if there is one, is `item`.
+fn is_at(items: &[u32], at: usize, item: u32) -> bool
+    ensures { IsTrue result ↔ ((at < length items.now) × (slice_index items.now at ≡ item)) }
+{
+    at < items.len() && items[at] == item
+}
+
+/// Keeps the numbers that `other` has too, in their place. Both rise, so each is gone along once.
+fn keep_common(items: &mut Vec<u32>, other: &[u32])
+    requires items { Rising items.old.items }
+    requires other { Rising other.now }
+    ensures { items.new.items ≡ filter (has other.now) items.old.items }
+{
+    let mut kept = 0;
+    let mut at = 0;
+    for i in 0..items.len() {
+        let item = items[i];
+        at = skip_below(other, at, item);
+        if !is_at(other, at, item) {
+            continue;
+        }
+        items[kept] = item;
+        kept += 1;
+    }
+    items.truncate(kept);
+}
+
 impl Positions {
     ghost use Rattle.std.specs.Prelude.{◌≡◌, ◌&&◌, ◌||◌, ℕ, IfOk};
     ghost use Rattle.st_rows.specs.Positions.{has, Rising};
 
-    /// A copy of `items`, which rise.
+    /// The positions `items`, in an allocation of their own.
     pub fn over(alloc: Global, items: &[u32]) -> Result<Positions, NoMemory>
         requires { Rising items.now }
         ensures { IfOk result (λ ps. ps ≡ items.now) }
@@ -63,18 +109,12 @@ impl Positions {
         Ok(Positions { items: copy })
     }
 
-    /// Whether the position is among these.
-    fn contains(&self, position: u32) -> bool
-        ensures { result ≡ has self.now position }
-    {
-        self.items.binary_search(&position).is_ok()
-    }
-
-    /// Keeps the positions that `other` has too, in their place. It takes no memory.
+    /// Keeps the positions that `other` has too, in their place. It goes along each list once, and
+    /// takes no memory.
     pub fn both(&mut self, other: &Positions)
         ensures { (p : ℕ) → has self.new p ≡ (has self.old p && has other.now p) }
     {
-        self.items.retain(|position| other.contains(*position));
+        keep_common(&mut self.items, other.items());
     }
 
     /// The positions that `a` has, or `b`, or both.
@@ -88,7 +128,8 @@ impl Positions {
 
     /// All the positions.
     pub fn items(&self) -> &[u32]
-        ensures { result.now ≡ self.now }
+        ensures same { result.now ≡ self.now }
+        ensures rising { Rising self.now }
     {
         self.items.as_slice()
     }

@@ -5,7 +5,8 @@ ghost use Rattle.st_base.specs.Faults.{HasCauseOf};
 ghost use Rattle.st_base.specs.PlacedReads.{IsSameFile};
 ghost use Rattle.st_tblock.specs.Block.{RowView};
 ghost use Rattle.st_block.specs.Scan.{PositionedRecord};
-ghost use Rattle.st_eval.specs.Refusals.{RefusesSummary, damage_in, summary_wrong};
+ghost use Rattle.st_rows.specs.Values.{summary_wrong};
+ghost use Rattle.st_eval.specs.Refusals.{RefusesSummary, damage_in};
 ghost use Rattle.st_eval.specs.Selection.{IsEntered, IsOver, IsIndexOf, Summarizes, summary_view};
 ghost use Rattle.st_eval.specs.SummaryRow.{number_at, summary_at};
 
@@ -71,7 +72,13 @@ fn summary_in(value: &[u8]) -> Result<Summary, EvalErr>
     })
 }
 
-/// What the summary row of an index says that was entered, by one read at most.
+/// What the summary row of an index says, by one read at most. The index was entered.
+///
+/// `Damaged` comes if a check of the data block that is read fails, as `Table::get` has it, a
+/// compressed block by its type byte; or with place 0 if there is no summary row, if its value has
+/// not 24 bytes, or if its version is not 1. It never comes over the index of fewer than 2^32
+/// packets. `ReadFault` comes only if the file failed in this call. The table's entries stay.
+/// Source: docs/FORMAT.md, "Index rows".
 pub fn summary<R: Reader>(alloc: Global, table: &mut Table<'_, R>) -> Result<Summary, EvalErr>
     // What is answered, and what is refused.
     ensures summarizes { (rows : List RowView) (given : List PositionedRecord)

@@ -25,12 +25,7 @@ const INDEX: &[u8] =
 const PORT: &[u8] = b"\x02\x00\x35";
 
 /// The positions that a query selects in an index.
-fn selected(
-    alloc: Global,
-    bytes: &[u8],
-    fails: &[u32],
-    text: &[u8],
-) -> Result<Vec<u32>, EvalErr> {
+fn selected(alloc: Global, bytes: &[u8], fails: &[u32], text: &[u8]) -> Result<Vec<u32>, EvalErr> {
     let Ok(query) = parse(alloc, text) else {
         return Err(EvalErr::NoMemory);
     };
@@ -103,12 +98,7 @@ fn breaks(alloc: Global, value: &[u8], expected: Damage) -> Result<(), Fail> {
 }
 
 /// Expects that the summary is refused by this damage where the table has only this row.
-fn breaks_summary(
-    alloc: Global,
-    key: &[u8],
-    value: &[u8],
-    expected: Damage,
-) -> Result<(), Fail> {
+fn breaks_summary(alloc: Global, key: &[u8], value: &[u8], expected: Damage) -> Result<(), Fail> {
     let sink = one_row(alloc, key, value)?;
     match summarized(alloc, sink.bytes()) {
         Err(EvalErr::Damaged(damage)) if damage == expected => Ok(()),

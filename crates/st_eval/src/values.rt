@@ -2,7 +2,8 @@
 
 ghost use Rattle.std.specs.Prelude.{◌≡◌, ◌≢◌, ◌++◌, ◌⊎◌, IfErr, OnOk, None};
 ghost use Rattle.st_rows.specs.Positions.{positions_in};
-ghost use Rattle.st_eval.specs.Refusals.{NoDamage, damage_in, value_wrong};
+ghost use Rattle.st_rows.specs.Values.{positions_wrong};
+ghost use Rattle.st_eval.specs.Refusals.{NoDamage, damage_in};
 
 use crate::errors::EvalErr;
 use crate::positions::rises;
@@ -29,9 +30,9 @@ fn decode(value: &[u8], all: &mut Vec<u32>) -> Result<(), AllocError>
 /// After an error `all` may have some of them.
 pub fn append_positions(value: &[u8], all: &mut Vec<u32>) -> Result<(), EvalErr>
     ensures positions { OnOk result (all.new.items ≡ all.old.items ++ positions_in value.now) }
-    ensures sound { OnOk result (value_wrong value.now ≡ None) }
+    ensures sound { OnOk result (positions_wrong value.now ≡ None) }
     ensures refuses { IfErr result
-        (λ e. NoDamage e ⊎ (damage_in e ≡ value_wrong value.now)) }
+        (λ e. NoDamage e ⊎ (damage_in e ≡ positions_wrong value.now)) }
     ensures cause { IfErr result (λ e. e ≢ EvalErr.ReadFault) }
 {
     let rest = value.len() % POSITION_SIZE;

@@ -57,18 +57,18 @@ pub pushed_on : (Has : Type 0) (k j : Key) (left rest : List Key) (before now ne
     → (k ≡ j) ⊎ (next ≡ now) → (k ≡ j) ⊎ (is → next_room)
     → Pushed Has before now p was is (Contains left k) → Pushed Has before next p was next_room (Contains rest k)
 pushed_on Has k j left rest before now next p was is next_room e own new here others rooms h = ⊎_elim
-  (λ same. ⊎_elim
+    (λ same. ⊎_elim
     (λ (n, g). inl (here same ∙ (ap (λ xs. with_last xs p) n ∙ once_more before p), g))
     (λ (n, r, f). inl (here same ∙ (ap (λ xs. with_last xs p) n ∙ once_new before p new), own same))
     h)
-  (λ apart.
+    (λ apart.
     let kept : next ≡ now = ⊎_elim (λ s. absurd (apart s)) (λ s. s) others in
     let room : is → next_room = ⊎_elim (λ s. absurd (apart s)) (λ s. s) rooms in
     ⊎_elim
     (λ (n, g). inl (kept ∙ n, g))
     (λ (n, r, f). inr (kept ∙ n, (λ w. room (r w)), λ g. ⊎_elim (λ s. absurd (apart (sym s))) (λ c. c) (here_or j k rest (subst (λ (ks : List Key). Contains ks k) e (f g)))))
     h)
-  (cases_key k j)
+    (cases_key k j)
 
 -- when the walk is over
 not_left : {A : Type 0} (k : Key) (left : List Key) → left ≡ [] → Contains left k → A
@@ -93,14 +93,14 @@ there x y xs (k, less, e) = (suc k, omega arith, e)
 pub gained_second : (frame : List ℕ) (sec : ℕ) (k : Key) (before kept put now : List ℕ) (p : ℕ) → kept ≡ before → All (λ q. q < p) before → Gained (FrameHas frame k) kept put p
     → (k ≡ key.Second sec → now ≡ with_last put p) → (k ≡ key.Second sec) ⊎ (now ≡ put) → Gained (HasKey frame sec k) before now p
 gained_second frame sec k before kept put now p same low gain here others = ⊎_elim
-  (λ e. ⊎_elim
+    (λ e. ⊎_elim
     (λ (n, f). absurd (never _ _ _ sec (subst (λ (j : Key). FrameHas frame j) e f)))
     (λ (n, lacks). inl (here e ∙ once_fresh before put p (n ∙ same) low, inl e))
     gain)
-  (λ apart.
+    (λ apart.
     let stays : now ≡ put = ⊎_elim (λ e. absurd (apart e)) (λ e. e) others in
     ⊎_elim
     (λ (n, f). inl (stays ∙ (n ∙ ap (λ xs. xs ++ p ∷ []) same), inr f))
     (λ (n, lacks). inr (stays ∙ (n ∙ same), λ h. ⊎_elim apart lacks h))
     gain)
-  (cases_key k (key.Second sec))
+    (cases_key k (key.Second sec))

@@ -19,30 +19,30 @@ one_more rows more r = append_assoc rows (r ∷ []) more
 -- a row is compared with the next one that is wanted
 pub compares_next : (number : ℕ) (d : Option DamageView) (rows old left wanted : List RowView) (r q : RowView) → Compares number None rows old wanted → old ≡ q ∷ left → d ≡ row_wrong number (row_text r) (row_text q) → Compares (number + 1) d (rows ++ r ∷ []) left wanted
 compares_next number d rows old left wanted r q c e w = record {
-      goes = λ more.
-          ap (λ (xs : List RowView). rows_wrong 0 xs wanted) (one_more rows more r)
-          ∙ c.goes (r ∷ more)
-          ∙ ap (rows_wrong number (r ∷ more)) e
-          ∙ ap (λ (o : Option DamageView). option_or o (rows_wrong (number + 1) more left)) (sym w);
-    }
+  goes = λ more.
+      ap (λ (xs : List RowView). rows_wrong 0 xs wanted) (one_more rows more r)
+      ∙ c.goes (r ∷ more)
+      ∙ ap (rows_wrong number (r ∷ more)) e
+      ∙ ap (λ (o : Option DamageView). option_or o (rows_wrong (number + 1) more left)) (sym w);
+}
 
 -- a row where none is wanted
 pub compares_extra : (number next : ℕ) (d : DamageView) (rows old left wanted : List RowView) (r : RowView) → Compares number None rows old wanted → old ≡ [] → row_wrong number (row_text r) [] ≡ Some d → Compares next (Some d) (rows ++ r ∷ []) left wanted
 compares_extra number next d rows old left wanted r c e w = record {
-      goes = λ more.
-          ap (λ (xs : List RowView). rows_wrong 0 xs wanted) (one_more rows more r)
-          ∙ c.goes (r ∷ more)
-          ∙ ap (rows_wrong number (r ∷ more)) e
-          ∙ w;
-    }
+  goes = λ more.
+      ap (λ (xs : List RowView). rows_wrong 0 xs wanted) (one_more rows more r)
+      ∙ c.goes (r ∷ more)
+      ∙ ap (rows_wrong number (r ∷ more)) e
+      ∙ w;
+}
 
 -- after the first row that differs no other counts
 pub compares_passed : (number next : ℕ) (d : DamageView) (rows left wanted : List RowView) (r : RowView) → Compares number (Some d) rows left wanted → Compares next (Some d) (rows ++ r ∷ []) left wanted
 compares_passed number next d rows left wanted r c = record {
-      goes = λ more.
-          ap (λ (xs : List RowView). rows_wrong 0 xs wanted) (one_more rows more r)
-          ∙ c.goes (r ∷ more);
-    }
+  goes = λ more.
+      ap (λ (xs : List RowView). rows_wrong 0 xs wanted) (one_more rows more r)
+      ∙ c.goes (r ∷ more);
+}
 
 -- after the last row
 pub compares_all : (number : ℕ) (d : Option DamageView) (rows left wanted : List RowView) → Compares number d rows left wanted → rows_wrong 0 rows wanted ≡ option_or d (rows_wrong number [] left)
@@ -58,12 +58,12 @@ ends_known number d x rows left wanted e c =
 pub ends_missing : (number : ℕ) (d : Option Damage) (x : DamageView) (rows left later wanted : List RowView) (q : RowView) → d ≡ None → left ≡ q ∷ later → row_wrong number [] (row_text q) ≡ Some x → Compares number (option_map damage_view d) rows left wanted → ◌≡◌ {A = Option DamageView} (Some x) (rows_wrong 0 rows wanted)
 ends_missing number d x rows left later wanted q e l w c =
     sym (compares_all number (option_map damage_view d) rows left wanted c
-      ∙ ap (λ (o : Option Damage). option_or (option_map damage_view o) (rows_wrong number [] left)) e
-      ∙ ap (rows_wrong number []) l ∙ w)
+    ∙ ap (λ (o : Option Damage). option_or (option_map damage_view o) (rows_wrong number [] left)) e
+    ∙ ap (rows_wrong number []) l ∙ w)
 
 -- else nothing is wrong
 pub ends_well : (number : ℕ) (d : Option Damage) (rows left wanted : List RowView) → d ≡ None → left ≡ [] → Compares number (option_map damage_view d) rows left wanted → ◌≡◌ {A = Option DamageView} None (rows_wrong 0 rows wanted)
 ends_well number d rows left wanted e l c =
     sym (compares_all number (option_map damage_view d) rows left wanted c
-      ∙ ap (λ (o : Option Damage). option_or (option_map damage_view o) (rows_wrong number [] left)) e
-      ∙ ap (rows_wrong number []) l)
+    ∙ ap (λ (o : Option Damage). option_or (option_map damage_view o) (rows_wrong number [] left)) e
+    ∙ ap (rows_wrong number []) l)

@@ -1,5 +1,5 @@
 -- How many positions keys have together, after one is put.
-use Rattle.std.proofs.Common.{◌≡◌, ℕ, zero, suc, ◌+◌, ◌<◌, ◌≤◌, Bool, true, false, if◌then◌else◌, List, [], ◌∷◌, ◌++◌, length, length-append, Contains, ◌⊎◌, refl, sym, ap, ◌∙◌, subst, arith, ⊎_elim}
+use Rattle.std.proofs.Common.{◌≡◌, ℕ, ◌+◌, ◌≤◌, true, false, if◌then◌else◌, List, [], ◌∷◌, ◌++◌, length, length-append, Contains, ◌⊎◌, refl, sym, ap, ◌∙◌, subst, arith, ⊎_elim}
 use Rattle.st_walk.specs.declared.text.Key.{Key}
 use Rattle.st_walk.specs.declared.header.Layer.TheVariants.{Ether}
 use Rattle.st_walk.specs.Walk.{InOrder}
@@ -31,16 +31,16 @@ pub count_put : (old new : PositionLists) (key : Key) (p : ℕ) (ks : List Key) 
     → count_in new ks ≤ count_in old ks + 1
 count_put old new key p [] apart here others = omega arith
 count_put old new key p (k ∷ ks) (first, apart) here others = ⊎_elim
-  (λ same.
+    (λ same.
     let more : length (positions_at new k) ≤ length (positions_at old k) + 1 =
     subst (λ (j : Key). length (positions_at new j) ≤ length (positions_at old j) + 1) (sym same) (subst (λ (ps : List ℕ). length ps ≤ length (positions_at old key) + 1) (sym here) (longer (positions_at old key) p)) in
     let rest = count_same old new ks (λ j c. ⊎_elim (λ e. absurd (first j c (same ∙ sym e))) (λ e. e) (others j)) in
     omega (arith, more, rest))
-  (λ other.
+    (λ other.
     let stays : length (positions_at new k) ≡ length (positions_at old k) = ⊎_elim (λ e. absurd (other e)) (λ e. ap length e) (others k) in
     let rest = count_put old new key p ks apart here others in
     omega (arith, stays, rest))
-  (cases_key k key)
+    (cases_key k key)
 
 -- the keys that an iterator begins with are those of the frame
 pub all_keys : (frame : List ℕ) (left : List Key) → ((ks : List Key) → (InOrder frame 0 Ether ks → ks ≡ left)) → left ≡ frame_keys frame

@@ -1,8 +1,7 @@
 -- The verdict on a pair, from that on its index against the rows of the packets.
-use Rattle.std.proofs.Common.{◌≡◌, ℕ, ◌≤◌, List, [], length, Option, Some, None, Result, Ok, Err, refl, sym, ap, ◌∙◌, subst, arith}
+use Rattle.std.proofs.Common.{◌≡◌, ℕ, List, length, Option, Some, None, Result, Ok, Err, refl, ap, ◌∙◌, arith}
 use Rattle.std.specs.Prelude.{IsSome, IfOk}
 use Rattle.std.proofs.lemmas.List.{length-map}
-use Rattle.st_base.specs.Records.{Rec}
 use Rattle.st_tblock.specs.Block.{RowView}
 use Rattle.st_block.specs.Scan.{PositionedRecord, IsFile, records_in}
 use Rattle.st_block.proofs.Unhurt.{file_unhurt}

@@ -1,5 +1,5 @@
 -- The first byte at which two texts differ, part by part.
-use Rattle.std.proofs.Common.{◌≡◌, ◌≢◌, ℕ, ◌<◌, ◌≤◌, ◌-◌, ◌^◌, min, Bool, true, false, nat_eq, List, [], ◌∷◌, ◌++◌, length, Option, None, Some, refl, sym, ap, ◌∙◌, subst, arith}
+use Rattle.std.proofs.Common.{◌≡◌, ℕ, ◌<◌, ◌-◌, ◌^◌, min, Bool, true, false, nat_eq, List, [], ◌∷◌, ◌++◌, length, Option, None, Some, refl, sym, ap, ◌∙◌, arith}
 use Rattle.std.specs.Option.{option_or}
 use Rattle.std.specs.Prelude.{if◌then◌else◌}
 use Rattle.std.proofs.lemmas.Bool.Decides.{nat_tests}
@@ -83,6 +83,7 @@ same_rows r q h e =
     left : (o p : Option (ℕ × ℕ)) → option_or o p ≡ None → o ≡ None
     left None p h = refl
     left (Some x) p h = cc
+
     right : (o p : Option (ℕ × ℕ)) → option_or o p ≡ None → p ≡ None
     right None p h = h
     right (Some x) p h = cc

@@ -1,6 +1,5 @@
 -- The packets that a maker has, with one more.
-use Rattle.std.proofs.Common.{◌≡◌, ℕ, zero, suc, ◌+◌, ◌*◌, ◌<◌, ◌≤◌, ◌^◌, ◌↔◌, Bool, true, false, ◌||◌, List, [], ◌∷◌, ◌++◌, length, IsTrue, All, AllPairs, Contains, ◌⊎◌, inl, inr, refl, sym, ap, ◌∙◌, subst, arith, true≢false, ⊎_elim, nat_eq, eq-eqb, Option, Some, None}
-use Rattle.std.specs.List.{list_any}
+use Rattle.std.proofs.Common.{◌≡◌, ℕ, ◌+◌, ◌*◌, ◌<◌, ◌≤◌, ◌^◌, ◌↔◌, Bool, true, false, ◌||◌, List, [], ◌∷◌, ◌++◌, length, IsTrue, All, ◌⊎◌, inl, inr, refl, sym, ap, ◌∙◌, subst, arith, true≢false, ⊎_elim, nat_eq, eq-eqb, Option, Some}
 use Rattle.std.proofs.lemmas.Bool.Decides.{nat_tests}
 use Rattle.std.proofs.lemmas.List.Quantifiers.{all_pairs_push}
 use Rattle.std.proofs.lemmas.List.Elements.{All-push, Contains-append_left, Contains-push, Contains-push_cases}
@@ -11,9 +10,9 @@ use Rattle.st_walk.specs.declared.text.Key.{Key}
 use Rattle.st_block.specs.BlockText.{HasBytes}
 use Rattle.st_block.specs.Scan.{PositionedRecord}
 use Rattle.st_rows.specs.Positions.{has}
-use Rattle.st_rows.specs.Rows.{HasAt, IsSummary}
+use Rattle.st_rows.specs.Rows.{HasAt, IsSummary, FitsFields}
 use Rattle.st_index.specs.NumberedLists.{Gained}
-use Rattle.st_index.specs.PositionLists.{positions_at, AreDistinct, count_in}
+use Rattle.st_index.specs.PositionLists.{positions_at}
 use Rattle.st_index.specs.Summaries.{SummaryOf, summary_view}
 use Rattle.st_index.specs.Maker.{end_of, ArePositions, HasPackets}
 use Rattle.st_index.specs.declared.lists.PositionLists.{PositionLists}
@@ -88,7 +87,7 @@ packet_on old new summary t end next given r at is n low gain sums h = record {
   summed = sums h.summed;
   ends = All-push (λ x. end_of x ≤ next) given (at, r) (λ i d less. let was = h.ends i d less in let a = is.after in omega (arith, was, a, n)) (omega (arith, n));
   rise = all_pairs_push (λ x y. x.0 < y.0) given (at, r) h.rise (λ i d less. let was = h.ends i d less in let a = is.after in omega (arith, was, a));
-  fit = All-push (λ x. (x.0 < 2 ^ 32) × (x.1.sec < 2 ^ 32) × (x.1.nsec < 2 ^ 32) × HasBytes x.1) given (at, r) h.fit ((let f = is.fits in omega (arith, f)), is.sec, is.nsec, is.bytes);
+  fit = All-push FitsFields given (at, r) h.fit ((let f = is.fits in omega (arith, f)), is.sec, is.nsec, is.bytes);
 }
 
 -- after a refusal

@@ -1,7 +1,6 @@
 -- What reading a whole table gives.
-use Rattle.std.proofs.Common.{◌≡◌, ℕ, List, [], Option, Some, None, Result, Ok, Err, sym, ap, ◌∙◌, subst, inl, inr}
-use Rattle.std.specs.Prelude.{option_map, IfOk}
-use Rattle.st_base.specs.Damages.{damage_view}
+use Rattle.std.proofs.Common.{◌≡◌, ℕ, List, [], None, Result, Ok, Err, ap, ◌∙◌, inl, inr}
+use Rattle.std.specs.Prelude.{IfOk}
 use Rattle.st_tblock.specs.Block.{RowView, key_or_empty}
 use Rattle.st_table.specs.TableFile.{footer_at}
 use Rattle.st_table.specs.RowOrder.{last_key}

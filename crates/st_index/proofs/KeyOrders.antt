@@ -1,5 +1,5 @@
 -- The lists of a maker that have positions rise by their keys, and are all of them.
-use Rattle.std.proofs.Common.{rules, ◌≡◌, ℕ, zero, suc, ◌+◌, ◌-◌, ◌*◌, ◌<◌, ◌≤◌, Bool, true, false, not, ◌&&◌, List, [], ◌∷◌, ◌++◌, length, IsTrue, IsFalse, All, Contains, slice_index_or, ◌⊎◌, inl, inr, refl, sym, ap, ap₂, ◌∙◌, subst, arith, true≢false, ⊎_elim, Option, Some, None, Vec, is_some, nat_cmp, is_lt, Ordering, Less, Equal, Greater, unwrap_or, option_map, lit<}
+use Rattle.std.proofs.Common.{rules, ◌≡◌, ℕ, zero, suc, ◌+◌, ◌<◌, true, List, [], ◌∷◌, ◌++◌, length, IsTrue, All, Contains, slice_index_or, ◌⊎◌, inl, inr, refl, sym, ap, ◌∙◌, subst, arith, true≢false, ⊎_elim, Option, Some, None, Vec, is_some, nat_cmp, is_lt, Ordering, Less, unwrap_or, option_map, lit<}
 use Rattle.std.specs.Prelude.{slice_get}
 use Rattle.std.specs.Global.{Global}
 use Rattle.std.specs.BTreeMap.{BTreeMap, get, IsOrdered, is_at}
@@ -62,9 +62,9 @@ pub numbers_each : (key : ℕ → Key) (n : ℕ) (vs : List (Vec ℕ Global)) (x
     → (i : ℕ) × (x.0 ≡ key (n + i)) × (x.1 ≡ at_number vs i) × (0 < length x.1)
 numbers_each key n [] x c = none_in x c
 numbers_each key n (v ∷ vs) x c = ⊎_elim
-  (λ (e, f, some). (0, e ∙ ap key (let z : n ≡ n + 0 = omega arith in z), f, subst (λ (ps : List ℕ). 0 < length ps) (sym f) some))
-  (λ d. let (i, e, f, some) = numbers_each key (n + 1) vs x d in (suc i, e ∙ ap key (let z : n + 1 + i ≡ n + suc i = omega arith in z), f, some))
-  (before_cases (key n) v.items (lists_of_numbers key (n + 1) vs) x c)
+    (λ (e, f, some). (0, e ∙ ap key (let z : n ≡ n + 0 = omega arith in z), f, subst (λ (ps : List ℕ). 0 < length ps) (sym f) some))
+    (λ d. let (i, e, f, some) = numbers_each key (n + 1) vs x d in (suc i, e ∙ ap key (let z : n + 1 + i ≡ n + suc i = omega arith in z), f, some))
+    (before_cases (key n) v.items (lists_of_numbers key (n + 1) vs) x c)
 
 pub numbers_all : (key : ℕ → Key) (n : ℕ) (vs : List (Vec ℕ Global)) (i : ℕ) → 0 < length (at_number vs i) → Contains (lists_of_numbers key n vs) (key (n + i), at_number vs i)
 numbers_all key n [] i some = absurd (omega arith)
@@ -74,13 +74,13 @@ numbers_all key n (v ∷ vs) zero some =
 numbers_all key n (v ∷ vs) (suc i) some =
     let z : n + 1 + i ≡ n + suc i = omega arith in
     subst (λ m. Contains (lists_of_numbers key n (v ∷ vs)) (key m, at_number vs i)) z
-      (before_there (key n) v.items (lists_of_numbers key (n + 1) vs) (key (n + 1 + i), at_number vs i) (numbers_all key (n + 1) vs i some))
+    (before_there (key n) v.items (lists_of_numbers key (n + 1) vs) (key (n + 1 + i), at_number vs i) (numbers_all key (n + 1) vs i some))
 
 pub numbers_ascend : (key : ℕ → Key) (n : ℕ) (vs : List (Vec ℕ Global)) → ((i j : ℕ) → i < j → Lower (key i) (key j)) → Ascend (lists_of_numbers key n vs)
 numbers_ascend key n [] low = tt
 numbers_ascend key n (v ∷ vs) low = before_ascend (key n) v.items (lists_of_numbers key (n + 1) vs)
-  (λ y c. let (i, e, f, some) = numbers_each key (n + 1) vs y c in subst (λ (k : Key). Lower (key n) k) (sym e) (low n (n + 1 + i) (omega arith)))
-  (numbers_ascend key (n + 1) vs low)
+    (λ y c. let (i, e, f, some) = numbers_each key (n + 1) vs y c in subst (λ (k : Key). Lower (key n) k) (sym e) (low n (n + 1 + i) (omega arith)))
+    (numbers_ascend key (n + 1) vs low)
 
 protos_rise : (i j : ℕ) → i < j → Lower (Proto i) (Proto j)
 protos_rise i j h = grind (arith, nat_tests)
@@ -93,16 +93,16 @@ ports_rise i j h = grind (arith, nat_tests)
 pub entries_each : (es : List (Key × Vec ℕ Global)) (x : KeyList) → Contains (lists_of_entries es) x → (v : Vec ℕ Global) × Contains es (x.0, v) × (x.1 ≡ v.items) × (0 < length x.1)
 entries_each [] x c = none_in x c
 entries_each (e ∷ es) x c = ⊎_elim
-  (λ (f, g, some). (e.1, subst (λ (k : Key). Contains (e ∷ es) (k, e.1)) (sym f) (here e es), g, subst (λ (ps : List ℕ). 0 < length ps) (sym g) some))
-  (λ d. let (v, m, g, some) = entries_each es x d in (v, there e (x.0, v) es m, g, some))
-  (before_cases e.0 e.1.items (lists_of_entries es) x c)
+    (λ (f, g, some). (e.1, subst (λ (k : Key). Contains (e ∷ es) (k, e.1)) (sym f) (here e es), g, subst (λ (ps : List ℕ). 0 < length ps) (sym g) some))
+    (λ d. let (v, m, g, some) = entries_each es x d in (v, there e (x.0, v) es m, g, some))
+    (before_cases e.0 e.1.items (lists_of_entries es) x c)
 
 pub entries_all : (es : List (Key × Vec ℕ Global)) (k : Key) (v : Vec ℕ Global) → Contains es (k, v) → 0 < length v.items → Contains (lists_of_entries es) (k, v.items)
 entries_all [] k v c some = none_in (k, v) c
 entries_all (e ∷ es) k v c some = ⊎_elim
-  (λ f. subst (λ (x : Key × Vec ℕ Global). Contains (lists_of_entries (e ∷ es)) (x.0, x.1.items)) f (before_here e.0 e.1.items (lists_of_entries es) (subst (λ (x : Key × Vec ℕ Global). 0 < length x.1.items) (sym f) some)))
-  (λ d. before_there e.0 e.1.items (lists_of_entries es) (k, v.items) (entries_all es k v d some))
-  (here_or e (k, v) es c)
+    (λ f. subst (λ (x : Key × Vec ℕ Global). Contains (lists_of_entries (e ∷ es)) (x.0, x.1.items)) f (before_here e.0 e.1.items (lists_of_entries es) (subst (λ (x : Key × Vec ℕ Global). 0 < length x.1.items) (sym f) some)))
+    (λ d. before_there e.0 e.1.items (lists_of_entries es) (k, v.items) (entries_all es k v d some))
+    (here_or e (k, v) es c)
 
 -- the derived order of keys is that by kind and number
 derived_is : (k j : Key) → derived.ghosts.cmp k j ≡ key_cmp k j
@@ -120,10 +120,10 @@ entries_ascend : (es : List (Key × Vec ℕ Global)) → IsStrictlySortedBy deri
 unfolding IsStrictlySortedBy
 entries_ascend [] h = tt
 entries_ascend (e ∷ es) h = before_ascend e.0 e.1.items (lists_of_entries es)
-  (λ y c. let (v, m, g, some) = entries_each es y c in
+    (λ y c. let (v, m, g, some) = entries_each es y c in
     let less : derived.ghosts.cmp e.0 y.0 ≡ Less = by_recursion (λ (k : Key). derived.ghosts.cmp e.0 k ≡ Less) (keys_of es) h.0 y.0 (key_in es y.0 v m) in
     ap (λ (o : Ordering). is_lt o) (sym (derived_is e.0 y.0) ∙ less))
-  (entries_ascend es h.1)
+    (entries_ascend es h.1)
 
 -- keys that neither kind nor number tells apart
 tied : (a b : ℕ) → is_eq (nat_cmp a b) ≡ true → a ≡ b
@@ -141,18 +141,18 @@ one_key _ _ h = absurd (true≢false (sym h))
 
 from_place : {X : Type 0} (xs : List X) (i : ℕ) (x : X) → slice_get xs i ≡ Some x → Contains xs x
 from_place xs i x e = ⊎_elim
-  (λ (y, less, f, g). let same : y ≡ x = ap (λ o. unwrap_or o y) (sym f ∙ e) in (i, less, subst (λ z. slice_index_or xs i z ≡ z) same g))
-  (λ (past, f). absurd (true≢false (ap is_some (sym e ∙ f))))
-  (slice_get_cases xs i).1
+    (λ (y, less, f, g). let same : y ≡ x = ap (λ o. unwrap_or o y) (sym f ∙ e) in (i, less, subst (λ z. slice_index_or xs i z ≡ z) same g))
+    (λ (past, f). absurd (true≢false (ap is_some (sym e ∙ f))))
+    (slice_get_cases xs i).1
 
 -- the list of a key that has positions is an entry
 entry_of : (m : BTreeMap Key (Vec ℕ Global)) (k : Key) → 0 < length (at_key m k) → (v : Vec ℕ Global) × (get derived.ghosts.cmp m k ≡ Some v) × Contains m.entries (k, v)
 entry_of m k some = elim (get derived.ghosts.cmp m k) as (λ (o : Option (Vec ℕ Global)). get derived.ghosts.cmp m k ≡ o → 0 < length (unwrap_or (option_map (λ v. v.items) o) []) → (v : Vec ℕ Global) × (get derived.ghosts.cmp m k ≡ Some v) × Contains m.entries (k, v)) [
   | None ↦ λ e h. absurd (omega (arith, h))
   | Some v ↦ λ e h.
-    let (i, j, place, passed) = place_from_lookup (is_at (derived.ghosts.cmp k)) m.entries v e in
-    let same : k ≡ j = one_key k j (ap (λ (o : Ordering). is_eq o) (sym (derived_is k j)) ∙ passed) in
-    (v, e, subst (λ (x : Key). Contains m.entries (x, v)) (sym same) (from_place m.entries i (j, v) place))
+      let (i, j, place, passed) = place_from_lookup (is_at (derived.ghosts.cmp k)) m.entries v e in
+      let same : k ≡ j = one_key k j (ap (λ (o : Ordering). is_eq o) (sym (derived_is k j)) ∙ passed) in
+      (v, e, subst (λ (x : Key). Contains m.entries (x, v)) (sym same) (from_place m.entries i (j, v) place))
 ] refl some
 
 -- the other keys
@@ -213,7 +213,7 @@ of_other l k some =
     let (v, e, c) = entry_of l.others k some in
     let items : at_key l.others k ≡ v.items = ap (λ (o : Option (Vec ℕ Global)). unwrap_or (option_map (λ v. v.items) o) []) e in
     subst (λ (ps : List ℕ). Contains (lists_of_entries l.others.entries) (k, ps)) (sym items)
-      (entries_all l.others.entries k v c (subst (λ (ps : List ℕ). 0 < length ps) items some))
+    (entries_all l.others.entries k v c (subst (λ (ps : List ℕ). 0 < length ps) items some))
 
 abbrev protos_of : PositionLists → List KeyList
 protos_of l = lists_of_numbers (λ n. Proto n) 0 l.protos.items
@@ -243,16 +243,16 @@ are_lists l a b order found =
     let ports = of_number l (λ n. Port n) l.ports.items (λ n. refl) in
     let others = of_entry l a b found in
     let late = append_ascend (ports_of l) (others_of l) (numbers_ascend (λ n. Port n) 0 l.ports.items ports_rise) (entries_ascend l.others.entries order)
-      (λ x y c d. let (n, e, f, some) = ports x c in let (g, more, kind) = others y d in subst (λ (k : Key). Lower k y.0) (sym e) (by_kind (Port n) y.0 kind)) in
+    (λ x y c d. let (n, e, f, some) = ports x c in let (g, more, kind) = others y d in subst (λ (k : Key). Lower k y.0) (sym e) (by_kind (Port n) y.0 kind)) in
     record {
       ascend = append_ascend (protos_of l) (ports_of l ++ others_of l) (numbers_ascend (λ n. Proto n) 0 l.protos.items protos_rise) late
-        (λ x y c d. let (n, e, f, some) = protos x c in subst (λ (k : Key). Lower k y.0) (sym e) (⊎_elim
+          (λ x y c d. let (n, e, f, some) = protos x c in subst (λ (k : Key). Lower k y.0) (sym e) (⊎_elim
           (λ i. let (m, g, h, more) = ports y i in subst (λ (k : Key). Lower (Proto n) k) (sym g) (by_kind (Proto n) (Port m) (lit< tt)))
           (λ i. let (g, more, kind) = others y i in by_kind (Proto n) y.0 (omega (arith, kind)))
           (Contains-append_cases (ports_of l) (others_of l) y d)));
       each = all_of (λ x. (x.1 ≡ positions_at l x.0) × (0 < length x.1)) (key_lists l) (λ x c. ⊎_elim
-        (λ i. let (n, e, f, some) = protos x i in (f, some))
-        (λ i. ⊎_elim (λ j. let (n, e, f, some) = ports x j in (f, some)) (λ j. let (g, more, kind) = others x j in (g, more)) (Contains-append_cases (ports_of l) (others_of l) x i))
-        (Contains-append_cases (protos_of l) (ports_of l ++ others_of l) x c));
+          (λ i. let (n, e, f, some) = protos x i in (f, some))
+          (λ i. ⊎_elim (λ j. let (n, e, f, some) = ports x j in (f, some)) (λ j. let (g, more, kind) = others x j in (g, more)) (Contains-append_cases (ports_of l) (others_of l) x i))
+          (Contains-append_cases (protos_of l) (ports_of l ++ others_of l) x c));
       all = every l;
     }

@@ -1,19 +1,16 @@
 -- Bytes fail as a table in one way at most.
-use Rattle.std.proofs.Common.{◌≡◌, ℕ, zero, suc, ◌+◌, ◌-◌, ◌<◌, ◌≤◌, Bool, true, false, List, [], ◌∷◌, ◌++◌, length, take, drop, take-append-drop, All, Option, Some, None, Result, Ok, Err, refl, sym, ap, ◌∙◌, subst, inl, inr, ◌⊎◌, arith}
-use Rattle.std.specs.Prelude.{IsTrue, nat_lt, if◌then◌else◌}
-use Rattle.std.specs.Option.{option_or}
+use Rattle.std.proofs.Common.{◌≡◌, ℕ, zero, suc, ◌+◌, ◌-◌, ◌<◌, Bool, true, false, List, [], ◌∷◌, length, take, drop, take-append-drop, All, Option, Some, None, Result, Ok, refl, sym, ap, ◌∙◌, subst, inl, inr, ◌⊎◌, arith}
+use Rattle.std.specs.Prelude.{IsTrue, nat_lt}
 use Rattle.std.proofs.lemmas.Bool.Decides.{nat_tests}
 use Rattle.std.proofs.lemmas.List.Elements.{All-head, All-tail}
 use Rattle.st_base.specs.Damages.{DamageView, damage_view}
-use Rattle.st_tblock.specs.Parsing.{Read}
-use Rattle.st_tblock.specs.Block.{RowView, Entry, BlockReading, Rows, start, next_in, past, restarts_in}
+use Rattle.st_tblock.specs.Block.{RowView, Entry, BlockReading, Rows, start, next_in, past}
 use Rattle.st_tblock.specs.Handles.{footer_in, IsHandle}
 use Rattle.st_tblock.specs.declared.handle.Handle.{Handle}
-use Rattle.st_table.specs.TableFile.{IsTable, HasIndex, Blocks, Stored, footer_at}
-use Rattle.st_table.specs.Stored.{stored_wrong}
+use Rattle.st_table.specs.TableFile.{HasIndex, Blocks, Stored, footer_at}
 use Rattle.st_table.specs.RowOrder.{last_key}
 use Rattle.st_table.specs.Errors.{TableErrView, Damaged, NoCheckFailed, err_view}
-use Rattle.st_table.specs.Rows.{Fails, HasRead, BoundsView, entry_wrong, row_wrong, row_of, lies_in, RefusesBlock}
+use Rattle.st_table.specs.Rows.{Fails, BoundsView, entry_wrong, row_wrong, row_of, lies_in}
 use Rattle.st_table.specs.Index.{RefusesTable, RefusesStored, ReadsFooter, footer_wrong, moved, holds_handle, IsBlockAt, around}
 use Rattle.st_table.specs.IndexLookup.{first_after, found_at}
 use Rattle.st_table.specs.Cursor.{RefusesNext}
@@ -21,7 +18,7 @@ use Rattle.st_table.specs.declared.errors.TableErr.{TableErr}
 use Rattle.st_table.specs.declared.errors.TableErr.TheVariants as table_err
 use Rattle.st_table.proofs.Entries.{row_is_wrong}
 use Rattle.st_table.proofs.Tables.{handle_once, stored_stands}
-use Rattle.st_table.proofs.Stepping.{Parts, blocks-split}
+use Rattle.st_table.proofs.Stepping.{blocks-split}
 use Rattle.std.proofs.lemmas.List.{take-take, drop-take}
 use Rattle.std.proofs.lemmas.Bool.{cases_order}
 use Rattle.st_index.proofs.TableStands.{next_stands, one_index, no_damage}

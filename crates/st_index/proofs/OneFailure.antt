@@ -1,7 +1,6 @@
 -- A pair fails in one way at most.
-use Rattle.std.proofs.Common.{◌≡◌, ℕ, List, Option, Some, None, refl, sym, ap, ◌∙◌, subst, inl, inr}
-use Rattle.st_base.specs.Damages.{DamageView}
-use Rattle.st_tblock.specs.Block.{RowView}
+use Rattle.std.proofs.Common.{◌≡◌, ℕ, List, length, Option, Some, None, Result, Ok, Err, refl, sym, ap, ◌∙◌, subst, inl, inr}
+use Rattle.st_base.specs.Damages.{DamageView, damage_view}
 use Rattle.st_block.specs.Checks.{file_wrong}
 use Rattle.st_block.specs.Scan.{PositionedRecord}
 use Rattle.st_block.proofs.Unhurt.{file_unhurt, one_given_there}
@@ -9,10 +8,16 @@ use Rattle.st_table.proofs.OneTable.{one_table}
 use Rattle.st_rows.specs.Rows.{AreRowsOf}
 use Rattle.st_rows.proofs.OneRows.{one_list_of_rows}
 use Rattle.st_index.specs.CheckRows.{content_wrong, rows_wrong}
-use Rattle.st_index.specs.Verdict.{FailsAsIndex, FailsInRows}
-use Rattle.st_index.specs.CheckLaws.{OneFailure}
+use Rattle.st_rows.specs.Whole.{IsWhole}
+use Rattle.st_index.specs.Verdict.{FailsAsIndex, FailsInRows, Judges}
+use Rattle.st_index.specs.CheckLaws.{OneFailure, OneVerdict}
 use Rattle.st_index.specs.declared.checker.Part.TheVariants as part
+use Rattle.std.specs.Prelude.{IfOk}
+use Rattle.st_index.specs.declared.checker.CheckErr.{CheckErr}
+use Rattle.st_index.specs.declared.checker.Verdict.{Verdict}
+use Rattle.st_index.specs.declared.checker.Verdict.TheVariants.{Whole, Differs}
 use Rattle.st_index.proofs.TableStands.{table_stands}
+use Rattle.st_index.proofs.PairStands.{pair_stands}
 use Rattle.st_index.proofs.OneDamage.{one_table_failure}
 
 one_some : (o p : Option DamageView) (d e : DamageView) → o ≡ p → o ≡ Some d → p ≡ Some e → d ≡ e
@@ -57,3 +62,21 @@ one_failure block index part.Index part.Rows d e f g = absurd (index_or_rows blo
 one_failure block index part.Rows part.Block d e f g = absurd (not_both (file_wrong block) (file_wrong block) e refl (file_unhurt block f.given f.file) g)
 one_failure block index part.Rows part.Index d e f g = absurd (index_or_rows block index e d g.1 f)
 one_failure block index part.Rows part.Rows d e f g = (refl, one_difference block index d e f g)
+
+-- and so it has one verdict
+pub one_verdict : OneVerdict
+one_verdict block index (Whole n) (Whole m) (xs, w, e) (ys, u, f) =
+    e ∙ ap length (one_given_there block xs ys w.file u.file) ∙ sym f
+one_verdict block index (Whole n) (Differs q d) (xs, w, e) f = pair_stands block index xs q (damage_view d) w f
+one_verdict block index (Differs p d) (Whole m) f (xs, w, e) = pair_stands block index xs p (damage_view d) w f
+one_verdict block index (Differs p d) (Differs q e) f g = one_failure block index p q (damage_view d) (damage_view e) f g
+
+-- of a whole pair it says the number of its packets
+pub whole_verdict : (block index : List ℕ) (given : List PositionedRecord) (v : Verdict) → Judges block index v → IsWhole block index given → v ≡ Whole (length given)
+whole_verdict block index given (Whole n) (xs, w, e) u =
+    ap (λ (m : ℕ). Whole m) (e ∙ ap length (one_given_there block xs given w.file u.file))
+whole_verdict block index given (Differs p d) f u = absurd (pair_stands block index given p (damage_view d) u f)
+
+pub whole_result : (block index : List ℕ) (given : List PositionedRecord) (r : Result Verdict CheckErr) → IfOk r (Judges block index) → IsWhole block index given → IfOk r (λ v. v ≡ Whole (length given))
+whole_result block index given (Ok v) j w = whole_verdict block index given v j w
+whole_result block index given (Err e) j w = tt

@@ -1,12 +1,12 @@
 -- Readings of a table, step after step.
-use Rattle.std.proofs.Common.{◌≡◌, ℕ, zero, suc, ◌+◌, false, List, [], ◌∷◌, ◌++◌, append-nil, length, length-append, take, drop, All, Option, Some, None, Result, Ok, Err, refl, sym, ap, ◌∙◌, subst, inl, arith}
-use Rattle.std.proofs.lemmas.List.{take_at, take-append-drop}
+use Rattle.std.proofs.Common.{◌≡◌, ℕ, zero, suc, false, List, [], ◌∷◌, ◌++◌, append-nil, length, take, drop, All, Option, Some, None, Result, refl, sym, ap, ◌∙◌, subst, inl}
+use Rattle.std.proofs.lemmas.List.{take_at}
 use Rattle.std.proofs.Math.Seq.{take-add}
 use Rattle.std.specs.Prelude.{IsTrue}
 use Rattle.std.proofs.lemmas.List.Elements.{All-nil, All-cons}
 use Rattle.st_table.specs.TableFile.{footer_at}
 use Rattle.st_table.specs.Index.{Entered, Decodes, holds_handle}
-use Rattle.st_table.specs.Cursor.{CursorView, Goes, IsDone, RefusesNext, Steps}
+use Rattle.st_table.specs.Cursor.{CursorView, Goes, RefusesNext, Steps}
 use Rattle.st_table.specs.declared.errors.TableErr.{TableErr}
 use Rattle.st_table.specs.declared.errors.TableErr.TheVariants as table_err
 use Rattle.st_table.specs.declared.index.IndexEntry.{IndexEntry}
@@ -71,23 +71,23 @@ decoded_handles (r ∷ index) (e ∷ entries) d =
 -- and the block after them is refused as a block of the table
 pub refuses_data : (bytes : List ℕ) (entries : List IndexEntry) (old new : CursorView) (rows : List RowView) (e : TableErr) → (entered : Entered bytes entries) → entry_for [] None entered.index ≡ found_at entered.index old.next → Goes (footer_at bytes) bytes entered.index old new rows → RefusesNext (footer_at bytes) bytes entered.index new.next e → RefusesData bytes e
 refuses_data bytes entries old new rows e entered f g r = record {
-      index = entered.index;
-      has = entered.has;
-      handles = decoded_handles entered.index entries entered.decoded;
-      number = new.next;
-      before = g.read;
-      good = passed_blocks (footer_at bytes) bytes entered.index old new rows f g;
-      refused = r;
-    }
+  index = entered.index;
+  has = entered.has;
+  handles = decoded_handles entered.index entries entered.decoded;
+  number = new.next;
+  before = g.read;
+  good = passed_blocks (footer_at bytes) bytes entered.index old new rows f g;
+  refused = r;
+}
 
 -- out of memory before the first block
 pub no_memory : (bytes : List ℕ) (entries : List IndexEntry) → Entered bytes entries → RefusesData bytes table_err.NoMemory
 no_memory bytes entries entered = record {
-      index = entered.index;
-      has = entered.has;
-      handles = decoded_handles entered.index entries entered.decoded;
-      number = 0;
-      before = [];
-      good = refl;
-      refused = inl tt;
-    }
+  index = entered.index;
+  has = entered.has;
+  handles = decoded_handles entered.index entries entered.decoded;
+  number = 0;
+  before = [];
+  good = refl;
+  refused = inl tt;
+}

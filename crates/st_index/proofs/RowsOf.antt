@@ -1,11 +1,10 @@
 -- The rows of a maker are those of its packets, and have room in a table.
-use Rattle.std.proofs.Common.{◌≡◌, ℕ, zero, suc, ◌+◌, ◌*◌, ◌<◌, ◌≤◌, ◌^◌, ◌↔◌, Bool, true, false, List, [], ◌∷◌, ◌++◌, length, length-append, map, IsTrue, All, AllPairs, Contains, slice_index_or, ◌⊎◌, inl, inr, refl, sym, ap, ◌∙◌, subst, arith, true≢false, ⊎_elim, Option, Some, None, IsSome, is_lt, nat_cmp, Ordering}
+use Rattle.std.proofs.Common.{◌≡◌, ℕ, zero, suc, ◌+◌, ◌*◌, ◌<◌, ◌≤◌, List, [], ◌∷◌, length, length-append, map, IsTrue, All, AllPairs, Contains, slice_index_or, refl, sym, ap, ◌∙◌, subst, arith, true≢false, Option, Some, None, IsSome, is_lt, nat_cmp, Ordering}
 use Rattle.std.proofs.lemmas.Bool.Decides.{nat_tests}
 use Rattle.std.specs.Ordering.{ordering_then}
 use Rattle.std.specs.Int.{bytes_high_first}
 use Rattle.std.proofs.lemmas.List.Elements.{All-contains}
 use Rattle.byteorder.specs.Numbers.{length-bytes_high_first}
-use Rattle.st_base.specs.Records.{Rec}
 use Rattle.st_walk.specs.declared.text.Key.{Key}
 use Rattle.st_walk.specs.declared.text.Key.TheVariants.{Proto, Port, Vlan, V4, Mpls, V6, Second}
 use Rattle.st_walk.specs.KeyText.{key_text, Fits}
@@ -14,9 +13,9 @@ use Rattle.st_table.specs.TableBuilderView.{room_of}
 use Rattle.st_block.specs.Scan.{PositionedRecord}
 use Rattle.st_rows.specs.KeyOrder.{key_cmp, kind_of, number_of}
 use Rattle.st_rows.specs.Positions.{has, positions_value}
-use Rattle.st_rows.specs.Rows.{HasAt, IsKeyRow, AreKeyRows, AreRowsOf, summary_key, summary_value}
+use Rattle.st_rows.specs.Rows.{IsKeyRow, AreRowsOf, summary_key}
 use Rattle.st_rows.proofs.KeyTexts.{texts}
-use Rattle.st_rows.proofs.OneList.{here, there, has_from, has_to, Sorted}
+use Rattle.st_rows.proofs.OneList.{here, there, has_from, Sorted}
 use Rattle.st_rows.proofs.Packets.{packet_keys_fit}
 use Rattle.st_index.specs.PositionLists.{positions_at, AreDistinct, count_in}
 use Rattle.st_index.specs.Summaries.{summary_view}
@@ -70,10 +69,11 @@ Before r q = IsTrue (is_before r.0 q.0)
 
 rows_sorted : (xs : List KeyList) → ((x : KeyList) → Contains xs x → Fits x.0) → Ascend xs → Sorted Before (map key_row xs)
 rows_sorted [] fit s = tt
-rows_sorted (x ∷ xs) fit s =
-    ((λ r c. let (y, d, e) = in_rows xs r c in
+rows_sorted (x ∷ xs) fit s = (
+  (λ r c. let (y, d, e) = in_rows xs r c in
       subst (λ (q : RowView). Before (key_row x) q) e (text_before x.0 y.0 (fit x (here x xs)) (fit y (there x y xs d)) (s.0 y d))),
-    rows_sorted xs (λ y c. fit y (there x y xs c)) s.1)
+  rows_sorted xs (λ y c. fit y (there x y xs c)) s.1,
+)
 
 -- ---- the rows of packets
 
@@ -102,21 +102,25 @@ rows_of_records l s end given xs are h =
       keys = map key_row xs;
       split = refl;
       of_keys = record {
-        each = all_rows (λ row. (k : Key) × Fits k × IsKeyRow given k row) xs (λ x c. (x.0, fit x c, record {
-          key = refl;
-          positions = x.1;
-          value = refl;
-          rising = (listed x c).0;
-          some = (own x c).1;
-          exact = (listed x c).1;
-        }));
+        each = all_rows (λ row. (k : Key) × Fits k × IsKeyRow given k row) xs (λ x c. (
+          x.0,
+          fit x c,
+          record {
+            key = refl;
+            positions = x.1;
+            value = refl;
+            rising = (listed x c).0;
+            some = (own x c).1;
+            exact = (listed x c).1;
+          },
+        ));
         all = λ k p i.
-          let held = ((h.positions k).1 p).1 i in
-          let c = are.all k (had_some (positions_at l k) p held) in
-          (key_row (k, positions_at l k), row_in xs (k, positions_at l k) c, refl);
+            let held = ((h.positions k).1 p).1 i in
+            let c = are.all k (had_some (positions_at l k) p held) in
+            (key_row (k, positions_at l k), row_in xs (k, positions_at l k) c, refl);
       };
       order = all_pairs_of Before (summary_row s ∷ map key_row xs)
-        ((λ r c. let (x, d, e) = in_rows xs r c in subst (λ (q : RowView). Before (summary_row s) q) e (summary_before x.0)), rows_sorted xs fit are.ascend);
+          ((λ r c. let (x, d, e) = in_rows xs r c in subst (λ (q : RowView). Before (summary_row s) q) e (summary_before x.0)), rows_sorted xs fit are.ascend);
     }
 
 -- ---- the room that rows take

@@ -1,34 +1,26 @@
 -- The rows of packets hold all checks.
-use Rattle.std.proofs.Common.{◌≡◌, ℕ, ◌+◌, ◌-◌, ◌*◌, ◌%◌, ◌<◌, ◌≤◌, ◌^◌, Bool, true, false, ◌&&◌, nat_eq, nat_lt, List, [], ◌∷◌, ◌++◌, length, length-append, All, AllPairs, Contains, Option, Some, None, refl, sym, ap, ◌∙◌, subst, lit<, arith}
-use Rattle.std.specs.Prelude.{IsTrue, option_map, if◌then◌else◌}
+use Rattle.std.proofs.Common.{◌≡◌, ℕ, ◌+◌, ◌-◌, ◌*◌, ◌%◌, ◌<◌, ◌^◌, Bool, true, false, nat_eq, nat_lt, List, [], ◌∷◌, ◌++◌, length, length-append, All, Contains, Option, Some, None, refl, sym, ap, ◌∙◌, subst, lit<, arith}
+use Rattle.std.specs.Prelude.{option_map, if◌then◌else◌}
 use Rattle.std.specs.Option.{option_or}
-use Rattle.std.specs.List.{flat_map}
 use Rattle.std.proofs.lemmas.Bool.Decides.{nat_tests}
 use Rattle.std.proofs.lemmas.List.Elements.{All-head, All-tail, All-contains, All-nil, All-cons, All-weaker}
-use Rattle.byteorder.specs.Endian.{big_bytes, big_number}
-use Rattle.byteorder.specs.Numbers.{big_number-reads_back, length-bytes_high_first}
 use Rattle.st_base.specs.Damages.{DamageView, unmet}
 use Rattle.st_tblock.specs.Block.{RowView}
 use Rattle.st_block.specs.BlockText.{HasBytes}
 use Rattle.st_block.specs.Scan.{PositionedRecord}
 use Rattle.st_walk.specs.declared.text.Key.{Key}
-use Rattle.st_walk.specs.declared.text.Key.TheVariants.{Proto, Port, Vlan, V4, Mpls, V6, Second}
 use Rattle.st_walk.specs.KeyText.{key_text, Fits}
-use Rattle.st_rows.specs.Positions.{has, Rising, positions_value, positions_in}
-use Rattle.st_rows.specs.Rows.{SummaryView, summary_key, summary_value, IsKeyRow, AreKeyRows, AreRowsOf, AllFit, HasAt}
+use Rattle.st_rows.specs.Positions.{positions_in}
+use Rattle.st_rows.specs.Rows.{SummaryView, summary_key, summary_value, IsKeyRow, AreRowsOf, AllFit}
 use Rattle.st_rows.proofs.Values.{values_say}
 use Rattle.st_rows.proofs.OneList.{Sorted, sorted_from, here, there, has_from}
-use Rattle.st_index.specs.CheckRows.{is_summary_key, summary_in, summary_wrong, rises, positions_wrong, value_wrong, values_wrong, content_wrong, rows_wrong, row_wrong, length_text, row_text, first_difference}
+use Rattle.st_index.specs.CheckRows.{is_summary_key, summary_wrong, rises, positions_wrong, value_wrong, values_wrong, content_wrong, rows_wrong, row_wrong, length_text, row_text, first_difference}
+use Rattle.st_index.proofs.RowsOf.{text_size, value_size}
 use Rattle.st_index.proofs.Differences.{no_difference, no_difference_itself, same_rows, length_size}
 
 -- the value of a summary row passes its checks
 summary_stands : (s : SummaryView) → summary_wrong (Some (summary_value s)) ≡ None
 summary_stands s = refl
-
--- positions have four bytes each
-value_size : (ps : List ℕ) → length (positions_value ps) ≡ 4 * length ps
-value_size [] = refl
-value_size (p ∷ ps) = let rest = value_size ps in let n = length-bytes_high_first 4 p in let a = length-append (big_bytes 4 p) (positions_value ps) in omega arith
 
 -- lists that rise do
 rises_sorted : (ps : List ℕ) → Sorted (λ (p q : ℕ). p < q) ps → rises ps ≡ true
@@ -66,6 +58,7 @@ row_stands given k row fit is =
     no_wrong n b e t =
         let zero : nat_eq n 0 ≡ true = grind (arith, nat_tests) in
         rw (zero, t) refl
+
     either : (b : Bool) → positions_wrong row.1 ≡ None → ◌≡◌ {A = Option DamageView} (if b then None else positions_wrong row.1) None
     either true h = refl
     either false h = h
@@ -130,17 +123,8 @@ same_lists n (r ∷ rows) (q ∷ wanted) a e =
     λ i. head i ∷ tail i
 
 -- the keys of the rows of packets are short
-short_text : (k : Key) → length (key_text k) < 2 ^ 32 - 1
-short_text (Proto n) = omega arith
-short_text (Port n) = omega arith
-short_text (Vlan n) = omega arith
-short_text (V4 n) = omega arith
-short_text (Mpls n) = omega arith
-short_text (V6 n) = omega arith
-short_text (Second n) = omega arith
-
 short_key : (given : List PositionedRecord) (row : RowView) → (k : Key) × Fits k × IsKeyRow given k row → length row.0 < 2 ^ 32 - 1
-short_key given row (k, f, is) = subst (λ (t : List ℕ). length t < 2 ^ 32 - 1) (sym is.key) (short_text k)
+short_key given row (k, f, is) = let size = text_size k in let l : length row.0 ≡ length (key_text k) = ap length is.key in omega arith
 
 pub short_keys : (given : List PositionedRecord) (rows : List RowView) → AreRowsOf given rows → All (λ r. length r.0 < 2 ^ 32 - 1) rows
 short_keys given rows are =

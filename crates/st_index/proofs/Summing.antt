@@ -1,6 +1,6 @@
 -- The summary with a packet more.
-use Rattle.std.proofs.Common.{◌≡◌, ℕ, zero, suc, ◌+◌, ◌<◌, ◌≤◌, List, [], ◌∷◌, ◌++◌, length, length-append, All, Contains, ◌⊎◌, inl, inr, refl, sym, ap, ◌∙◌, subst, arith, ⊎_elim, Option, Some, None}
-use Rattle.std.proofs.lemmas.List.Elements.{All-contains, All-push, Contains-append_left, Contains-push}
+use Rattle.std.proofs.Common.{◌≡◌, ◌+◌, List, [], ◌∷◌, ◌++◌, length-append, All, inl, inr, refl, sym, ◌∙◌, subst, arith}
+use Rattle.std.proofs.lemmas.List.Elements.{All-push, Contains-append_left, Contains-push}
 use Rattle.st_base.specs.Records.{time}
 use Rattle.st_block.specs.Scan.{PositionedRecord}
 use Rattle.st_rows.specs.Rows.{Moment, IsUpTo, WasAt, SummaryView, IsSummary}
@@ -30,19 +30,19 @@ first_more : (given : List PositionedRecord) (x : PositionedRecord) (old now : M
     → IsEarlier old (time x.1) now → WasAt (given ++ x ∷ []) now × All (λ y. IsUpTo now (time y.1)) (given ++ x ∷ [])
 first_more given x old now was all (inl (e, h)) =
     subst (λ (t : Moment). WasAt (given ++ x ∷ []) t × All (λ y. IsUpTo t (time y.1)) (given ++ x ∷ [])) (sym e)
-      (kept given x old was, all_more (λ y. IsUpTo old (time y.1)) given x all h)
+    (kept given x old was, all_more (λ y. IsUpTo old (time y.1)) given x all h)
 first_more given x old now was all (inr (e, h)) =
     subst (λ (t : Moment). WasAt (given ++ x ∷ []) t × All (λ y. IsUpTo t (time y.1)) (given ++ x ∷ [])) (sym e)
-      (gained given x (time x.1) refl, all_more (λ y. IsUpTo (time x.1) (time y.1)) given x (λ i d less. up_trans (time x.1) old _ h (all i d less)) (up_itself (time x.1)))
+    (gained given x (time x.1) refl, all_more (λ y. IsUpTo (time x.1) (time y.1)) given x (λ i d less. up_trans (time x.1) old _ h (all i d less)) (up_itself (time x.1)))
 
 last_more : (given : List PositionedRecord) (x : PositionedRecord) (old now : Moment) → WasAt given old → All (λ y. IsUpTo (time y.1) old) given
     → IsLater old (time x.1) now → WasAt (given ++ x ∷ []) now × All (λ y. IsUpTo (time y.1) now) (given ++ x ∷ [])
 last_more given x old now was all (inl (e, h)) =
     subst (λ (t : Moment). WasAt (given ++ x ∷ []) t × All (λ y. IsUpTo (time y.1) t) (given ++ x ∷ [])) (sym e)
-      (kept given x old was, all_more (λ y. IsUpTo (time y.1) old) given x all h)
+    (kept given x old was, all_more (λ y. IsUpTo (time y.1) old) given x all h)
 last_more given x old now was all (inr (e, h)) =
     subst (λ (t : Moment). WasAt (given ++ x ∷ []) t × All (λ y. IsUpTo (time y.1) t) (given ++ x ∷ [])) (sym e)
-      (gained given x (time x.1) refl, all_more (λ y. IsUpTo (time y.1) (time x.1)) given x (λ i d less. up_trans _ old (time x.1) (all i d less) h) (up_itself (time x.1)))
+    (gained given x (time x.1) refl, all_more (λ y. IsUpTo (time y.1) (time x.1)) given x (λ i d less. up_trans _ old (time x.1) (all i d less) h) (up_itself (time x.1)))
 
 pub first_packet : (x : PositionedRecord) → IsSummary (x ∷ []) (record { packets = 1; first = time x.1; last = time x.1 })
 first_packet x = record {

@@ -1,21 +1,19 @@
 -- Over a table no check of it fails.
-use Rattle.std.proofs.Common.{◌≡◌, ℕ, List, [], ◌∷◌, ◌++◌, take, drop, take-append-drop, All, Option, Some, None, Result, Ok, Err, sym, ap, ◌∙◌, subst, inl, inr}
+use Rattle.std.proofs.Common.{◌≡◌, ℕ, List, ◌++◌, take, drop, take-append-drop, All, Option, None, Result, Ok, sym, ap, ◌∙◌, subst, inl, inr}
 use Rattle.std.specs.Prelude.{IsTrue}
 use Rattle.st_base.specs.Damages.{DamageView}
 use Rattle.st_tblock.specs.Block.{RowView}
-use Rattle.st_tblock.specs.Handles.{footer_in}
 use Rattle.st_tblock.specs.declared.handle.Handle.{Handle}
 use Rattle.st_table.specs.TableFile.{IsTable, HasIndex, Blocks, Stored, Between, footer_at}
 use Rattle.st_table.specs.RowOrder.{last_key}
 use Rattle.st_table.specs.Errors.{NoCheckFailed}
 use Rattle.st_table.specs.Rows.{BoundsView, lies_in}
-use Rattle.st_table.specs.Index.{RefusesTable}
 use Rattle.st_table.specs.Cursor.{RefusesNext}
 use Rattle.st_table.specs.declared.errors.TableErr.{TableErr}
 use Rattle.st_table.specs.declared.errors.TableErr.TheVariants as table_err
 use Rattle.st_table.proofs.Values.{is_between}
 use Rattle.st_table.proofs.Tables.{handle_once, stored_once, stored_stands, table_entered}
-use Rattle.st_table.proofs.Stepping.{Parts, blocks-split, first_is}
+use Rattle.st_table.proofs.Stepping.{blocks-split, first_is}
 use Rattle.st_index.specs.Verdict.{IsDamage, RefusesData, FailsAsTable}
 
 -- the next block is refused by no check

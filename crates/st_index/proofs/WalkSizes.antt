@@ -1,5 +1,5 @@
 -- A frame has at least four bytes for each of its keys.
-use Rattle.std.proofs.Common.{◌≡◌, ℕ, zero, suc, ◌+◌, ◌-◌, ◌*◌, ◌/◌, ◌%◌, ◌<◌, ◌≤◌, Bool, true, false, ◌&&◌, ◌==◌, if◌then◌else◌, Option, Some, None, List, [], ◌∷◌, ◌++◌, length, length-append, refl, sym, ap, ◌∙◌, subst, arith}
+use Rattle.std.proofs.Common.{◌≡◌, ℕ, zero, suc, ◌+◌, ◌-◌, ◌*◌, ◌/◌, ◌%◌, ◌≤◌, Bool, true, false, ◌&&◌, ◌==◌, if◌then◌else◌, Option, Some, None, List, [], ◌∷◌, length, length-append, refl, arith}
 use Rattle.std.proofs.lemmas.Bool.Decides.{nat_tests}
 use Rattle.st_walk.specs.declared.header.Layer.{Layer}
 use Rattle.st_walk.specs.declared.header.Layer.TheVariants.{Ether, Next, Label, Ip4, Ip6, Chain, Last, Fragment, Ports}
@@ -50,8 +50,8 @@ ether p o n false = omega arith
 
 next : (p : List ℕ) (o m n : ℕ) (x : Key) (t h l f s : Bool) → (h ≡ true → o + 4 ≤ length p)
     → Pays p o (Next m) (if t && h then x ∷ [] else [])
-      (if t then (if h then spot_at (o + 4) (Next n) else None)
-      else (if l then spot_at o Label else (if f then spot_at o Ip4 else (if s then spot_at o Ip6 else None))))
+    (if t then (if h then spot_at (o + 4) (Next n) else None)
+    else (if l then spot_at o Label else (if f then spot_at o Ip4 else (if s then spot_at o Ip6 else None))))
 unfolding bytes_left owed
 next p o m n x true true l f s r = omega (arith, r refl)
 next p o m n x true false l f s r = omega arith
@@ -62,7 +62,7 @@ next p o m n x false h false false false r = omega arith
 
 label : (p : List ℕ) (o : ℕ) (x : Key) (h b f s : Bool) → (h ≡ true → o + 4 ≤ length p)
     → Pays p o Label (if h then x ∷ [] else [])
-      (if h then (if b then (if f then spot_at (o + 4) Ip4 else (if s then spot_at (o + 4) Ip6 else None)) else spot_at (o + 4) Label) else None)
+    (if h then (if b then (if f then spot_at (o + 4) Ip4 else (if s then spot_at (o + 4) Ip6 else None)) else spot_at (o + 4) Label) else None)
 unfolding bytes_left owed
 label p o x true true true s r = omega (arith, r refl)
 label p o x true true false true r = omega (arith, r refl)

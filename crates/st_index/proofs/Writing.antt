@@ -1,25 +1,24 @@
 -- Adding the rows of a maker to a table, one by one.
-use Rattle.std.proofs.Common.{◌≡◌, ℕ, zero, suc, ◌+◌, ◌*◌, ◌<◌, ◌≤◌, ◌^◌, Bool, true, false, List, [], ◌∷◌, ◌++◌, length, length-append, append_assoc, append-nil, take, IsTrue, Contains, Option, Some, None, Result, Ok, Err, is_some, refl, sym, ap, ◌∙◌, subst, arith, true≢false}
+use Rattle.std.proofs.Common.{◌≡◌, ℕ, ◌+◌, ◌<◌, List, [], ◌∷◌, ◌++◌, length, length-append, append_assoc, append-nil, IsTrue, Option, Some, None, Result, Ok, Err, is_some, refl, sym, ap, ◌∙◌, subst, arith, true≢false}
 use Rattle.std.specs.Prelude.{IfOk}
 use Rattle.std.specs.Io.KnownBytes.{Appends}
 use Rattle.std.proofs.KnownBytes.{Appends-nil, Appends-trans}
 use Rattle.byteorder.specs.Numbers.{length-bytes_high_first}
 use Rattle.std.specs.Int.{bytes_high_first}
 use Rattle.st_base.specs.Pieces.{AppendsPrefix, Puts}
-use Rattle.st_base.proofs.Putting.{prefix-none, prefix-more, prefix-then}
-use Rattle.st_walk.specs.declared.text.Key.{Key}
+use Rattle.st_base.proofs.Putting.{prefix-more, prefix-then}
 use Rattle.st_walk.specs.KeyText.{key_text, Fits}
 use Rattle.st_tblock.specs.Block.{RowView, is_above}
 use Rattle.st_table.specs.TableFile.{IsTable}
 use Rattle.st_table.specs.TableBuilderView.{TableBuilderView, no_rows, room_of, written_by, after_row, finishing}
 use Rattle.st_table.specs.Builder.{Builds, MayAdd, last_added}
 use Rattle.st_rows.specs.Rows.{SummaryView, summary_key, summary_value}
-use Rattle.st_rows.proofs.OneList.{here, there}
+use Rattle.st_rows.proofs.OneList.{here}
 use Rattle.st_index.specs.EntryLists.{KeyList}
-use Rattle.st_index.specs.KeyLists.{lists_left, Ascend, count_of}
+use Rattle.st_index.specs.KeyLists.{lists_left}
 use Rattle.st_index.specs.RowList.{summary_row, key_row, held_row, IsNextOf}
 use Rattle.st_index.specs.Summaries.{summary_view}
-use Rattle.st_index.specs.Write.{after_rows, rows_text, table_text, BuildsOn, summary_room, IsReady}
+use Rattle.st_index.specs.Write.{after_rows, rows_text, table_text, BuildsOn, IsReady}
 use Rattle.st_index.specs.declared.row_list.RowList.{RowList}
 use Rattle.st_index.specs.declared.summary.Summary.{Summary}
 use Rattle.st_index.proofs.RowsOf.{text_before, summary_before, text_size, value_size, row_room}
@@ -149,10 +148,10 @@ put_more old k q all left more r before mid now h split after written builds =
       builder = after ∙ (ap (λ (p : TableBuilderView). after_row p r) h.builder ∙ sym (after_rows-append old h.done (r ∷ [])));
       written = subst (λ (t : List ℕ). Appends before now t) (sym text) (Appends-trans before mid now (rows_text old h.done) (written_by k r) h.written written);
       builds = λ bytes rows b.
-        let on = builds (bytes ++ rows_text old h.done) (rows ++ h.done) (h.builds bytes rows b) in
-        subst (λ (t : List ℕ). Builds q (bytes ++ t) (rows ++ (h.done ++ r ∷ []))) (sym text)
+          let on = builds (bytes ++ rows_text old h.done) (rows ++ h.done) (h.builds bytes rows b) in
+          subst (λ (t : List ℕ). Builds q (bytes ++ t) (rows ++ (h.done ++ r ∷ []))) (sym text)
           (subst (λ (t : List ℕ). Builds q t (rows ++ (h.done ++ r ∷ []))) (append_assoc bytes (rows_text old h.done) (written_by k r))
-            (subst (λ (rs : List RowView). Builds q ((bytes ++ rows_text old h.done) ++ written_by k r) rs) (append_assoc rows h.done (r ∷ [])) on));
+          (subst (λ (rs : List RowView). Builds q ((bytes ++ rows_text old h.done) ++ written_by k r) rs) (append_assoc rows h.done (r ∷ [])) on));
     }
 
 -- after a fault in the next row, or in the rows to come
@@ -181,7 +180,7 @@ pub all_put : (first k : TableBuilderView) (left rows : List RowView) (before no
     → (k ≡ after_rows first left) × Appends before now (rows_text first left) × BuildsOn first k (rows_text first left) left → AllPut k rows before now
 all_put first k left rows before now e f h =
     subst (λ (b : TableBuilderView). (k ≡ after_rows b rows) × Appends before now (rows_text b rows) × BuildsOn b k (rows_text b rows) rows) e
-      (subst (λ (rs : List RowView). (k ≡ after_rows first rs) × Appends before now (rows_text first rs) × BuildsOn first k (rows_text first rs) rs) f h)
+    (subst (λ (rs : List RowView). (k ≡ after_rows first rs) × Appends before now (rows_text first rs) × BuildsOn first k (rows_text first rs) rs) f h)
 
 pub table_put : {T E : Type 0} (k : TableBuilderView) (rows : List RowView) (before mid now : Option (List ℕ)) (result : Result T E) → AllPut k rows before mid
     → Puts mid now (finishing k) result → Puts before now (table_text rows) result
@@ -210,19 +209,4 @@ table_of k rows before now none put table =
 pub table_prefix : (k : TableBuilderView) (left rows : List RowView) (before now : Option (List ℕ)) → k ≡ no_rows → left ≡ rows → AppendsPrefix before now (rows_text k left) → AppendsPrefix before now (table_text rows)
 table_prefix k left rows before now e f p =
     prefix-more before now (rows_text no_rows rows) (finishing (after_rows no_rows rows))
-      (subst (λ (b : TableBuilderView). AppendsPrefix before now (rows_text b rows)) e (subst (λ (rs : List RowView). AppendsPrefix before now (rows_text k rs)) f p))
-
--- a new builder may add all rows
-pub ready_first : (k : TableBuilderView) (o summary : Option Summary) (lists : List KeyList) → k ≡ no_rows → o ≡ summary → Ascend lists → 4 * count_of lists + 48 ≤ 2 ^ 32 → IsReady k o lists
-ready_first k o summary lists e f ascend few =
-    subst (λ (b : TableBuilderView). IsReady b o lists) (sym e) (record {
-      first = λ s h. refl;
-      above = λ x c h. refl;
-      ascend = ascend;
-      few = few;
-      room = fits o;
-    })
-  where
-    fits : (p : Option Summary) → 0 + summary_room p + 53 * count_of lists < 2 ^ 37
-    fits None = omega (arith, few)
-    fits (Some s) = let size = summary_size (summary_view s) in omega (arith, few, size)
+    (subst (λ (b : TableBuilderView). AppendsPrefix before now (rows_text b rows)) e (subst (λ (rs : List RowView). AppendsPrefix before now (rows_text k rs)) f p))

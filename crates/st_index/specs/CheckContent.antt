@@ -1,5 +1,5 @@
 -- What `content` remembers of what is wrong with the rows of an index that were read so far.
-use Rattle.std.specs.Prelude.{◌≡◌, List, Option, is_some, option_map}
+use Rattle.std.specs.Prelude.{◌≡◌, List, is_some, option_map}
 use Rattle.st_base.specs.Damages.{damage_view}
 use Rattle.st_tblock.specs.Block.{RowView}
 use Rattle.st_index.specs.CheckRows.{summary_in, summary_wrong, values_wrong}

@@ -1,7 +1,6 @@
 -- What checking an index against the rows that are wanted gives, by `index`.
-use Rattle.std.specs.Prelude.{◌≡◌, ℕ, List, Option, None, Some, option_map, Result, Ok, Err}
-use Rattle.st_base.specs.Damages.{DamageView, damage_view}
-use Rattle.st_base.specs.declared.damages.Damage.{Damage}
+use Rattle.std.specs.Prelude.{◌≡◌, ℕ, List, None, Some, option_map, Result, Ok, Err}
+use Rattle.st_base.specs.Damages.{damage_view}
 use Rattle.st_tblock.specs.Block.{RowView}
 use Rattle.st_table.specs.TableFile.{IsTable}
 use Rattle.st_table.specs.declared.errors.TableErr.{TableErr}

@@ -1,5 +1,5 @@
 -- What making an index of the packets of a block file gives, by `packets`.
-use Rattle.std.specs.Prelude.{◌≡◌, ℕ, List, Option, Some, Result, Ok, Err}
+use Rattle.std.specs.Prelude.{◌≡◌, ℕ, List, Some, Result, Ok, Err}
 use Rattle.st_base.specs.Damages.{damage_view}
 use Rattle.st_block.specs.Checks.{file_wrong}
 use Rattle.st_block.specs.Scan.{PositionedRecord, IsFile}

@@ -1,6 +1,5 @@
 -- Which packets an `IndexMaker` has, and what its calls make of them.
-use Rattle.std.specs.Prelude.{◌≡◌, ℕ, ◌+◌, ◌<◌, ◌≤◌, ◌^◌, ◌↔◌, List, [], ◌∷◌, ◌++◌, length, IsTrue, All, Option, Result, MatchResult}
-use Rattle.st_base.specs.Records.{Rec}
+use Rattle.std.specs.Prelude.{◌≡◌, ℕ, ◌+◌, ◌≤◌, ◌↔◌, List, [], ◌∷◌, ◌++◌, length, IsTrue, All, Option, Result, MatchResult}
 use Rattle.st_walk.specs.declared.text.Key.{Key}
 use Rattle.st_block.specs.Scan.{PositionedRecord}
 use Rattle.st_block.specs.declared.format.TheConstants.{RECORD_HEAD}

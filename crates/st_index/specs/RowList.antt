@@ -1,6 +1,5 @@
 -- The rows of a maker's index, and what going over them gives.
-use Rattle.std.specs.Prelude.{◌≡◌, ℕ, ◌<◌, List, [], ◌∷◌, ◌++◌, length, map, Bool, true, false, Option, None, Some, Result, Ok, Err}
-use Rattle.st_walk.specs.declared.text.Key.{Key}
+use Rattle.std.specs.Prelude.{◌≡◌, ◌<◌, List, [], ◌∷◌, length, map, Bool, true, false, Option, None, Some, Result, Ok, Err}
 use Rattle.st_walk.specs.KeyText.{key_text, Fits}
 use Rattle.st_tblock.specs.Block.{RowView}
 use Rattle.st_rows.specs.Positions.{positions_value}

@@ -1,7 +1,7 @@
 -- What `check` answers of a block file and an index: that they are a whole pair, or else the first
 -- check that fails, in the order of docs/FORMAT.md, "Checks". The block file comes first, then the
 -- index as a table, then what its rows say, and last its rows against those of the packets.
-use Rattle.std.specs.Prelude.{◌≡◌, ℕ, ◌≤◌, List, length, All, IsTrue, Option, None, Some, take, ◌⊎◌, Result, Ok, IfOk, IsErrOf}
+use Rattle.std.specs.Prelude.{◌≡◌, ℕ, ◌≤◌, List, length, All, IsTrue, None, Some, take, ◌⊎◌, Result, Ok, IsErrOf}
 use Rattle.st_base.specs.Damages.{DamageView, damage_view}
 use Rattle.st_base.specs.Faults.{Rose}
 use Rattle.st_tblock.specs.Block.{RowView}
@@ -80,8 +80,8 @@ abbrev pub Judges : List ℕ → List ℕ → Verdict → Type 0
 Judges block index (Whole packets) = IsWholeOf block index packets
 Judges block index (Differs p d) = Fails block index p (damage_view d)
 
--- a count of faults never falls, a verdict that the pair is whole leaves it as it was, and this error
--- comes only if it rose
+-- a count of faults never falls, a verdict that the pair is whole leaves it as it was, and this
+-- error comes only if it rose
 pub record HasVerdictCause {E : Type 0} (error : E) (before now : ℕ) (result : Result Verdict E)
     : Type 0 where
   pub later : before ≤ now

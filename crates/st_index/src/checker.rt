@@ -1,7 +1,9 @@
 //! Whether a block file and an index are a whole pair.
 
-ghost use Rattle.std.specs.Prelude.{◌≡◌, List, ℕ, Some, IfOk};
+ghost use Rattle.std.specs.Prelude.{◌≡◌, List, ℕ, length, Some, IfOk};
 ghost use Rattle.st_base.specs.PlacedReads.{IsSameFile};
+ghost use Rattle.st_block.specs.Scan.{PositionedRecord};
+ghost use Rattle.st_rows.specs.Whole.{IsWhole};
 ghost use Rattle.st_index.specs.Verdict.{Judges, HasCauseOfEither};
 
 mod content;
@@ -12,11 +14,12 @@ mod packets;
 mod values;
 mod walk;
 
-pub use laws::{one_failure, whole_unhurt};
 use crate::maker::IndexMaker;
 use crate::row_list::RowList;
 use index::judge_index;
-use packets::{make_index, packets_of};
+pub use laws::{one_failure, one_verdict, whole_unhurt};
+pub use packets::make_index;
+use packets::packets_of;
 use st_base::{Damage, Reader};
 use st_block::BlockErr;
 use std::alloc::Global;
@@ -66,8 +69,12 @@ pub fn check<R: Reader, Q: Reader>(
     block: &mut R,
     index: &mut Q,
 ) -> Result<Verdict, CheckErr>
+    // What comes, where the bytes of both files are known.
     ensures judges { (blocks bytes : List ℕ) → R.content block.old ≡ Some blocks
         → Q.content index.old ≡ Some bytes → IfOk result (Judges blocks bytes) }
+    ensures whole { (blocks bytes : List ℕ) (given : List PositionedRecord)
+        → R.content block.old ≡ Some blocks → Q.content index.old ≡ Some bytes
+        → IsWhole blocks bytes given → IfOk result (λ v. v ≡ Verdict.Whole (length given)) }
     // What becomes of the files.
     ensures cause { HasCauseOfEither CheckErr.ReadFault (R.faults block.old) (R.faults block.new)
         (Q.faults index.old) (Q.faults index.new) result }

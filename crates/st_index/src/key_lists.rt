@@ -29,6 +29,7 @@ impl<'a> Numbered<'a> {
             (lists_of_numbers key self.new.number self.new.rest.now)
             (option_map (λ x. (key x.0, x.1.now)) result) }
         ensures some { IfSome result (λ x. 0 < length x.1.now) }
+        // Numbers go on to the end of the lists, which stays.
         ensures below { IfSome result (λ x. x.0 < self.old.number + length self.old.rest.now) }
         ensures end { self.new.number + length self.new.rest.now
             ≡ self.old.number + length self.old.rest.now }

@@ -26,13 +26,10 @@ fn ends_with(list: &[u32], position: u32) -> bool
 }
 
 // Makes room for one more position of a number. The positions stay.
-fn make_numbered(
-    alloc: Global,
-    lists: &mut Vec<Vec<u32>>,
-    number: usize,
-) -> Result<(), AllocError>
+fn make_numbered(alloc: Global, lists: &mut Vec<Vec<u32>>, number: usize) -> Result<(), AllocError>
     ensures same { (n : ℕ) → at_number lists.new.items n ≡ at_number lists.old.items n }
     ensures keeps { (n : ℕ) → HasRoomAt lists.old.items n → HasRoomAt lists.new.items n }
+    // What it made, and how many lists there are.
     ensures room { OnOk result (HasRoomAt lists.new.items number) }
     ensures few { length lists.new.items ≤ max (length lists.old.items) (number + 1) }
 {
@@ -44,7 +41,8 @@ fn make_numbered(
 
 // Puts the position at the end of a number's list, unless it is there.
 fn put_numbered(lists: &mut Vec<Vec<u32>>, number: usize, position: u32)
-    requires { Takes (at_number lists.old.items number) (HasRoomAt lists.old.items number) position }
+    requires { Takes (at_number lists.old.items number) (HasRoomAt lists.old.items number)
+        position }
     ensures here { at_number lists.new.items number
         ≡ with_last (at_number lists.old.items number) position }
     ensures others { (n : ℕ) → (n ≡ number)
@@ -71,6 +69,7 @@ fn make_keyed(
 ) -> Result<(), AllocError>
     ensures same { (k : Key) → at_key lists.new k ≡ at_key lists.old k }
     ensures keeps { (k : Key) → HasRoomIn lists.old k → HasRoomIn lists.new k }
+    // What it made, and which keys have a list.
     ensures room { OnOk result (HasRoomIn lists.new key) }
     ensures keys { (k : Key) → (k ≡ key)
         ⊎ (is_some (get derived.ghosts.cmp lists.new k)
@@ -211,7 +210,8 @@ impl PositionLists {
         position: u32,
     ) -> Result<(), AllocError>
         requires { (k : Key) → All (λ p. p < position) (positions_at self.old k) }
-        ensures same { OnErr result ((k : Key) → positions_at self.new k ≡ positions_at self.old k) }
+        ensures same { OnErr result ((k : Key)
+            → positions_at self.new k ≡ positions_at self.old k) }
         ensures gained { OnOk result ((k : Key)
             → Gained (HasKey frame.now sec k) (positions_at self.old k) (positions_at self.new k)
             position) }

@@ -23,7 +23,7 @@ pub struct IndexMaker {
     /// None before the first packet.
     pub(crate) summary: Option<Summary>,
     /// The offset in the block file at which the next packet may begin.
-    end: u64,
+    pub(crate) end: u64,
     ghost below: { (k : Key) → All (λ p. p < end) (positions_at lists k) },
     ghost few: { (ks : List Key) → AreDistinct ks → 4 * count_in lists ks + BLOCK_HEAD ≤ end },
     ghost counted: { RECORD_HEAD * packets_in summary ≤ end },

@@ -28,14 +28,22 @@ fn is_up_to(moment: Moment, other: Moment) -> bool
 fn earlier(moment: Moment, other: Moment) -> Moment
     ensures { IsEarlier moment other result }
 {
-    if is_up_to(moment, other) { moment } else { other }
+    if is_up_to(moment, other) {
+        moment
+    } else {
+        other
+    }
 }
 
 // The later of two times.
 fn later(moment: Moment, other: Moment) -> Moment
     ensures { IsLater moment other result }
 {
-    if is_up_to(other, moment) { moment } else { other }
+    if is_up_to(other, moment) {
+        moment
+    } else {
+        other
+    }
 }
 
 /// The summary with a packet of this time more.

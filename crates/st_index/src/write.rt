@@ -27,6 +27,7 @@ fn put_next<S: Sink>(
         (S.written sink.old) (S.written sink.new) result }
     ensures ready { result ≡ Ok true
         → IsReady builder.new rows.new.summary (lists_left rows.new.lists) }
+    // When it fails, and what stays.
     ensures cause { HasCauseOf BuildErr.WriteFault (S.faults sink.old) (S.faults sink.new) result }
     ensures rest { S.beside sink.new ≡ S.beside sink.old }
 {

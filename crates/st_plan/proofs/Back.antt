@@ -6,14 +6,14 @@ use Rattle.clap.specs.Words.{Row, Text}
 use Rattle.clap.specs.Walk.{Walk, Waiting, idle, option, walked, settled_rows}
 use Rattle.clap.specs.Faults.{settle_fault, walk_fault}
 use Rattle.clap.specs.Lexer.{long_of, short_of}
-use Rattle.st_plan.specs.Line.{Options, Line, is_plain, no_options}
+use Rattle.st_plan.specs.Line.{Valued, packets, bytes, block, blocks, name_of, long_name, name_and_value, Options, with_value, Line, is_plain, no_options}
 use Rattle.st_plan.specs.Line as line
 use Rattle.st_plan.proofs.Steps as steps
 use Rattle.st_plan.proofs.Faults as faults
 use Rattle.st_plan.proofs.Faults.{Fails, Stuck}
 use Rattle.st_plan.proofs.Steps.{shape, rules, held, at, wait}
 use Rattle.st_plan.proofs.Forms.{form, stop, plain, named, joined, letters}
-use Rattle.st_plan.proofs.Holds.{Holds, one, holds_ns, holds_packets, holds_bytes, holds_word, ns_row, packets_row, bytes_row}
+use Rattle.st_plan.proofs.Holds.{Holds, one, holds_ns, holds_value, settled_value, holds_word, ns_row, value_row}
 
 -- behind a first hyphen stands a character
 abbrev pub IsText : Text → Type 0
@@ -55,21 +55,28 @@ left rows p k e = let is = k.is in cc
 -- the options' names
 data Name (n : Text) : Type 0 where
   is_ns : n ≡ codes "ns" → Name n
-  is_packets : n ≡ codes "packets" → Name n
-  is_bytes : n ≡ codes "bytes" → Name n
-  other : bytes_eq (codes "ns") n ≡ false → bytes_eq (codes "packets") n ≡ false → bytes_eq (codes "bytes") n ≡ false → Name n
+  is_value : (x : Valued) → n ≡ name_of x → Name n
+  other : bytes_eq (codes "ns") n ≡ false → ((x : Valued) → bytes_eq (name_of x) n ≡ false) → Name n
+
+value_name : (n : Text) (x : Valued) → (bytes_eq (name_of x) n ≡ false → Name n) → Name n
+value_name n x others =
+    elim (bytes_eq (name_of x) n) as (λ b. bytes_eq (name_of x) n ≡ b → Name n) [
+      | true ↦ λ e. is_value x (sym ((bytes_eq-Decides (name_of x) n).0 e))
+      | false ↦ others
+    ] refl
+
+each : (n : Text) → bytes_eq (name_of packets) n ≡ false → bytes_eq (name_of bytes) n ≡ false → bytes_eq (name_of block) n ≡ false → bytes_eq (name_of blocks) n ≡ false
+    → (x : Valued) → bytes_eq (name_of x) n ≡ false
+each n a b c d packets = a
+each n a b c d bytes = b
+each n a b c d block = c
+each n a b c d blocks = d
 
 name : (n : Text) → Name n
 name n =
     elim (bytes_eq (codes "ns") n) as (λ b. bytes_eq (codes "ns") n ≡ b → Name n) [
       | true ↦ λ e. is_ns (sym ((bytes_eq-Decides (codes "ns") n).0 e))
-      | false ↦ λ a. elim (bytes_eq (codes "packets") n) as (λ b. bytes_eq (codes "packets") n ≡ b → Name n) [
-        | true ↦ λ e. is_packets (sym ((bytes_eq-Decides (codes "packets") n).0 e))
-        | false ↦ λ b. elim (bytes_eq (codes "bytes") n) as (λ b. bytes_eq (codes "bytes") n ≡ b → Name n) [
-          | true ↦ λ e. is_bytes (sym ((bytes_eq-Decides (codes "bytes") n).0 e))
-          | false ↦ λ c. other a b c
-        ] refl
-      ] refl
+      | false ↦ λ e. value_name n packets (λ a. value_name n bytes (λ b. value_name n block (λ c. value_name n blocks (λ d. other e (each n a b c d)))))
     ] refl
 
 -- where what is pending can't be used, nothing is taken
@@ -83,9 +90,8 @@ named_fails : (waiting : Waiting) (rows : List Row) (p : Option (Text × List Te
 named_fails waiting rows p w n k is a b =
     elim (name n) [
       | is_ns e ↦ subst (λ t. Fails (at rows p waiting false) t) (sym (is ∙ ap (λ t. codes "--" ++ t) e)) (faults.ns_stuck waiting rows p k)
-      | is_packets e ↦ subst (λ t. Fails (at rows p waiting false) t) (sym (is ∙ ap (λ t. codes "--" ++ t) e)) (faults.packets_name_stuck waiting rows p k)
-      | is_bytes e ↦ subst (λ t. Fails (at rows p waiting false) t) (sym (is ∙ ap (λ t. codes "--" ++ t) e)) (faults.bytes_name_stuck waiting rows p k)
-      | other c d e ↦ faults.unknown_long waiting rows p w n None a b c d e
+      | is_value x e ↦ subst (λ t. Fails (at rows p waiting false) t) (sym (is ∙ ap (λ t. codes "--" ++ t) e)) (faults.value_name_stuck x waiting rows p k)
+      | other c d ↦ faults.unknown_long waiting rows p w n None a b c d
     ]
 
 joined_fails : (waiting : Waiting) (rows : List Row) (p : Option (Text × List Text)) (w n v : Text) → Stuck rows p
@@ -93,9 +99,8 @@ joined_fails : (waiting : Waiting) (rows : List Row) (p : Option (Text × List T
 joined_fails waiting rows p w n v k is a b =
     elim (name n) [
       | is_ns e ↦ subst (λ t. Fails (at rows p waiting false) t) (sym (is ∙ ap (λ t. codes "--" ++ (t ++ 61 ∷ v)) e)) (faults.flag_value waiting rows p v)
-      | is_packets e ↦ subst (λ t. Fails (at rows p waiting false) t) (sym (is ∙ ap (λ t. codes "--" ++ (t ++ 61 ∷ v)) e)) (faults.packets_joined_stuck waiting rows p v k)
-      | is_bytes e ↦ subst (λ t. Fails (at rows p waiting false) t) (sym (is ∙ ap (λ t. codes "--" ++ (t ++ 61 ∷ v)) e)) (faults.bytes_joined_stuck waiting rows p v k)
-      | other c d e ↦ faults.unknown_long waiting rows p w n (Some v) a b c d e
+      | is_value x e ↦ subst (λ t. Fails (at rows p waiting false) t) (sym (is ∙ ap (λ t. codes "--" ++ (t ++ 61 ∷ v)) e)) (faults.joined_stuck x waiting rows p v k)
+      | other c d ↦ faults.unknown_long waiting rows p w n (Some v) a b c d
     ]
 
 letters_fail : (waiting : Waiting) (rows : List Row) (p : Option (Text × List Text)) (w more : Text) (y : ℕ) → IsText w
@@ -144,97 +149,50 @@ from_ns ws back m rows p o gs r text t =
           (q, hs, line.ns e made)
     ] refl
 
-from_packets_joined : (v : Text) (ws : List Text) → Back ws → Back ((codes "--packets=" ++ v) ∷ ws)
-from_packets_joined v ws back m rows p o gs r text t =
-    elim o.packets as (λ x. o.packets ≡ x → Made o gs ((codes "--packets=" ++ v) ∷ ws)) [
+from_value_joined : (x : Valued) (v : Text) (ws : List Text) → Back ws → Back ((name_and_value x v) ∷ ws)
+from_value_joined x v ws back m rows p o gs r text t =
+    elim (o.value x) as (λ d. o.value x ≡ d → Made o gs ((name_and_value x v) ∷ ws)) [
       | Some had ↦ λ e.
-          absurd (refused (at rows p (wait m) false) (codes "--packets=" ++ v) ws
-          (faults.packets_joined_again m rows p v r.settles (packets_row o gs (settled_rows rules p rows) r.holds ∙ ap (λ x. is_some (one x)) e)) t)
+          absurd (refused (at rows p (wait m) false) (name_and_value x v) ws
+          (faults.joined_again x m rows p v r.settles (value_row x o gs (settled_rows rules p rows) r.holds ∙ ap (λ d. is_some (one d)) e)) t)
       | None ↦ λ e.
-          let u = on (at rows p (wait m) false) _ (codes "--packets=" ++ v) ws (steps.packets_joined_moves m rows p v) t in
-          let (q, hs, made) = back false _ None (record o { packets = Some v }) gs (used_ready _ gs _ (holds_packets o gs v (settled_rows rules p rows) r.holds e)) text.1 u in
-          (q, hs, line.packets_joined e made)
+          let u = on (at rows p (wait m) false) _ (name_and_value x v) ws (steps.joined_moves x m rows p v) t in
+          let (q, hs, made) = back false _ None (with_value o x v) gs (used_ready _ gs _ (holds_value x o gs v (settled_rows rules p rows) r.holds e)) text.1 u in
+          (q, hs, line.joined x v e made)
     ] refl
 
 -- a value that is a plain word
-from_packets_value : (v : Text) (ws : List Text) → is_plain v ≡ true → Back ws → (rows : List Row) (o : Options) (gs : List Text) → Holds o gs rows → AllText ws
-    → IsTaken (at rows (Some (codes "packets", [])) (option (codes "packets")) false) (v ∷ ws) → Made o gs (codes "--packets" ∷ (v ∷ ws))
-from_packets_value v ws h back rows o gs holds text t =
-    let u = on (at rows (Some (codes "packets", [])) (option (codes "packets")) false) (at rows (Some (codes "packets", v ∷ [])) idle false) v ws (steps.packets_value_moves rows v h) t in
-    elim o.packets as (λ x. o.packets ≡ x → Made o gs (codes "--packets" ∷ (v ∷ ws))) [
+from_value_taken : (x : Valued) (v : Text) (ws : List Text) → is_plain v ≡ true → Back ws → (rows : List Row) (o : Options) (gs : List Text) → Holds o gs rows → AllText ws
+    → IsTaken (at rows (Some (name_of x, [])) (option (name_of x)) false) (v ∷ ws) → Made o gs (long_name x ∷ (v ∷ ws))
+from_value_taken x v ws h back rows o gs holds text t =
+    let u = on (at rows (Some (name_of x, [])) (option (name_of x)) false) (at rows (Some (name_of x, v ∷ [])) idle false) v ws (steps.taken_moves x rows v h) t in
+    elim (o.value x) as (λ d. o.value x ≡ d → Made o gs (long_name x ∷ (v ∷ ws))) [
       | Some had ↦ λ e.
-          absurd (never false rows (Some (codes "packets", v ∷ [])) ws (faults.packets_stuck rows v (packets_row o gs rows holds ∙ ap (λ x. is_some (one x)) e)) text u)
+          absurd (never false rows (Some (name_of x, v ∷ [])) ws (faults.value_stuck x rows v (value_row x o gs rows holds ∙ ap (λ d. is_some (one d)) e)) text u)
       | None ↦ λ e.
-          let ready : Ready (record o { packets = Some v }) gs rows (Some (codes "packets", v ∷ [])) =
-          record { settles = faults.packets_settles rows v (packets_row o gs rows holds ∙ ap (λ x. is_some (one x)) e); holds = holds_packets o gs v rows holds e } in
-          let (q, hs, made) = back false rows (Some (codes "packets", v ∷ [])) (record o { packets = Some v }) gs ready text u in
-          (q, hs, line.packets e h made)
+          let ready : Ready (with_value o x v) gs rows (Some (name_of x, v ∷ [])) =
+          record { settles = faults.value_settles x rows v (value_row x o gs rows holds ∙ ap (λ d. is_some (one d)) e); holds = settled_value x o gs v rows holds e } in
+          let (q, hs, made) = back false rows (Some (name_of x, v ∷ [])) (with_value o x v) gs ready text u in
+          (q, hs, line.value x v e h made)
     ] refl
 
-from_bytes_joined : (v : Text) (ws : List Text) → Back ws → Back ((codes "--bytes=" ++ v) ∷ ws)
-from_bytes_joined v ws back m rows p o gs r text t =
-    elim o.bytes as (λ x. o.bytes ≡ x → Made o gs ((codes "--bytes=" ++ v) ∷ ws)) [
-      | Some had ↦ λ e.
-          absurd (refused (at rows p (wait m) false) (codes "--bytes=" ++ v) ws
-          (faults.bytes_joined_again m rows p v r.settles (bytes_row o gs (settled_rows rules p rows) r.holds ∙ ap (λ x. is_some (one x)) e)) t)
-      | None ↦ λ e.
-          let u = on (at rows p (wait m) false) _ (codes "--bytes=" ++ v) ws (steps.bytes_joined_moves m rows p v) t in
-          let (q, hs, made) = back false _ None (record o { bytes = Some v }) gs (used_ready _ gs _ (holds_bytes o gs v (settled_rows rules p rows) r.holds e)) text.1 u in
-          (q, hs, line.bytes_joined e made)
-    ] refl
-
--- a value that is a plain word
-from_bytes_value : (v : Text) (ws : List Text) → is_plain v ≡ true → Back ws → (rows : List Row) (o : Options) (gs : List Text) → Holds o gs rows → AllText ws
-    → IsTaken (at rows (Some (codes "bytes", [])) (option (codes "bytes")) false) (v ∷ ws) → Made o gs (codes "--bytes" ∷ (v ∷ ws))
-from_bytes_value v ws h back rows o gs holds text t =
-    let u = on (at rows (Some (codes "bytes", [])) (option (codes "bytes")) false) (at rows (Some (codes "bytes", v ∷ [])) idle false) v ws (steps.bytes_value_moves rows v h) t in
-    elim o.bytes as (λ x. o.bytes ≡ x → Made o gs (codes "--bytes" ∷ (v ∷ ws))) [
-      | Some had ↦ λ e.
-          absurd (never false rows (Some (codes "bytes", v ∷ [])) ws (faults.bytes_stuck rows v (bytes_row o gs rows holds ∙ ap (λ x. is_some (one x)) e)) text u)
-      | None ↦ λ e.
-          let ready : Ready (record o { bytes = Some v }) gs rows (Some (codes "bytes", v ∷ [])) =
-          record { settles = faults.bytes_settles rows v (bytes_row o gs rows holds ∙ ap (λ x. is_some (one x)) e); holds = holds_bytes o gs v rows holds e } in
-          let (q, hs, made) = back false rows (Some (codes "bytes", v ∷ [])) (record o { bytes = Some v }) gs ready text u in
-          (q, hs, line.bytes e h made)
-    ] refl
-
-from_packets : (ws : List Text) → Second ws → Back (codes "--packets" ∷ ws)
-from_packets [] second m rows p o gs r text t =
-    let u = on (at rows p (wait m) false) _ (codes "--packets") [] (steps.packets_moves m rows p) t in
-    absurd (left (settled_rows rules p rows) (Some (codes "packets", [])) (faults.packets_lacks (settled_rows rules p rows)) u.settles)
-from_packets (v ∷ vs) second m rows p o gs r text t =
+from_value : (x : Valued) (ws : List Text) → Second ws → Back (long_name x ∷ ws)
+from_value x [] second m rows p o gs r text t =
+    let u = on (at rows p (wait m) false) _ (long_name x) [] (steps.value_moves x m rows p) t in
+    absurd (left (settled_rows rules p rows) (Some (name_of x, [])) (faults.value_lacks x (settled_rows rules p rows)) u.settles)
+from_value x (v ∷ vs) second m rows p o gs r text t =
     let all = settled_rows rules p rows in
-    let pending : Option (Text × List Text) = Some (codes "packets", []) in
-    let waiting = option (codes "packets") in
-    let u = on (at rows p (wait m) false) (at all pending waiting false) (codes "--packets") (v ∷ vs) (steps.packets_moves m rows p) t in
-    let lacks = faults.packets_lacks all in
+    let pending : Option (Text × List Text) = Some (name_of x, []) in
+    let waiting = option (name_of x) in
+    let u = on (at rows p (wait m) false) (at all pending waiting false) (long_name x) (v ∷ vs) (steps.value_moves x m rows p) t in
+    let lacks = faults.value_lacks x all in
     elim (form v) [
       | stop is ↦
           let x : IsTaken (at all pending waiting false) (codes "--" ∷ vs) = subst (λ y. IsTaken (at all pending waiting false) (y ∷ vs)) is u in
           absurd (trailing_never waiting all pending vs lacks (on (at all pending waiting false) (at all pending waiting true) (codes "--") vs (steps.stop_moves waiting all pending) x))
-      | plain h ↦ from_packets_value v vs h second all o gs r.holds text.1.1 u
+      | plain h ↦ from_value_taken x v vs h second all o gs r.holds text.1.1 u
       | named k is a b ↦ absurd (refused (at all pending waiting false) v vs (named_fails waiting all pending v k lacks is a b) u)
-      | joined k x is a b ↦ absurd (refused (at all pending waiting false) v vs (joined_fails waiting all pending v k x lacks is a b) u)
-      | letters y more is a b d ↦ absurd (refused (at all pending waiting false) v vs (letters_fail waiting all pending v more y text.1.0 is a b d) u)
-    ]
-
-from_bytes : (ws : List Text) → Second ws → Back (codes "--bytes" ∷ ws)
-from_bytes [] second m rows p o gs r text t =
-    let u = on (at rows p (wait m) false) _ (codes "--bytes") [] (steps.bytes_moves m rows p) t in
-    absurd (left (settled_rows rules p rows) (Some (codes "bytes", [])) (faults.bytes_lacks (settled_rows rules p rows)) u.settles)
-from_bytes (v ∷ vs) second m rows p o gs r text t =
-    let all = settled_rows rules p rows in
-    let pending : Option (Text × List Text) = Some (codes "bytes", []) in
-    let waiting = option (codes "bytes") in
-    let u = on (at rows p (wait m) false) (at all pending waiting false) (codes "--bytes") (v ∷ vs) (steps.bytes_moves m rows p) t in
-    let lacks = faults.bytes_lacks all in
-    elim (form v) [
-      | stop is ↦
-          let x : IsTaken (at all pending waiting false) (codes "--" ∷ vs) = subst (λ y. IsTaken (at all pending waiting false) (y ∷ vs)) is u in
-          absurd (trailing_never waiting all pending vs lacks (on (at all pending waiting false) (at all pending waiting true) (codes "--") vs (steps.stop_moves waiting all pending) x))
-      | plain h ↦ from_bytes_value v vs h second all o gs r.holds text.1.1 u
-      | named k is a b ↦ absurd (refused (at all pending waiting false) v vs (named_fails waiting all pending v k lacks is a b) u)
-      | joined k x is a b ↦ absurd (refused (at all pending waiting false) v vs (joined_fails waiting all pending v k x lacks is a b) u)
+      | joined k w is a b ↦ absurd (refused (at all pending waiting false) v vs (joined_fails waiting all pending v k w lacks is a b) u)
       | letters y more is a b d ↦ absurd (refused (at all pending waiting false) v vs (letters_fail waiting all pending v more y text.1.0 is a b d) u)
     ]
 
@@ -242,9 +200,8 @@ from_named : (w n : Text) (ws : List Text) → Back ws → Second ws → w ≡ c
 from_named w n ws back second is a b =
     elim (name n) [
       | is_ns e ↦ subst (λ v. Back (v ∷ ws)) (sym (is ∙ ap (λ t. codes "--" ++ t) e)) (from_ns ws back)
-      | is_packets e ↦ subst (λ v. Back (v ∷ ws)) (sym (is ∙ ap (λ t. codes "--" ++ t) e)) (from_packets ws second)
-      | is_bytes e ↦ subst (λ v. Back (v ∷ ws)) (sym (is ∙ ap (λ t. codes "--" ++ t) e)) (from_bytes ws second)
-      | other c d e ↦ λ m rows p o gs r text t. absurd (refused (at rows p (wait m) false) w ws (faults.unknown_long (wait m) rows p w n None a b c d e) t)
+      | is_value x e ↦ subst (λ v. Back (v ∷ ws)) (sym (is ∙ ap (λ t. codes "--" ++ t) e)) (from_value x ws second)
+      | other c d ↦ λ m rows p o gs r text t. absurd (refused (at rows p (wait m) false) w ws (faults.unknown_long (wait m) rows p w n None a b c d) t)
     ]
 
 from_joined : (w n x : Text) (ws : List Text) → Back ws → w ≡ codes "--" ++ (n ++ 61 ∷ x) → bytes_eq w (codes "--") ≡ false → long_of w ≡ Some (n, Some x) → Back (w ∷ ws)
@@ -252,9 +209,8 @@ from_joined w n x ws back is a b =
     elim (name n) [
       | is_ns e ↦ subst (λ v. Back (v ∷ ws)) (sym (is ∙ ap (λ t. codes "--" ++ (t ++ 61 ∷ x)) e))
           (λ m rows p o gs r text t. absurd (refused (at rows p (wait m) false) (codes "--ns=" ++ x) ws (faults.flag_value (wait m) rows p x) t))
-      | is_packets e ↦ subst (λ v. Back (v ∷ ws)) (sym (is ∙ ap (λ t. codes "--" ++ (t ++ 61 ∷ x)) e)) (from_packets_joined x ws back)
-      | is_bytes e ↦ subst (λ v. Back (v ∷ ws)) (sym (is ∙ ap (λ t. codes "--" ++ (t ++ 61 ∷ x)) e)) (from_bytes_joined x ws back)
-      | other c d e ↦ λ m rows p o gs r text t. absurd (refused (at rows p (wait m) false) w ws (faults.unknown_long (wait m) rows p w n (Some x) a b c d e) t)
+      | is_value y e ↦ subst (λ v. Back (v ∷ ws)) (sym (is ∙ ap (λ t. codes "--" ++ (t ++ 61 ∷ x)) e)) (from_value_joined y x ws back)
+      | other c d ↦ λ m rows p o gs r text t. absurd (refused (at rows p (wait m) false) w ws (faults.unknown_long (wait m) rows p w n (Some x) a b c d) t)
     ]
 
 from_stop : (ws : List Text) → Back (codes "--" ∷ ws)

@@ -10,7 +10,7 @@ use Rattle.clap.specs.declared.error.kind.ErrorKind.{ErrorKind}
 use Rattle.clap.specs.declared.error.kind.ErrorKind.TheVariants.{ArgumentConflict, UnknownArgument}
 use Rattle.clap.proofs.OnLiterals.{clap_on_literals}
 use Rattle.st_plan.specs.Rules.{line_app}
-use Rattle.st_plan.specs.Line.{is_plain}
+use Rattle.st_plan.specs.Line.{Valued, packets, bytes, block, blocks, name_of, long_name, name_and_value, is_plain}
 use Rattle.st_plan.proofs.Steps.{shape, rules, held, at, wait, words_in, and_false, plain_stop, plain_long, plain_short}
 
 -- the turn has a fault
@@ -49,12 +49,12 @@ ns_stuck positional rows p k = record { kind = k.kind; more = k.more; is = rw k.
 ns_stuck (option id) rows p k = record { kind = k.kind; more = k.more; is = rw k.is refl }
 
 pub unknown_long : (waiting : Waiting) (rows : List Row) (p : Option (Text × List Text)) (w n : Text) (v : Option Text) → bytes_eq w (codes "--") ≡ false → long_of w ≡ Some (n, v)
-    → bytes_eq (codes "ns") n ≡ false → bytes_eq (codes "packets") n ≡ false → bytes_eq (codes "bytes") n ≡ false
+    → bytes_eq (codes "ns") n ≡ false → ((x : Valued) → bytes_eq (name_of x) n ≡ false)
     → Fails (at rows p waiting false) w
 unfolding clap_on_literals
-unknown_long idle rows p w n v a b c d e = record { kind = UnknownArgument; more = []; is = rw (a, b, c, d, e) refl }
-unknown_long positional rows p w n v a b c d e = record { kind = UnknownArgument; more = []; is = rw (a, b, c, d, e) refl }
-unknown_long (option id) rows p w n v a b c d e = record { kind = UnknownArgument; more = []; is = rw (a, b, c, d, e) refl }
+unknown_long idle rows p w n v a b c d = record { kind = UnknownArgument; more = []; is = rw (a, b, c, d packets, d bytes, d block, d blocks) refl }
+unknown_long positional rows p w n v a b c d = record { kind = UnknownArgument; more = []; is = rw (a, b, c, d packets, d bytes, d block, d blocks) refl }
+unknown_long (option id) rows p w n v a b c d = record { kind = UnknownArgument; more = []; is = rw (a, b, c, d packets, d bytes, d block, d blocks) refl }
 
 pub flag_value : (waiting : Waiting) (rows : List Row) (p : Option (Text × List Text)) (v : Text) → Fails (at rows p waiting false) (codes "--ns=" ++ v)
 unfolding clap_on_literals
@@ -90,62 +90,65 @@ by_faults words none =
     let (settles, others) = either (settle_fault rules false (walk rules [] nothing_held words).held) _ rest in
     (walked, settles)
 
-pub packets_name_stuck : (waiting : Waiting) (rows : List Row) (p : Option (Text × List Text)) → Stuck rows p → Fails (at rows p waiting false) (codes "--packets")
+pub value_name_stuck : (x : Valued) (waiting : Waiting) (rows : List Row) (p : Option (Text × List Text)) → Stuck rows p → Fails (at rows p waiting false) (long_name x)
 unfolding clap_on_literals
-packets_name_stuck idle rows p k = record { kind = k.kind; more = k.more; is = rw k.is refl }
-packets_name_stuck positional rows p k = record { kind = k.kind; more = k.more; is = rw k.is refl }
-packets_name_stuck (option id) rows p k = record { kind = k.kind; more = k.more; is = rw k.is refl }
+value_name_stuck packets idle rows p k = record { kind = k.kind; more = k.more; is = rw k.is refl }
+value_name_stuck bytes idle rows p k = record { kind = k.kind; more = k.more; is = rw k.is refl }
+value_name_stuck block idle rows p k = record { kind = k.kind; more = k.more; is = rw k.is refl }
+value_name_stuck blocks idle rows p k = record { kind = k.kind; more = k.more; is = rw k.is refl }
+value_name_stuck packets positional rows p k = record { kind = k.kind; more = k.more; is = rw k.is refl }
+value_name_stuck bytes positional rows p k = record { kind = k.kind; more = k.more; is = rw k.is refl }
+value_name_stuck block positional rows p k = record { kind = k.kind; more = k.more; is = rw k.is refl }
+value_name_stuck blocks positional rows p k = record { kind = k.kind; more = k.more; is = rw k.is refl }
+value_name_stuck packets (option id) rows p k = record { kind = k.kind; more = k.more; is = rw k.is refl }
+value_name_stuck bytes (option id) rows p k = record { kind = k.kind; more = k.more; is = rw k.is refl }
+value_name_stuck block (option id) rows p k = record { kind = k.kind; more = k.more; is = rw k.is refl }
+value_name_stuck blocks (option id) rows p k = record { kind = k.kind; more = k.more; is = rw k.is refl }
 
-pub packets_joined_stuck : (waiting : Waiting) (rows : List Row) (p : Option (Text × List Text)) (v : Text) → Stuck rows p → Fails (at rows p waiting false) (codes "--packets=" ++ v)
+pub joined_stuck : (x : Valued) (waiting : Waiting) (rows : List Row) (p : Option (Text × List Text)) (v : Text) → Stuck rows p → Fails (at rows p waiting false) (name_and_value x v)
 unfolding clap_on_literals
-packets_joined_stuck idle rows p v k = record { kind = k.kind; more = k.more; is = rw k.is refl }
-packets_joined_stuck positional rows p v k = record { kind = k.kind; more = k.more; is = rw k.is refl }
-packets_joined_stuck (option id) rows p v k = record { kind = k.kind; more = k.more; is = rw k.is refl }
+joined_stuck packets idle rows p v k = record { kind = k.kind; more = k.more; is = rw k.is refl }
+joined_stuck bytes idle rows p v k = record { kind = k.kind; more = k.more; is = rw k.is refl }
+joined_stuck block idle rows p v k = record { kind = k.kind; more = k.more; is = rw k.is refl }
+joined_stuck blocks idle rows p v k = record { kind = k.kind; more = k.more; is = rw k.is refl }
+joined_stuck packets positional rows p v k = record { kind = k.kind; more = k.more; is = rw k.is refl }
+joined_stuck bytes positional rows p v k = record { kind = k.kind; more = k.more; is = rw k.is refl }
+joined_stuck block positional rows p v k = record { kind = k.kind; more = k.more; is = rw k.is refl }
+joined_stuck blocks positional rows p v k = record { kind = k.kind; more = k.more; is = rw k.is refl }
+joined_stuck packets (option id) rows p v k = record { kind = k.kind; more = k.more; is = rw k.is refl }
+joined_stuck bytes (option id) rows p v k = record { kind = k.kind; more = k.more; is = rw k.is refl }
+joined_stuck block (option id) rows p v k = record { kind = k.kind; more = k.more; is = rw k.is refl }
+joined_stuck blocks (option id) rows p v k = record { kind = k.kind; more = k.more; is = rw k.is refl }
 
-pub packets_joined_again : (m : Bool) (rows : List Row) (p : Option (Text × List Text)) (v : Text) → settle_fault rules false (held rows p) ≡ []
-    → has_row (codes "packets") (settled_rows rules p rows) ≡ true → Fails (at rows p (wait m) false) (codes "--packets=" ++ v)
+pub joined_again : (x : Valued) (m : Bool) (rows : List Row) (p : Option (Text × List Text)) (v : Text) → settle_fault rules false (held rows p) ≡ []
+    → has_row (name_of x) (settled_rows rules p rows) ≡ true → Fails (at rows p (wait m) false) (name_and_value x v)
 unfolding clap_on_literals
-packets_joined_again true rows p v h k = record { kind = ArgumentConflict; more = []; is = rw (h, k) refl }
-packets_joined_again false rows p v h k = record { kind = ArgumentConflict; more = []; is = rw (h, k) refl }
+joined_again packets true rows p v h k = record { kind = ArgumentConflict; more = []; is = rw (h, k) refl }
+joined_again bytes true rows p v h k = record { kind = ArgumentConflict; more = []; is = rw (h, k) refl }
+joined_again block true rows p v h k = record { kind = ArgumentConflict; more = []; is = rw (h, k) refl }
+joined_again blocks true rows p v h k = record { kind = ArgumentConflict; more = []; is = rw (h, k) refl }
+joined_again packets false rows p v h k = record { kind = ArgumentConflict; more = []; is = rw (h, k) refl }
+joined_again bytes false rows p v h k = record { kind = ArgumentConflict; more = []; is = rw (h, k) refl }
+joined_again block false rows p v h k = record { kind = ArgumentConflict; more = []; is = rw (h, k) refl }
+joined_again blocks false rows p v h k = record { kind = ArgumentConflict; more = []; is = rw (h, k) refl }
 
-pub packets_settles : (rows : List Row) (v : Text) → has_row (codes "packets") rows ≡ false → settle_fault rules false (held rows (Some (codes "packets", v ∷ []))) ≡ []
+pub value_settles : (x : Valued) (rows : List Row) (v : Text) → has_row (name_of x) rows ≡ false → settle_fault rules false (held rows (Some (name_of x, v ∷ []))) ≡ []
 unfolding clap_on_literals
-packets_settles rows v k = rw k refl
+value_settles packets rows v k = rw k refl
+value_settles bytes rows v k = rw k refl
+value_settles block rows v k = rw k refl
+value_settles blocks rows v k = rw k refl
 
-pub packets_stuck : (rows : List Row) (v : Text) → has_row (codes "packets") rows ≡ true → Stuck rows (Some (codes "packets", v ∷ []))
+pub value_stuck : (x : Valued) (rows : List Row) (v : Text) → has_row (name_of x) rows ≡ true → Stuck rows (Some (name_of x, v ∷ []))
 unfolding clap_on_literals
-packets_stuck rows v k = record { kind = ArgumentConflict; more = []; is = rw k refl }
+value_stuck packets rows v k = record { kind = ArgumentConflict; more = []; is = rw k refl }
+value_stuck bytes rows v k = record { kind = ArgumentConflict; more = []; is = rw k refl }
+value_stuck block rows v k = record { kind = ArgumentConflict; more = []; is = rw k refl }
+value_stuck blocks rows v k = record { kind = ArgumentConflict; more = []; is = rw k refl }
 
-pub packets_lacks : (rows : List Row) → Stuck rows (Some (codes "packets", []))
+pub value_lacks : (x : Valued) (rows : List Row) → Stuck rows (Some (name_of x, []))
 unfolding clap_on_literals
-packets_lacks rows = record { kind = _; more = _; is = refl }
-
-pub bytes_name_stuck : (waiting : Waiting) (rows : List Row) (p : Option (Text × List Text)) → Stuck rows p → Fails (at rows p waiting false) (codes "--bytes")
-unfolding clap_on_literals
-bytes_name_stuck idle rows p k = record { kind = k.kind; more = k.more; is = rw k.is refl }
-bytes_name_stuck positional rows p k = record { kind = k.kind; more = k.more; is = rw k.is refl }
-bytes_name_stuck (option id) rows p k = record { kind = k.kind; more = k.more; is = rw k.is refl }
-
-pub bytes_joined_stuck : (waiting : Waiting) (rows : List Row) (p : Option (Text × List Text)) (v : Text) → Stuck rows p → Fails (at rows p waiting false) (codes "--bytes=" ++ v)
-unfolding clap_on_literals
-bytes_joined_stuck idle rows p v k = record { kind = k.kind; more = k.more; is = rw k.is refl }
-bytes_joined_stuck positional rows p v k = record { kind = k.kind; more = k.more; is = rw k.is refl }
-bytes_joined_stuck (option id) rows p v k = record { kind = k.kind; more = k.more; is = rw k.is refl }
-
-pub bytes_joined_again : (m : Bool) (rows : List Row) (p : Option (Text × List Text)) (v : Text) → settle_fault rules false (held rows p) ≡ []
-    → has_row (codes "bytes") (settled_rows rules p rows) ≡ true → Fails (at rows p (wait m) false) (codes "--bytes=" ++ v)
-unfolding clap_on_literals
-bytes_joined_again true rows p v h k = record { kind = ArgumentConflict; more = []; is = rw (h, k) refl }
-bytes_joined_again false rows p v h k = record { kind = ArgumentConflict; more = []; is = rw (h, k) refl }
-
-pub bytes_settles : (rows : List Row) (v : Text) → has_row (codes "bytes") rows ≡ false → settle_fault rules false (held rows (Some (codes "bytes", v ∷ []))) ≡ []
-unfolding clap_on_literals
-bytes_settles rows v k = rw k refl
-
-pub bytes_stuck : (rows : List Row) (v : Text) → has_row (codes "bytes") rows ≡ true → Stuck rows (Some (codes "bytes", v ∷ []))
-unfolding clap_on_literals
-bytes_stuck rows v k = record { kind = ArgumentConflict; more = []; is = rw k refl }
-
-pub bytes_lacks : (rows : List Row) → Stuck rows (Some (codes "bytes", []))
-unfolding clap_on_literals
-bytes_lacks rows = record { kind = _; more = _; is = refl }
+value_lacks packets rows = record { kind = _; more = _; is = refl }
+value_lacks bytes rows = record { kind = _; more = _; is = refl }
+value_lacks block rows = record { kind = _; more = _; is = refl }
+value_lacks blocks rows = record { kind = _; more = _; is = refl }

@@ -3,10 +3,10 @@ use Rattle.std.proofs.Common.{◌≡◌, Bool, true, false, List, [], ◌∷◌,
 use Rattle.clap.specs.Words.{Row, Text}
 use Rattle.clap.specs.Walk.{Walk, Waiting, option, positional, walked, settled_rows}
 use Rattle.clap.specs.Takes.{turn_passes, settle_passes, walk_passes}
-use Rattle.st_plan.specs.Line.{Options, Line, nothing, rest, word, ns, packets, packets_joined, bytes, bytes_joined}
+use Rattle.st_plan.specs.Line.{name_of, long_name, name_and_value, Options, with_value, Line, nothing, rest, word, ns, value, joined}
 use Rattle.st_plan.proofs.Steps as steps
 use Rattle.st_plan.proofs.Steps.{shape, rules, held, at, wait}
-use Rattle.st_plan.proofs.Holds.{Holds, Ready, one, holds_ns, holds_packets, holds_bytes, holds_word, ns_row, packets_row, bytes_row}
+use Rattle.st_plan.proofs.Holds.{Holds, Ready, one, holds_ns, holds_value, settled_value, holds_word, ns_row, value_row}
 
 -- the walk ends with these options and arguments
 pub record Final (o : Options) (gs : List Text) (w : Walk) : Type 0 where
@@ -54,27 +54,15 @@ taken o p gs us hs (word {ws = ws} {w = w} plain line) m rows q r =
 taken o p gs us hs (ns {ws = ws} first line) m rows q r =
     turn (at rows q (wait m) false) _ (codes "--ns") ws p hs (steps.ns_passes m rows q r.settles (ns_row o gs (settled_rows rules q rows) false r.holds first)) (steps.ns_moves m rows q)
     (taken (record o { ns = true }) p gs ws hs line false _ None (used_ready _ gs _ (holds_ns o gs (settled_rows rules q rows) r.holds first)))
-taken o p gs us hs (packets {ws = ws} {v = v} first plain line) m rows q r =
+taken o p gs us hs (value {ws = ws} x v first plain line) m rows q r =
     let all = settled_rows rules q rows in
-    let none = packets_row o gs all r.holds ∙ ap (λ x. is_some (one x)) first in
-    turn (at rows q (wait m) false) _ (codes "--packets") (v ∷ ws) p hs (steps.packets_passes m rows q r.settles) (steps.packets_moves m rows q)
-    (turn (at all (Some (codes "packets", [])) (option (codes "packets")) false) _ v ws p hs (steps.packets_value_passes all v plain) (steps.packets_value_moves all v plain)
-    (taken (record o { packets = Some v }) p gs ws hs line false all (Some (codes "packets", v ∷ []))
-    (record { settles = steps.packets_settles all v none; holds = holds_packets o gs v all r.holds first })))
-taken o p gs us hs (packets_joined {ws = ws} {v = v} first line) m rows q r =
+    let none = value_row x o gs all r.holds ∙ ap (λ t. is_some (one t)) first in
+    turn (at rows q (wait m) false) _ (long_name x) (v ∷ ws) p hs (steps.value_passes x m rows q r.settles) (steps.value_moves x m rows q)
+    (turn (at all (Some (name_of x, [])) (option (name_of x)) false) _ v ws p hs (steps.taken_passes x all v plain) (steps.taken_moves x all v plain)
+    (taken (with_value o x v) p gs ws hs line false all (Some (name_of x, v ∷ []))
+    (record { settles = steps.value_settles x all v none; holds = settled_value x o gs v all r.holds first })))
+taken o p gs us hs (joined {ws = ws} x v first line) m rows q r =
     let all = settled_rows rules q rows in
-    let none = packets_row o gs all r.holds ∙ ap (λ x. is_some (one x)) first in
-    turn (at rows q (wait m) false) _ (codes "--packets=" ++ v) ws p hs (steps.packets_joined_passes m rows q v r.settles none) (steps.packets_joined_moves m rows q v)
-    (taken (record o { packets = Some v }) p gs ws hs line false _ None (used_ready _ gs _ (holds_packets o gs v all r.holds first)))
-taken o p gs us hs (bytes {ws = ws} {v = v} first plain line) m rows q r =
-    let all = settled_rows rules q rows in
-    let none = bytes_row o gs all r.holds ∙ ap (λ x. is_some (one x)) first in
-    turn (at rows q (wait m) false) _ (codes "--bytes") (v ∷ ws) p hs (steps.bytes_passes m rows q r.settles) (steps.bytes_moves m rows q)
-    (turn (at all (Some (codes "bytes", [])) (option (codes "bytes")) false) _ v ws p hs (steps.bytes_value_passes all v plain) (steps.bytes_value_moves all v plain)
-    (taken (record o { bytes = Some v }) p gs ws hs line false all (Some (codes "bytes", v ∷ []))
-    (record { settles = steps.bytes_settles all v none; holds = holds_bytes o gs v all r.holds first })))
-taken o p gs us hs (bytes_joined {ws = ws} {v = v} first line) m rows q r =
-    let all = settled_rows rules q rows in
-    let none = bytes_row o gs all r.holds ∙ ap (λ x. is_some (one x)) first in
-    turn (at rows q (wait m) false) _ (codes "--bytes=" ++ v) ws p hs (steps.bytes_joined_passes m rows q v r.settles none) (steps.bytes_joined_moves m rows q v)
-    (taken (record o { bytes = Some v }) p gs ws hs line false _ None (used_ready _ gs _ (holds_bytes o gs v all r.holds first)))
+    let none = value_row x o gs all r.holds ∙ ap (λ t. is_some (one t)) first in
+    turn (at rows q (wait m) false) _ (name_and_value x v) ws p hs (steps.joined_passes x m rows q v r.settles none) (steps.joined_moves x m rows q v)
+    (taken (with_value o x v) p gs ws hs line false _ None (used_ready _ gs _ (holds_value x o gs v all r.holds first)))

@@ -8,7 +8,7 @@ use Rattle.clap.specs.Takes.{settle_passes}
 use Rattle.clap.specs.declared.parser.matches.ValueSource.TheVariants.{CommandLine}
 use Rattle.clap.specs.declared.parser.matches.ValueSource.{ValueSource}
 use Rattle.clap.specs.declared.builder.value_parser.Reading.{Reading}
-use Rattle.st_plan.specs.Line.{Options}
+use Rattle.st_plan.specs.Line.{Valued, packets, bytes, block, blocks, name_of, Options, with_value}
 use Rattle.st_plan.proofs.Rows.{has_row-all_of, without_none, first_use, next_use, other_use}
 use Rattle.st_plan.proofs.Steps.{rules, held, flag_in, value_in, words_in}
 
@@ -26,8 +26,7 @@ some_of (g ∷ gs) = Some (g ∷ gs)
 
 pub record Holds (o : Options) (gs : List Text) (rows : List Row) : Type 0 where
   pub ns : all_of (codes "ns") rows ≡ given o.ns
-  pub packets : all_of (codes "packets") rows ≡ one o.packets
-  pub bytes : all_of (codes "bytes") rows ≡ one o.bytes
+  pub value : (x : Valued) → all_of (name_of x) rows ≡ one (o.value x)
   pub words : all_of (codes "words") rows ≡ some_of gs
 
 -- a use of another argument changes nothing, at names that differ
@@ -40,37 +39,75 @@ kept_by s id other how values rows apart = other_use id other how s values rows 
 kept : (id other : Text) (how : Reading) (values : List Text) (rows : List Row) → bytes_eq id other ≡ false → all_of other (with_values id how CommandLine values rows) ≡ all_of other rows
 kept id other how values rows apart = other_use id other how CommandLine values rows (differs id other apart) apart
 
+-- the names of the other arguments differ from those of the options with a value
+pub ns_apart : (x : Valued) → bytes_eq (codes "ns") (name_of x) ≡ false
+ns_apart packets = refl
+ns_apart bytes = refl
+ns_apart block = refl
+ns_apart blocks = refl
+
+apart_ns : (x : Valued) → bytes_eq (name_of x) (codes "ns") ≡ false
+apart_ns packets = refl
+apart_ns bytes = refl
+apart_ns block = refl
+apart_ns blocks = refl
+
+words_apart : (x : Valued) → bytes_eq (codes "words") (name_of x) ≡ false
+words_apart packets = refl
+words_apart bytes = refl
+words_apart block = refl
+words_apart blocks = refl
+
+apart_words : (x : Valued) → bytes_eq (name_of x) (codes "words") ≡ false
+apart_words packets = refl
+apart_words bytes = refl
+apart_words block = refl
+apart_words blocks = refl
+
+same_name : (x : Valued) → bytes_eq (name_of x) (name_of x) ≡ true
+same_name packets = refl
+same_name bytes = refl
+same_name block = refl
+same_name blocks = refl
+
 pub holds_ns : (o : Options) (gs : List Text) (rows : List Row) → Holds o gs rows → o.ns ≡ false → Holds (record o { ns = true }) gs (used (flag_in (codes "ns")) [] rows)
 holds_ns o gs rows h first =
     let none : all_of (codes "ns") rows ≡ None = h.ns ∙ ap given first in
     rw (without_none (codes "ns") rows none) (record {
       ns = first_use (codes "ns") _ CommandLine (codes "true" ∷ []) rows refl none;
-      packets = kept (codes "ns") (codes "packets") _ (codes "true" ∷ []) rows refl ∙ h.packets;
-      bytes = kept (codes "ns") (codes "bytes") _ (codes "true" ∷ []) rows refl ∙ h.bytes;
+      value = λ x. kept (codes "ns") (name_of x) _ (codes "true" ∷ []) rows (ns_apart x) ∙ h.value x;
       words = kept (codes "ns") (codes "words") _ (codes "true" ∷ []) rows refl ∙ h.words;
     })
 
-pub holds_packets : (o : Options) (gs : List Text) (v : Text) (rows : List Row) → Holds o gs rows → o.packets ≡ None
-    → Holds (record o { packets = Some v }) gs (used (value_in (codes "packets")) (v ∷ []) rows)
-holds_packets o gs v rows h first =
-    let none : all_of (codes "packets") rows ≡ None = h.packets ∙ ap one first in
-    rw (without_none (codes "packets") rows none) (record {
-      ns = kept (codes "packets") (codes "ns") _ (v ∷ []) rows refl ∙ h.ns;
-      packets = first_use (codes "packets") _ CommandLine (v ∷ []) rows refl none;
-      bytes = kept (codes "packets") (codes "bytes") _ (v ∷ []) rows refl ∙ h.bytes;
-      words = kept (codes "packets") (codes "words") _ (v ∷ []) rows refl ∙ h.words;
+-- a value is its option's alone
+value_of : (o : Options) (x y : Valued) (v : Text) (how : Reading) (rows : List Row) → ((z : Valued) → all_of (name_of z) rows ≡ one (o.value z)) → all_of (name_of x) rows ≡ None
+    → all_of (name_of y) (with_values (name_of x) how CommandLine (v ∷ []) rows) ≡ one ((with_value o x v).value y)
+value_of o x y v how rows h none =
+    elim (bytes_eq (name_of x) (name_of y)) as (λ b. bytes_eq (name_of x) (name_of y) ≡ b → all_of (name_of y) (with_values (name_of x) how CommandLine (v ∷ []) rows) ≡ one ((with_value o x v).value y)) [
+      | true ↦ λ e.
+          let same : name_of x ≡ name_of y = (bytes_eq-Decides (name_of x) (name_of y)).0 e in
+          let used_first = first_use (name_of x) how CommandLine (v ∷ []) rows (same_name x) none in
+          rw e (subst (λ t. all_of t (with_values (name_of x) how CommandLine (v ∷ []) rows) ≡ Some (v ∷ [])) same used_first)
+      | false ↦ λ e. rw e (kept (name_of x) (name_of y) how (v ∷ []) rows e ∙ h y)
+    ] refl
+
+pub holds_value : (x : Valued) (o : Options) (gs : List Text) (v : Text) (rows : List Row) → Holds o gs rows → o.value x ≡ None
+    → Holds (with_value o x v) gs (used (value_in (name_of x)) (v ∷ []) rows)
+holds_value x o gs v rows h first =
+    let none : all_of (name_of x) rows ≡ None = h.value x ∙ ap one first in
+    rw (without_none (name_of x) rows none) (record {
+      ns = kept (name_of x) (codes "ns") _ (v ∷ []) rows (apart_ns x) ∙ h.ns;
+      value = λ y. value_of o x y v _ rows h.value none;
+      words = kept (name_of x) (codes "words") _ (v ∷ []) rows (apart_words x) ∙ h.words;
     })
 
-pub holds_bytes : (o : Options) (gs : List Text) (v : Text) (rows : List Row) → Holds o gs rows → o.bytes ≡ None
-    → Holds (record o { bytes = Some v }) gs (used (value_in (codes "bytes")) (v ∷ []) rows)
-holds_bytes o gs v rows h first =
-    let none : all_of (codes "bytes") rows ≡ None = h.bytes ∙ ap one first in
-    rw (without_none (codes "bytes") rows none) (record {
-      ns = kept (codes "bytes") (codes "ns") _ (v ∷ []) rows refl ∙ h.ns;
-      packets = kept (codes "bytes") (codes "packets") _ (v ∷ []) rows refl ∙ h.packets;
-      bytes = first_use (codes "bytes") _ CommandLine (v ∷ []) rows refl none;
-      words = kept (codes "bytes") (codes "words") _ (v ∷ []) rows refl ∙ h.words;
-    })
+-- and so it is once the option's value is used that was pending
+pub settled_value : (x : Valued) (o : Options) (gs : List Text) (v : Text) (rows : List Row) → Holds o gs rows → o.value x ≡ None
+    → Holds (with_value o x v) gs (settled_rows rules (Some (name_of x, v ∷ [])) rows)
+settled_value packets = holds_value packets
+settled_value bytes = holds_value bytes
+settled_value block = holds_value block
+settled_value blocks = holds_value blocks
 
 one_more : (gs : List Text) (w : Text) (how : Reading) (rows : List Row) → all_of (codes "words") rows ≡ some_of gs
     → all_of (codes "words") (with_values (codes "words") how CommandLine (w ∷ []) rows) ≡ some_of (gs ++ w ∷ [])
@@ -80,8 +117,7 @@ one_more (g ∷ gs) w how rows h = next_use (codes "words") how CommandLine (w �
 pub holds_word : (o : Options) (gs : List Text) (w : Text) (rows : List Row) → Holds o gs rows → Holds o (gs ++ w ∷ []) (used words_in (w ∷ []) rows)
 holds_word o gs w rows h = record {
   ns = kept (codes "words") (codes "ns") _ (w ∷ []) rows refl ∙ h.ns;
-  packets = kept (codes "words") (codes "packets") _ (w ∷ []) rows refl ∙ h.packets;
-  bytes = kept (codes "words") (codes "bytes") _ (w ∷ []) rows refl ∙ h.bytes;
+  value = λ x. kept (codes "words") (name_of x) _ (w ∷ []) rows (words_apart x) ∙ h.value x;
   words = one_more gs w _ rows h.words;
 }
 
@@ -91,11 +127,8 @@ pub ns_row : (o : Options) (gs : List Text) (rows : List Row) (b : Bool) → Hol
 ns_row o gs rows true h e = has_row-all_of (codes "ns") rows ∙ ap is_some (h.ns ∙ ap given e)
 ns_row o gs rows false h e = has_row-all_of (codes "ns") rows ∙ ap is_some (h.ns ∙ ap given e)
 
-pub packets_row : (o : Options) (gs : List Text) (rows : List Row) → Holds o gs rows → has_row (codes "packets") rows ≡ is_some (one o.packets)
-packets_row o gs rows h = has_row-all_of (codes "packets") rows ∙ ap is_some h.packets
-
-pub bytes_row : (o : Options) (gs : List Text) (rows : List Row) → Holds o gs rows → has_row (codes "bytes") rows ≡ is_some (one o.bytes)
-bytes_row o gs rows h = has_row-all_of (codes "bytes") rows ∙ ap is_some h.bytes
+pub value_row : (x : Valued) (o : Options) (gs : List Text) (rows : List Row) → Holds o gs rows → has_row (name_of x) rows ≡ is_some (one (o.value x))
+value_row x o gs rows h = has_row-all_of (name_of x) rows ∙ ap is_some (h.value x)
 
 -- between two words: what is pending can be used, and with it the rows hold what was read
 pub record Ready (o : Options) (gs : List Text) (rows : List Row) (p : Option (Text × List Text)) : Type 0 where

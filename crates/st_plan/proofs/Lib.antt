@@ -7,4 +7,6 @@ mod Faults
 mod Back
 mod Finish
 mod Texts
+mod Named
 pub mod OnePlan
+mod Standing

@@ -7,7 +7,7 @@ use Rattle.clap.specs.Takes.{turn_passes, settle_passes, walk_passes, takes, ent
 use Rattle.clap.specs.Simple.{Shape, built, filled, with_index}
 use Rattle.clap.proofs.OnLiterals.{clap_on_literals}
 use Rattle.st_plan.specs.Rules.{line_app, flag_rule, value_rule, words_rule}
-use Rattle.st_plan.specs.Line.{is_plain}
+use Rattle.st_plan.specs.Line.{Valued, packets, bytes, block, blocks, name_of, long_name, name_and_value, is_plain}
 use Rattle.clap.specs.Lexer.{long_of, short_of}
 use Rattle.std.proofs.lemmas.Bool.Decides.{nat_tests}
 
@@ -107,87 +107,79 @@ unfolding clap_on_literals
 trailing_passes waiting rows p w true k = rw (and_false (is_pending words_in p), k) refl
 trailing_passes waiting rows p w false k = rw (and_false (is_pending words_in p), k) refl
 
--- `--packets`
-pub packets_moves : (m : Bool) (rows : List Row) (p : Option (Text × List Text))
-    → walked rules [] (at rows p (wait m) false) (codes "--packets") ≡ at (settled_rows rules p rows) (Some (codes "packets", [])) (option (codes "packets")) false
+-- `--name`
+pub value_moves : (x : Valued) (m : Bool) (rows : List Row) (p : Option (Text × List Text))
+    → walked rules [] (at rows p (wait m) false) (long_name x) ≡ at (settled_rows rules p rows) (Some (name_of x, [])) (option (name_of x)) false
 unfolding clap_on_literals
-packets_moves true rows p = refl
-packets_moves false rows p = refl
+value_moves packets true rows p = refl
+value_moves bytes true rows p = refl
+value_moves block true rows p = refl
+value_moves blocks true rows p = refl
+value_moves packets false rows p = refl
+value_moves bytes false rows p = refl
+value_moves block false rows p = refl
+value_moves blocks false rows p = refl
 
-pub packets_passes : (m : Bool) (rows : List Row) (p : Option (Text × List Text)) → settle_passes rules false (held rows p) ≡ true
-    → turn_passes shape [] (at rows p (wait m) false) (codes "--packets") ≡ true
+pub value_passes : (x : Valued) (m : Bool) (rows : List Row) (p : Option (Text × List Text)) → settle_passes rules false (held rows p) ≡ true
+    → turn_passes shape [] (at rows p (wait m) false) (long_name x) ≡ true
 unfolding clap_on_literals
-packets_passes true rows p h = rw h refl
-packets_passes false rows p h = rw h refl
+value_passes packets true rows p h = rw h refl
+value_passes bytes true rows p h = rw h refl
+value_passes block true rows p h = rw h refl
+value_passes blocks true rows p h = rw h refl
+value_passes packets false rows p h = rw h refl
+value_passes bytes false rows p h = rw h refl
+value_passes block false rows p h = rw h refl
+value_passes blocks false rows p h = rw h refl
 
--- `--packets=`
-pub packets_joined_moves : (m : Bool) (rows : List Row) (p : Option (Text × List Text)) (v : Text)
-    → walked rules [] (at rows p (wait m) false) (codes "--packets=" ++ v) ≡ at (used (value_in (codes "packets")) (v ∷ []) (settled_rows rules p rows)) None idle false
+-- `--name=`
+pub joined_moves : (x : Valued) (m : Bool) (rows : List Row) (p : Option (Text × List Text)) (v : Text)
+    → walked rules [] (at rows p (wait m) false) (name_and_value x v) ≡ at (used (value_in (name_of x)) (v ∷ []) (settled_rows rules p rows)) None idle false
 unfolding clap_on_literals
-packets_joined_moves true rows p v = refl
-packets_joined_moves false rows p v = refl
+joined_moves packets true rows p v = refl
+joined_moves bytes true rows p v = refl
+joined_moves block true rows p v = refl
+joined_moves blocks true rows p v = refl
+joined_moves packets false rows p v = refl
+joined_moves bytes false rows p v = refl
+joined_moves block false rows p v = refl
+joined_moves blocks false rows p v = refl
 
-pub packets_joined_passes : (m : Bool) (rows : List Row) (p : Option (Text × List Text)) (v : Text) → settle_passes rules false (held rows p) ≡ true
-    → has_row (codes "packets") (settled_rows rules p rows) ≡ false → turn_passes shape [] (at rows p (wait m) false) (codes "--packets=" ++ v) ≡ true
+pub joined_passes : (x : Valued) (m : Bool) (rows : List Row) (p : Option (Text × List Text)) (v : Text) → settle_passes rules false (held rows p) ≡ true
+    → has_row (name_of x) (settled_rows rules p rows) ≡ false → turn_passes shape [] (at rows p (wait m) false) (name_and_value x v) ≡ true
 unfolding clap_on_literals
-packets_joined_passes true rows p v h k = rw (h, k) refl
-packets_joined_passes false rows p v h k = rw (h, k) refl
-
--- its value
-pub packets_value_moves : (rows : List Row) (v : Text) → is_plain v ≡ true
-    → walked rules [] (at rows (Some (codes "packets", [])) (option (codes "packets")) false) v ≡ at rows (Some (codes "packets", v ∷ [])) idle false
-unfolding clap_on_literals
-packets_value_moves rows v h = rw (plain_stop v h, plain_long v h, plain_short v h) refl
-
-pub packets_value_passes : (rows : List Row) (v : Text) → is_plain v ≡ true
-    → turn_passes shape [] (at rows (Some (codes "packets", [])) (option (codes "packets")) false) v ≡ true
-unfolding clap_on_literals
-packets_value_passes rows v h = rw (plain_stop v h, plain_long v h, plain_short v h) refl
-
-pub packets_settles : (rows : List Row) (v : Text) → has_row (codes "packets") rows ≡ false → settle_passes rules false (held rows (Some (codes "packets", v ∷ []))) ≡ true
-unfolding clap_on_literals
-packets_settles rows v k = rw k refl
-
--- `--bytes`
-pub bytes_moves : (m : Bool) (rows : List Row) (p : Option (Text × List Text))
-    → walked rules [] (at rows p (wait m) false) (codes "--bytes") ≡ at (settled_rows rules p rows) (Some (codes "bytes", [])) (option (codes "bytes")) false
-unfolding clap_on_literals
-bytes_moves true rows p = refl
-bytes_moves false rows p = refl
-
-pub bytes_passes : (m : Bool) (rows : List Row) (p : Option (Text × List Text)) → settle_passes rules false (held rows p) ≡ true
-    → turn_passes shape [] (at rows p (wait m) false) (codes "--bytes") ≡ true
-unfolding clap_on_literals
-bytes_passes true rows p h = rw h refl
-bytes_passes false rows p h = rw h refl
-
--- `--bytes=`
-pub bytes_joined_moves : (m : Bool) (rows : List Row) (p : Option (Text × List Text)) (v : Text)
-    → walked rules [] (at rows p (wait m) false) (codes "--bytes=" ++ v) ≡ at (used (value_in (codes "bytes")) (v ∷ []) (settled_rows rules p rows)) None idle false
-unfolding clap_on_literals
-bytes_joined_moves true rows p v = refl
-bytes_joined_moves false rows p v = refl
-
-pub bytes_joined_passes : (m : Bool) (rows : List Row) (p : Option (Text × List Text)) (v : Text) → settle_passes rules false (held rows p) ≡ true
-    → has_row (codes "bytes") (settled_rows rules p rows) ≡ false → turn_passes shape [] (at rows p (wait m) false) (codes "--bytes=" ++ v) ≡ true
-unfolding clap_on_literals
-bytes_joined_passes true rows p v h k = rw (h, k) refl
-bytes_joined_passes false rows p v h k = rw (h, k) refl
+joined_passes packets true rows p v h k = rw (h, k) refl
+joined_passes bytes true rows p v h k = rw (h, k) refl
+joined_passes block true rows p v h k = rw (h, k) refl
+joined_passes blocks true rows p v h k = rw (h, k) refl
+joined_passes packets false rows p v h k = rw (h, k) refl
+joined_passes bytes false rows p v h k = rw (h, k) refl
+joined_passes block false rows p v h k = rw (h, k) refl
+joined_passes blocks false rows p v h k = rw (h, k) refl
 
 -- its value
-pub bytes_value_moves : (rows : List Row) (v : Text) → is_plain v ≡ true
-    → walked rules [] (at rows (Some (codes "bytes", [])) (option (codes "bytes")) false) v ≡ at rows (Some (codes "bytes", v ∷ [])) idle false
+pub taken_moves : (x : Valued) (rows : List Row) (v : Text) → is_plain v ≡ true
+    → walked rules [] (at rows (Some (name_of x, [])) (option (name_of x)) false) v ≡ at rows (Some (name_of x, v ∷ [])) idle false
 unfolding clap_on_literals
-bytes_value_moves rows v h = rw (plain_stop v h, plain_long v h, plain_short v h) refl
+taken_moves packets rows v h = rw (plain_stop v h, plain_long v h, plain_short v h) refl
+taken_moves bytes rows v h = rw (plain_stop v h, plain_long v h, plain_short v h) refl
+taken_moves block rows v h = rw (plain_stop v h, plain_long v h, plain_short v h) refl
+taken_moves blocks rows v h = rw (plain_stop v h, plain_long v h, plain_short v h) refl
 
-pub bytes_value_passes : (rows : List Row) (v : Text) → is_plain v ≡ true
-    → turn_passes shape [] (at rows (Some (codes "bytes", [])) (option (codes "bytes")) false) v ≡ true
+pub taken_passes : (x : Valued) (rows : List Row) (v : Text) → is_plain v ≡ true
+    → turn_passes shape [] (at rows (Some (name_of x, [])) (option (name_of x)) false) v ≡ true
 unfolding clap_on_literals
-bytes_value_passes rows v h = rw (plain_stop v h, plain_long v h, plain_short v h) refl
+taken_passes packets rows v h = rw (plain_stop v h, plain_long v h, plain_short v h) refl
+taken_passes bytes rows v h = rw (plain_stop v h, plain_long v h, plain_short v h) refl
+taken_passes block rows v h = rw (plain_stop v h, plain_long v h, plain_short v h) refl
+taken_passes blocks rows v h = rw (plain_stop v h, plain_long v h, plain_short v h) refl
 
-pub bytes_settles : (rows : List Row) (v : Text) → has_row (codes "bytes") rows ≡ false → settle_passes rules false (held rows (Some (codes "bytes", v ∷ []))) ≡ true
+pub value_settles : (x : Valued) (rows : List Row) (v : Text) → has_row (name_of x) rows ≡ false → settle_passes rules false (held rows (Some (name_of x, v ∷ []))) ≡ true
 unfolding clap_on_literals
-bytes_settles rows v k = rw k refl
+value_settles packets rows v k = rw k refl
+value_settles bytes rows v k = rw k refl
+value_settles block rows v k = rw k refl
+value_settles blocks rows v k = rw k refl
 
 pub words_settle : (rows : List Row) (w : Text) → settle_passes rules false (held rows (Some (codes "words", w ∷ []))) ≡ true
 unfolding clap_on_literals

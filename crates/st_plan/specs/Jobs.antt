@@ -1,10 +1,25 @@
--- The job of a plan.
+-- What the plans of the commands have.
 use Rattle.clap.specs.Words.{Text}
 use Rattle.st_base.specs.declared.limits.Limits.{Limits}
 use Rattle.st_pcap.specs.declared.forms.Unit as unit
+use Rattle.st_plan.specs.declared.jobs.LanePlan.{LanePlan}
 
--- a query over one input, with the unit of its answer's times and the limits of its answer
+-- a query, with the unit of its answer's times and the limits of its answer
 pub record Job : Type 0 where
   pub query : Text
   pub unit : unit.Unit
   pub limits : Limits
+
+-- new pairs for the spool in this folder, with the layout of their block files
+pub record LoadPlan : Type 0 where
+  pub folder : Text
+  pub plan : LanePlan
+
+-- a query over the spool in this folder
+pub record QueryPlan : Type 0 where
+  pub folder : Text
+  pub job : Job
+
+-- the spool in this folder
+pub record SpoolPlan : Type 0 where
+  pub folder : Text

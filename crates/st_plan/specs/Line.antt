@@ -1,15 +1,44 @@
 -- How the arguments of a command line are read: options in any place, and operands.
-use Rattle.std.specs.Prelude.{◌≡◌, Bool, true, false, not, ◌==◌, List, [], ◌∷◌, ◌++◌, Option, Some, None, codes}
+use Rattle.std.specs.Prelude.{◌≡◌, Bool, true, false, not, ◌==◌, List, [], ◌∷◌, ◌++◌, Option, Some, None, codes, if◌then◌else◌}
+use Rattle.std.specs.Str.{bytes_eq}
 use Rattle.clap.specs.Words.{Text}
+
+-- the options with a value
+pub data Valued : Type 0 where
+  packets : Valued
+  bytes : Valued
+  block : Valued
+  blocks : Valued
+
+-- their names
+abbrev pub name_of : Valued → Text
+name_of packets = codes "packets"
+name_of bytes = codes "bytes"
+name_of block = codes "block"
+name_of blocks = codes "blocks"
+
+-- the argument that names an option
+abbrev pub long_name : Valued → Text
+long_name x = codes "--" ++ name_of x
+
+-- the argument that names it and has its value too
+abbrev pub name_and_value : Valued → Text → Text
+name_and_value x v = codes "--" ++ (name_of x ++ (codes "=" ++ v))
 
 -- what the options say
 pub record Options : Type 0 where
   pub ns : Bool
-  pub packets : Option Text
-  pub bytes : Option Text
+  pub value : Valued → Option Text
 
+-- no option is given
 abbrev pub no_options : Options
-no_options = record { ns = false; packets = None; bytes = None }
+no_options = record { ns = false; value = λ _. None }
+
+-- these options and this value of one of them
+abbrev pub with_value : Options → Valued → Text → Options
+with_value o x v = record o {
+  value = λ y. if bytes_eq (name_of x) (name_of y) then Some v else o.value y;
+}
 
 -- an argument that may be an operand or an option's value: one that does not begin with a hyphen,
 -- or is a hyphen alone
@@ -28,15 +57,9 @@ pub data Line : Options → List Text → List Text → Options → List Text �
       → Line o (gs ++ w ∷ []) ws p hs → Line o gs (w ∷ ws) p hs
   ns : {o p : Options} {gs ws hs : List Text} → o.ns ≡ false
       → Line (record o { ns = true }) gs ws p hs → Line o gs (codes "--ns" ∷ ws) p hs
-  packets : {o p : Options} {gs ws hs : List Text} {v : Text} → o.packets ≡ None → is_plain v ≡ true
-      → Line (record o { packets = Some v }) gs ws p hs
-      → Line o gs (codes "--packets" ∷ (v ∷ ws)) p hs
-  packets_joined : {o p : Options} {gs ws hs : List Text} {v : Text} → o.packets ≡ None
-      → Line (record o { packets = Some v }) gs ws p hs
-      → Line o gs ((codes "--packets=" ++ v) ∷ ws) p hs
-  bytes : {o p : Options} {gs ws hs : List Text} {v : Text} → o.bytes ≡ None → is_plain v ≡ true
-      → Line (record o { bytes = Some v }) gs ws p hs
-      → Line o gs (codes "--bytes" ∷ (v ∷ ws)) p hs
-  bytes_joined : {o p : Options} {gs ws hs : List Text} {v : Text} → o.bytes ≡ None
-      → Line (record o { bytes = Some v }) gs ws p hs
-      → Line o gs ((codes "--bytes=" ++ v) ∷ ws) p hs
+  value : {o p : Options} {gs ws hs : List Text} (x : Valued) (v : Text) → o.value x ≡ None
+      → is_plain v ≡ true → Line (with_value o x v) gs ws p hs
+      → Line o gs (long_name x ∷ (v ∷ ws)) p hs
+  joined : {o p : Options} {gs ws hs : List Text} (x : Valued) (v : Text) → o.value x ≡ None
+      → Line (with_value o x v) gs ws p hs
+      → Line o gs (name_and_value x v ∷ ws) p hs

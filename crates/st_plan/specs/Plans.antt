@@ -1,12 +1,16 @@
 -- What a command line asks for.
-use Rattle.std.specs.Prelude.{◌≡◌, ℕ, ◌-◌, ◌^◌, ◌≤◌, List, [], ◌∷◌, Option, Some, None, length, codes, if◌then◌else◌}
+use Rattle.std.specs.Prelude.{◌≡◌, ◌≢◌, ℕ, ◌-◌, ◌^◌, ◌≤◌, List, [], ◌∷◌, Option, Some, None, Bool, false, ◌||◌, is_some, length, codes, if◌then◌else◌}
 use Rattle.std.specs.Str.Parse.{IsNumeral, digits_value}
 use Rattle.clap.specs.Words.{Text}
+use Rattle.st_block.specs.BlockText.{IsBlockSize}
+use Rattle.st_block.specs.declared.format.TheConstants.{MAX_BLOCKS}
 use Rattle.st_pcap.specs.declared.forms.Unit.TheVariants.{Micro, Nano}
 use Rattle.st_plan.specs.Jobs.{Job}
-use Rattle.st_plan.specs.Line.{Options, Line, no_options}
+use Rattle.st_plan.specs.Line.{Options, Line, no_options, packets, bytes, block, blocks}
+use Rattle.st_plan.specs.declared.jobs.LanePlan.{LanePlan}
 use Rattle.st_plan.specs.declared.jobs.Plan.{Plan}
-use Rattle.st_plan.specs.declared.jobs.Plan.TheVariants.{Once}
+use Rattle.st_plan.specs.declared.jobs.Plan.TheVariants as plan
+use Rattle.st_plan.specs.declared.limits.TheConstants.{DEFAULT_SIZE, DEFAULT_BLOCKS}
 
 -- one to ten decimal digits write this number, below 2^32
 abbrev pub IsNumber : Text → ℕ → Type 0
@@ -18,14 +22,64 @@ abbrev pub IsLimit : Option Text → ℕ → Type 0
 IsLimit None n = n ≡ 2 ^ 64 - 1
 IsLimit (Some word) n = IsNumber word n
 
--- these options and operands are `once` with one query
-pub record IsJob (o : Options) (gs : List Text) (job : Job) : Type 0 where
-  pub words : gs ≡ codes "once" ∷ (job.query ∷ [])
+-- the block size that an option sets; one that is not given is the default
+abbrev pub IsSize : Option Text → ℕ → Type 0
+IsSize None n = n ≡ DEFAULT_SIZE
+IsSize (Some word) n = IsNumber word n × IsBlockSize n
+
+-- the number of blocks that an option sets; one that is not given is the default
+abbrev pub IsBlocks : Option Text → ℕ → Type 0
+IsBlocks None n = n ≡ DEFAULT_BLOCKS
+IsBlocks (Some word) n = IsNumber word n × (1 ≤ n) × (n ≤ MAX_BLOCKS)
+
+-- the operands of each command
+abbrev pub operands : Plan → List Text
+operands (plan.Once job) = codes "once" ∷ (job.query ∷ [])
+operands (plan.Load load) = codes "load" ∷ (load.folder ∷ [])
+operands (plan.Query query) = codes "query" ∷ (query.folder ∷ (query.job.query ∷ []))
+operands (plan.List spool) = codes "list" ∷ (spool.folder ∷ [])
+operands (plan.Check spool) = codes "check" ∷ (spool.folder ∷ [])
+
+-- the folder that each command but `once` names
+abbrev pub folder_of : Plan → Option Text
+folder_of (plan.Once job) = None
+folder_of (plan.Load load) = Some load.folder
+folder_of (plan.Query query) = Some query.folder
+folder_of (plan.List spool) = Some spool.folder
+folder_of (plan.Check spool) = Some spool.folder
+
+-- the options of an answer: `--ns`, `--packets` and `--bytes`
+pub record FormsAnswer (o : Options) (job : Job) : Type 0 where
   pub unit : job.unit ≡ (if o.ns then Nano else Micro)
-  pub packets : IsLimit o.packets job.limits.packets
-  pub bytes : IsLimit o.bytes job.limits.bytes
+  pub packets : IsLimit (o.value packets) job.limits.packets
+  pub bytes : IsLimit (o.value bytes) job.limits.bytes
+
+-- the options of a lane: `--block` and `--blocks`
+pub record FormsLane (o : Options) (lane : LanePlan) : Type 0 where
+  pub size : IsSize (o.value block) lane.size
+  pub blocks : IsBlocks (o.value blocks) lane.blocks
+
+-- whether an option of an answer is given, and whether one of a lane is
+abbrev pub has_answer_option : Options → Bool
+has_answer_option o = o.ns || is_some (o.value packets) || is_some (o.value bytes)
+
+abbrev pub has_lane_option : Options → Bool
+has_lane_option o = is_some (o.value block) || is_some (o.value blocks)
+
+-- each command's options say what its plan is, and no option of another command is given
+abbrev pub FitsOptions : Options → Plan → Type 0
+FitsOptions o (plan.Once job) = FormsAnswer o job × (has_lane_option o ≡ false)
+FitsOptions o (plan.Load load) = (has_answer_option o ≡ false) × FormsLane o load.plan
+FitsOptions o (plan.Query query) = FormsAnswer o query.job × (has_lane_option o ≡ false)
+FitsOptions o (plan.List spool) = (has_answer_option o ≡ false) × (has_lane_option o ≡ false)
+FitsOptions o (plan.Check spool) = (has_answer_option o ≡ false) × (has_lane_option o ≡ false)
+
+-- these options and operands ask for this plan; its folder has a name
+pub record Asks (o : Options) (gs : List Text) (p : Plan) : Type 0 where
+  pub operands : gs ≡ operands p
+  pub folder : folder_of p ≢ Some []
+  pub options : FitsOptions o p
 
 -- these arguments have this plan
 abbrev pub IsPlan : List Text → Plan → Type 0
-IsPlan words (Once job) =
-    (o : Options) × (gs : List Text) × Line no_options [] words o gs × IsJob o gs job
+IsPlan words p = (o : Options) × (gs : List Text) × Line no_options [] words o gs × Asks o gs p

@@ -2,6 +2,7 @@
 use Rattle.std.specs.Prelude.{Some, true, codes}
 use Rattle.clap.specs.Words.{App, Rule, Text, new_rule, new_app, with_rule}
 use Rattle.clap.specs.declared.builder.ArgAction.TheVariants.{Set, SetTrue, Append}
+use Rattle.st_plan.specs.Line.{Valued, name_of, packets, bytes, block, blocks}
 
 abbrev pub flag_rule : Text → Rule
 flag_rule name = record (new_rule name) { long = Some name; action = Some SetTrue }
@@ -19,7 +20,13 @@ bare_app = record (new_app (codes "steno")) {
       { no_binary_name = true; disable_help_flag = true; disable_version_flag = true };
 }
 
+-- the command with the options of an answer
+abbrev pub answer_app : App
+answer_app =
+    with_rule (with_rule (with_rule bare_app (flag_rule (codes "ns")))
+    (value_rule (codes "packets"))) (value_rule (codes "bytes"))
+
 abbrev pub line_app : App
 line_app =
-    with_rule (with_rule (with_rule (with_rule bare_app (flag_rule (codes "ns")))
-    (value_rule (codes "packets"))) (value_rule (codes "bytes"))) words_rule
+    with_rule (with_rule (with_rule answer_app (value_rule (codes "block")))
+    (value_rule (codes "blocks"))) words_rule

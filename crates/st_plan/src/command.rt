@@ -1,11 +1,11 @@
-//! The arguments after the program's name as one simple command: options in any place, and
-//! operands.
+//! The arguments after the program's name as one simple command: the options of all commands in any
+//! place, and operands.
 
 ghost use Rattle.std.specs.Prelude.{◌≡◌, ◌≢◌, IfOk, IsNone, MatchOption, map, string_bytes, true, false};
 ghost use Rattle.clap.specs.Words.{rule_of, app_of, found_of};
 ghost use Rattle.clap.specs.declared.error.kind.ErrorKind.TheVariants.{OutOfMemory};
 ghost use Rattle.st_plan.specs.Found.{IsTaken, IsNoLine};
-ghost use Rattle.st_plan.specs.Rules.{flag_rule, value_rule, words_rule, bare_app, line_app};
+ghost use Rattle.st_plan.specs.Rules.{flag_rule, value_rule, words_rule, bare_app, answer_app, line_app};
 
 use clap::error::ErrorKind;
 use clap::{Arg, ArgAction, ArgMatches, Command};
@@ -46,14 +46,23 @@ fn bare<'a>(alloc: Global) -> Command<'a>
         .disable_version_flag(true)
 }
 
-/// The command.
-fn command<'a>(alloc: Global) -> Result<Command<'a>, AllocError>
-    ensures { IfOk result (λ c. app_of c ≡ line_app) }
+/// The command with the options of an answer.
+fn answer<'a>(alloc: Global) -> Result<Command<'a>, AllocError>
+    ensures { IfOk result (λ c. app_of c ≡ answer_app) }
 {
     bare(alloc)
         .arg(flag(alloc, "ns"))?
         .arg(value(alloc, "packets"))?
-        .arg(value(alloc, "bytes"))?
+        .arg(value(alloc, "bytes"))
+}
+
+/// The command.
+fn command<'a>(alloc: Global) -> Result<Command<'a>, AllocError>
+    ensures { IfOk result (λ c. app_of c ≡ line_app) }
+{
+    answer(alloc)?
+        .arg(value(alloc, "block"))?
+        .arg(value(alloc, "blocks"))?
         .arg(arguments(alloc))
 }
 

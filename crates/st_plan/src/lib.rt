@@ -2,27 +2,38 @@
 //!
 //! # What it promises
 //!
-//! - The arguments have a plan if and only if they are a line of `once` with one query, and the
-//!   plan is what they ask for (`plan_of`).
+//! - The arguments have a plan if and only if they are a line of `once`, `load`, `query`, `list` or
+//!   `check` with the operands and options of that command, and the plan is what they ask for
+//!   (`plan_of`).
 //! - Arguments have one plan at most (`one_plan`).
+//! - The place of the plan's folder among the arguments, if the plan has one (`spool_word`).
 //!
 //! # What it leaves to others
 //!
-//! `clap` reads the arguments. Whether the query's text is a query is for st_query to say.
-//! `plan_of` may run out of memory for any arguments.
+//! `clap` reads the arguments. Whether the query's text is a query is for st_query to say, and
+//! whether there is a spool in the folder, for whoever opens it. `plan_of` and `spool_word` may run
+//! out of memory for any arguments.
 //!
 //! # Where to read
 //!
-//! `specs/Line.antt` says which arguments are a line, and `specs/Plans.antt` what a line asks for.
-//! Then `command`, `limits`, `plans`.
+//! `specs/Line.antt` says which arguments are a line, `specs/Plans.antt` what a line asks for, and
+//! `specs/Places.antt` where its folder stands. Then `command`, `limits`, `options`, `plans`,
+//! `places`.
 #![tactic(auto)]
 
 mod command;
 mod jobs;
 mod laws;
 mod limits;
+mod operands;
+mod options;
+mod places;
 mod plans;
+#[cfg(test)]
+mod tests;
 
-pub use jobs::{Once, Plan};
+pub use jobs::{Job, LanePlan, LoadPlan, Plan, QueryPlan, SpoolPlan};
 pub use laws::one_plan;
+pub use limits::{DEFAULT_BLOCKS, DEFAULT_SIZE};
+pub use places::spool_word;
 pub use plans::plan_of;

@@ -1,75 +1,120 @@
 //! The plan of a command line.
 
-ghost use Rattle.std.specs.Prelude.{◌≡◌, List, [], ◌∷◌, Some, IfOk, map, option_map, string_bytes, MatchOption, codes};
-ghost use Rattle.clap.specs.Words.{found_of, Text};
+ghost use Rattle.std.specs.Prelude.{◌≡◌, List, [], ◌∷◌, IfOk, map, string_bytes, MatchOption, codes};
+ghost use Rattle.clap.specs.Words.{found_of};
 ghost use Rattle.st_plan.specs.declared.jobs.Plan.{Plan as Planned};
-ghost use Rattle.st_plan.specs.Jobs.{Job};
-ghost use Rattle.st_plan.specs.Found.{IsJobOf, unit_of};
-ghost use Rattle.st_plan.specs.Plans.{IsPlan};
+ghost use Rattle.st_plan.specs.Found.{options_of, operands_of};
+ghost use Rattle.st_plan.specs.Plans.{Asks, IsPlan};
 
 use crate::command::matches_of;
-use crate::jobs::{Once, Plan};
-use crate::limits::limit;
+use crate::jobs::{LoadPlan, Plan, QueryPlan, SpoolPlan};
+use crate::operands::{argument, arguments};
+use crate::options::{has_answer_option, has_lane_option, job, lane};
 use clap::ArgMatches;
-use st_base::{Limits, NoMemory};
-use st_pcap::Unit;
+use st_base::NoMemory;
 use std::alloc::Global;
 
-// The query of the operands `once QUERY`.
-fn query_of<'a>(arguments: &[&'a str]) -> Option<&'a str>
+// The plan of `once` with this query.
+fn once_of<'a>(matches: &ArgMatches<'a>, query: &'a str) -> Option<Plan<'a>>
     ensures { MatchOption result
-        ((q : Text) → map (λ v. v.now) arguments.entry.now ≡ codes "once" ∷ (q ∷ []) → ⊥)
-        (λ q. map (λ v. v.now) arguments.entry.now ≡ codes "once" ∷ (q.now ∷ [])) }
+        ((p : Planned) → Asks (options_of (found_of matches.now))
+        (codes "once" ∷ (query.entry.now ∷ [])) p → ⊥)
+        (Asks (options_of (found_of matches.now)) (codes "once" ∷ (query.entry.now ∷ []))) }
 {
-    if arguments.len() != 2 {
+    if has_lane_option(matches) {
         return None;
     }
-    let command = arguments[0];
-    let query = arguments[1];
-    if command == "once" { Some(query) } else { None }
+    match job(matches, query) {
+        Some(job) => Some(Plan::Once(job)),
+        None => None,
+    }
 }
 
-// The unit of the times, by the text of the flag for nanoseconds.
-fn unit_of(flag: Option<&str>) -> Unit
-    ensures { result ≡ unit_of (option_map (λ s. s.now) flag.entry) }
+// The plan of `load` over this folder.
+fn load_of<'a>(matches: &ArgMatches<'a>, folder: &'a str) -> Option<Plan<'a>>
+    ensures { MatchOption result
+        ((p : Planned) → Asks (options_of (found_of matches.now))
+        (codes "load" ∷ (folder.entry.now ∷ [])) p → ⊥)
+        (Asks (options_of (found_of matches.now)) (codes "load" ∷ (folder.entry.now ∷ []))) }
 {
-    match flag {
-        Some(text) => {
-            if text == "true" {
-                Unit::Nano
-            } else {
-                Unit::Micro
-            }
-        }
-        None => Unit::Micro,
+    if folder.is_empty() || has_answer_option(matches) {
+        return None;
     }
+    match lane(matches) {
+        Some(plan) => Some(Plan::Load(LoadPlan { folder, plan })),
+        None => None,
+    }
+}
+
+// The plan of `query` over this folder with this query.
+fn query_of<'a>(matches: &ArgMatches<'a>, folder: &'a str, query: &'a str) -> Option<Plan<'a>>
+    ensures { MatchOption result
+        ((p : Planned) → Asks (options_of (found_of matches.now))
+        (codes "query" ∷ (folder.entry.now ∷ (query.entry.now ∷ []))) p → ⊥)
+        (Asks (options_of (found_of matches.now))
+        (codes "query" ∷ (folder.entry.now ∷ (query.entry.now ∷ [])))) }
+{
+    if folder.is_empty() || has_lane_option(matches) {
+        return None;
+    }
+    match job(matches, query) {
+        Some(job) => Some(Plan::Query(QueryPlan { folder, job })),
+        None => None,
+    }
+}
+
+// The plan of `list` over this folder.
+fn list_of<'a>(matches: &ArgMatches<'a>, folder: &'a str) -> Option<Plan<'a>>
+    ensures { MatchOption result
+        ((p : Planned) → Asks (options_of (found_of matches.now))
+        (codes "list" ∷ (folder.entry.now ∷ [])) p → ⊥)
+        (Asks (options_of (found_of matches.now)) (codes "list" ∷ (folder.entry.now ∷ []))) }
+{
+    if folder.is_empty() || has_answer_option(matches) || has_lane_option(matches) {
+        return None;
+    }
+    Some(Plan::List(SpoolPlan { folder }))
+}
+
+// The plan of `check` over this folder.
+fn check_of<'a>(matches: &ArgMatches<'a>, folder: &'a str) -> Option<Plan<'a>>
+    ensures { MatchOption result
+        ((p : Planned) → Asks (options_of (found_of matches.now))
+        (codes "check" ∷ (folder.entry.now ∷ [])) p → ⊥)
+        (Asks (options_of (found_of matches.now)) (codes "check" ∷ (folder.entry.now ∷ []))) }
+{
+    if folder.is_empty() || has_answer_option(matches) || has_lane_option(matches) {
+        return None;
+    }
+    Some(Plan::Check(SpoolPlan { folder }))
 }
 
 // What the matches ask for.
-fn asked<'a>(matches: &ArgMatches<'a>) -> Option<Once<'a>>
+fn asked<'a>(matches: &ArgMatches<'a>) -> Option<Plan<'a>>
     ensures { MatchOption result
-        ((job : Job) → IsJobOf (found_of matches.now) job → ⊥)
-        (λ job. IsJobOf (found_of matches.now) job) }
+        ((p : Planned) → Asks (options_of (found_of matches.now))
+        (operands_of (found_of matches.now)) p → ⊥)
+        (Asks (options_of (found_of matches.now)) (operands_of (found_of matches.now))) }
 {
-    let Some(arguments) = matches.get_raw("words") else {
+    let Some(operands) = matches.get_raw("words") else {
         return None;
     };
-    let Some(query) = query_of(arguments) else {
-        return None;
-    };
-    let unit = unit_of(matches.get_str("ns"));
-    let Some(packets) = limit(matches.get_str("packets")) else {
-        return None;
-    };
-    let Some(bytes) = limit(matches.get_str("bytes")) else {
-        return None;
-    };
-    let limits = Limits { packets, bytes };
-    Some(Once {
-        query,
-        unit,
-        limits,
-    })
+    if let Some(query) = argument("once", operands) {
+        return once_of(matches, query);
+    }
+    if let Some(folder) = argument("load", operands) {
+        return load_of(matches, folder);
+    }
+    if let Some((folder, query)) = arguments("query", operands) {
+        return query_of(matches, folder, query);
+    }
+    if let Some(folder) = argument("list", operands) {
+        return list_of(matches, folder);
+    }
+    if let Some(folder) = argument("check", operands) {
+        return check_of(matches, folder);
+    }
+    None
 }
 
 /// The plan of the arguments after the program's name; None if they have none.
@@ -84,50 +129,10 @@ pub fn plan_of<'a>(alloc: Global, words: &'a [String]) -> Result<Option<Plan<'a>
 {
     match matches_of(alloc, words) {
         Ok(Some(matches)) => match asked(&matches) {
-            Some(once) => Ok(Some(Plan::Once(once))),
+            Some(plan) => Ok(Some(plan)),
             None => Ok(None),
         },
         Ok(None) => Ok(None),
         Err(error) => Err(error),
-    }
-}
-
-#[cfg(test)]
-mod tests {
-    use super::*;
-    use std::alloc::AllocError;
-    use std::test::Fail;
-
-    fn words_of(alloc: Global, texts: &[&str]) -> Result<Vec<String>, AllocError> {
-        let mut words = Vec::new(alloc);
-        for text in texts {
-            words.push(String::from_str(alloc, text)?)?;
-        }
-        Ok(words)
-    }
-
-    // The options stand before, between and after the operands, in both spellings.
-    #[test]
-    fn once_is_read_with_its_options(rt: HostRuntime) -> Result<(), Fail> {
-        let alloc = rt.alloc();
-        let words = words_of(
-            alloc,
-            &[
-                "--bytes=100",
-                "once",
-                "--ns",
-                "port 53",
-                "--packets",
-                "0002",
-            ],
-        )?;
-        if let Ok(Some(Plan::Once(once))) = plan_of(alloc, words.as_slice()) {
-            assert_eq!(rt; once.query, "port 53");
-            assert_eq!(rt; once.limits.packets, 2);
-            assert_eq!(rt; once.limits.bytes, 100);
-            assert!(rt; once.unit == Unit::Nano);
-            return Ok(());
-        }
-        Err("these words have a plan")?
     }
 }

@@ -1,5 +1,5 @@
 //! A text as the query that it spells, or its refusal.
-ghost use Rattle.std.specs.Prelude.{◌≡◌, ◌≢◌, IfOk, IfErr};
+ghost use Rattle.std.specs.Prelude.{◌≡◌, ◌≢◌, ◌<◌, length, Err, IfOk, IfErr};
 ghost use Rattle.st_query.specs.Spelling.{Spells, Refuses};
 ghost use Rattle.st_query.specs.Parser.{error_at};
 
@@ -31,6 +31,8 @@ fn error_at(kind: Kind, place: usize) -> QueryErr
 /// of the end of the text: docs/QUERY.md, "Refusals".
 pub fn parse(alloc: Global, text: &[u8]) -> Result<Query, QueryErr>
     ensures spells { IfOk result (λ q. Spells text.now q) }
+    ensures long { MAX_TEXT < length text.now
+        → result ≡ Err (QueryErr.Long (length text.now)) }
     ensures refuses { IfErr result (λ e. e ≢ QueryErr.NoMemory → Refuses text.now e) }
 {
     if text.len() > MAX_TEXT {

@@ -2,9 +2,8 @@
 use Rattle.std.proofs.Common.{◌≡◌, ℕ, zero, suc, ◌<◌, ◌^◌, Bool, true, false, ◌||◌, List, [], ◌∷◌, length, IsTrue, slice_index_or, refl, sym, ap, ap₂, ◌∙◌, subst, arith, true≢false, nat_eq, eq-eqb}
 use Rattle.std.proofs.lemmas.List.Elements.{All-contains}
 use Rattle.byteorder.specs.Numbers.{big_number-reads_back}
-use Rattle.st_block.specs.BlockText.{HasBytes}
-use Rattle.st_block.specs.Scan.{PositionedRecord}
 use Rattle.st_rows.specs.Positions.{has, positions_in}
+use Rattle.st_rows.specs.Rows.{FitsFields}
 use Rattle.st_rows.specs.Laws.{ValuesSayPositions, RowsSayPositions}
 
 pub values_say : ValuesSayPositions
@@ -27,6 +26,6 @@ all_had (x ∷ xs) f (suc k) d less = all_had xs (λ q h. f q (right (nat_eq q x
 
 pub rows_say : RowsSayPositions
 rows_say given k row p fit is =
-    let small = all_had is.positions (λ q h. let (r, c, i) = (is.exact q).0 h in (All-contains (λ (x : PositionedRecord). (x.0 < 2 ^ 32) × (x.1.sec < 2 ^ 32) × (x.1.nsec < 2 ^ 32) × HasBytes x.1) given (q, r) fit c).0) in
+    let small = all_had is.positions (λ q h. let (r, c, i) = (is.exact q).0 h in (All-contains FitsFields given (q, r) fit c).0) in
     let same : positions_in row.1 ≡ is.positions = ap positions_in is.value ∙ values_say is.positions small in
     (λ h. (is.exact p).0 (subst (λ (xs : List ℕ). IsTrue (has xs p)) same h), λ h. subst (λ (xs : List ℕ). IsTrue (has xs p)) (sym same) ((is.exact p).1 h))

@@ -1,6 +1,6 @@
 -- Laws of positions and rows, which the functions of `laws` ensure. Those of the order of keys are
 -- in KeyOrder.
-use Rattle.std.specs.Prelude.{◌≡◌, ℕ, ◌<◌, ◌^◌, ◌↔◌, List, [], ◌∷◌, Option, Some, None, IsTrue, All, Contains}
+use Rattle.std.specs.Prelude.{◌≡◌, ℕ, ◌<◌, ◌^◌, ◌↔◌, List, [], ◌∷◌, length, Option, Some, None, IsTrue, All, Contains}
 use Rattle.st_base.specs.Records.{Rec}
 use Rattle.st_walk.specs.declared.text.Key.{Key}
 use Rattle.st_walk.specs.KeyText.{key_text, Fits}
@@ -27,6 +27,11 @@ abbrev pub FilePackets : Type 0
 FilePackets =
     (bytes : List ℕ) (given : List PositionedRecord) → IsFile bytes given
     → PositionsRise given × AllFit given
+
+-- a block file has fewer than 2^32 packets, so that the summary row can say their number
+abbrev pub FewPackets : Type 0
+FewPackets =
+    (bytes : List ℕ) (given : List PositionedRecord) → IsFile bytes given → length given < 2 ^ 32
 
 -- one packet is at a position
 abbrev pub OnePacketAt : Type 0

@@ -1,4 +1,5 @@
 pub mod Positions
+pub mod Values
 pub mod KeyOrder
 pub mod Rows
 pub mod Whole

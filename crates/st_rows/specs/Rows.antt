@@ -84,6 +84,10 @@ pub record AreRowsOf (given : List PositionedRecord) (rows : List RowView) : Typ
 abbrev pub PositionsRise : List PositionedRecord → Type 0
 PositionsRise given = AllPairs (λ x y. x.0 < y.0) given
 
--- each position and each number of a packet fits its field, and the packet's bytes are bytes
+-- a packet's position and the numbers of its time fit their fields, and its bytes are bytes
+abbrev pub FitsFields : PositionedRecord → Type 0
+FitsFields x = (x.0 < 2 ^ 32) × (x.1.sec < 2 ^ 32) × (x.1.nsec < 2 ^ 32) × HasBytes x.1
+
+-- all packets fit their fields
 abbrev pub AllFit : List PositionedRecord → Type 0
-AllFit given = All (λ x. (x.0 < 2 ^ 32) × (x.1.sec < 2 ^ 32) × (x.1.nsec < 2 ^ 32) × HasBytes x.1) given
+AllFit given = All FitsFields given

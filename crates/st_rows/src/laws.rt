@@ -1,7 +1,7 @@
 //! Laws of the definitions. These functions do nothing; what they ensure is what counts.
 
 ghost use Rattle.st_rows.specs.KeyOrder.{DerivedOrder, TextOrder, TextsLie};
-ghost use Rattle.st_rows.specs.Laws.{FilePackets, LookupIsRange, OneKeyRow, OneListOfRows, OnePacketAt, OneRisingList, OneSummary, PacketKeysFit, RowsSayPositions, SummaryFirst, ValuesSayPositions};
+ghost use Rattle.st_rows.specs.Laws.{FewPackets, FilePackets, LookupIsRange, OneKeyRow, OneListOfRows, OnePacketAt, OneRisingList, OneSummary, PacketKeysFit, RowsSayPositions, SummaryFirst, ValuesSayPositions};
 
 /// The texts of keys are in the order of the keys: by kind, and then by number.
 pub fn text_order()
@@ -32,6 +32,11 @@ pub fn one_rising_list()
 /// fields.
 pub fn file_packets()
     ensures { FilePackets }
+{}
+
+/// A block file has fewer than 2^32 packets.
+pub fn few_packets()
+    ensures { FewPackets }
 {}
 
 /// Where positions rise, one packet at most is at a position.

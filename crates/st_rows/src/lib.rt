@@ -16,8 +16,9 @@
 //!   rising positions are determined by which they are (`one_rising_list`).
 //! - A value says the positions that it was made of (`values_say_positions`), and those of a key's
 //!   row are the positions of exactly the packets that have it (`rows_say_positions`).
-//! - In a block file positions rise and all numbers fit (`file_packets`); one packet at most is at
-//!   a position (`one_packet_at`), and its keys fit (`packet_keys_fit`).
+//! - In a block file positions rise and all numbers fit (`file_packets`), and there are fewer than
+//!   2^32 packets (`few_packets`); one packet at most is at a position (`one_packet_at`), and its
+//!   keys fit (`packet_keys_fit`).
 //! - A range from a key to itself is what a lookup finds (`lookup_is_range`).
 //!
 //! # What it leaves to others
@@ -27,7 +28,8 @@
 //! # Where to read
 //!
 //! `specs/Positions.antt`, `specs/KeyOrder.antt`, `specs/Rows.antt`, and `specs/Whole.antt` for a
-//! whole pair. `specs/Laws.antt` has the laws, `format` the numbers.
+//! whole pair. `specs/Values.antt` says what is wrong with a row's value. `specs/Laws.antt` has the
+//! laws, `format` the numbers.
 #![tactic(auto)]
 
 mod format;
@@ -35,7 +37,7 @@ mod laws;
 
 pub use format::{INDEX_VERSION, POSITION_SIZE, SUMMARY_KIND, SUMMARY_SIZE};
 pub use laws::{
-    derived_order, file_packets, lookup_is_range, one_key_row, one_list_of_rows, one_packet_at,
-    one_rising_list, one_summary, packet_keys_fit, rows_say_positions, summary_first, text_order,
-    texts_lie, values_say_positions,
+    derived_order, few_packets, file_packets, lookup_is_range, one_key_row, one_list_of_rows,
+    one_packet_at, one_rising_list, one_summary, packet_keys_fit, rows_say_positions,
+    summary_first, text_order, texts_lie, values_say_positions,
 };

@@ -1,5 +1,5 @@
 -- A table is entered by its footer and its index block.
-use Rattle.std.proofs.Common.{◌≡◌, ℕ, ◌-◌, List, length, Result, Ok, Err, ◌∙◌, subst, inr, arith}
+use Rattle.std.proofs.Common.{◌≡◌, ℕ, List, Result, Ok, Err, ◌∙◌, subst, inr, arith}
 use Rattle.std.specs.Prelude.{MatchResult}
 use Rattle.st_tblock.specs.Block.{IsBlock}
 use Rattle.st_tblock.specs.declared.handle.Handle.{Handle}

@@ -1,5 +1,5 @@
 -- Bytes are a table of one list of rows at most.
-use Rattle.std.proofs.Common.{◌≡◌, ℕ, ◌+◌, ◌-◌, List, [], ◌∷◌, ◌++◌, length, take, drop, Option, Some, None, Result, Ok, sym, ap, ◌∙◌, subst}
+use Rattle.std.proofs.Common.{◌≡◌, ℕ, ◌+◌, List, [], ◌∷◌, ◌++◌, take, drop, Option, Some, None, Result, Ok, sym, ap, ◌∙◌, subst}
 use Rattle.st_tblock.specs.Parsing.{Read}
 use Rattle.st_tblock.specs.Block.{RowView, IsBlock}
 use Rattle.st_base.specs.Damages.{DamageView}

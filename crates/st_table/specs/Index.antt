@@ -1,7 +1,7 @@
 -- What `index` finds in a table's footer and in its index block.
-use Rattle.std.specs.Prelude.{ℕ, ◌+◌, List, [], ◌∷◌, length, Bool, if◌then◌else◌, ◌≡◌, ◌≤◌, Option, Some, None, IsTrue, ◌-◌, take, drop, Result, Ok, Err, ◌⊎◌, true, false, nat_lt}
+use Rattle.std.specs.Prelude.{ℕ, ◌+◌, List, [], ◌∷◌, length, Bool, if◌then◌else◌, ◌≡◌, ◌≤◌, Option, Some, None, IsTrue, take, drop, Result, Ok, Err, ◌⊎◌, true, false, nat_lt}
 use Rattle.st_base.specs.Damages.{DamageView}
-use Rattle.st_tblock.specs.Block.{RowView, Entry, IsBlock, next_in, key_of, past, is_had}
+use Rattle.st_tblock.specs.Block.{RowView, Entry, IsBlock, next_in, key_of, is_had}
 use Rattle.st_tblock.specs.EntryCursorView.{EntryCursorView, past_entry}
 use Rattle.st_tblock.specs.Handles.{handle_in, IsHandle, footer_in}
 use Rattle.st_tblock.specs.Parsing.{Read}

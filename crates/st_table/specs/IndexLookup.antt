@@ -1,9 +1,7 @@
 -- Which block the index names for a key, and what that block says.
 use Rattle.std.specs.Prelude.{ℕ, List, [], ◌∷◌, if◌then◌else◌, ◌≡◌, Option, Some, None, take, drop}
 use Rattle.st_tblock.specs.Block.{RowView, is_before}
-use Rattle.st_tblock.specs.Handles.{IsHandle}
 use Rattle.st_tblock.specs.Lookup.{lookup}
-use Rattle.st_tblock.specs.declared.handle.Handle.{Handle}
 use Rattle.st_table.specs.RowOrder.{last_key}
 use Rattle.st_table.specs.TableFile.{NamesBlock}
 

@@ -4,7 +4,7 @@ use Rattle.std.specs.Borrow.{Bor}
 use Rattle.std.specs.Option.{option_or}
 use Rattle.std.specs.Prelude.{ℕ, ◌+◌, List, [], Bool, if◌then◌else◌, ◌≡◌, All, Option, Some, None, IsTrue, ◌&&◌, Result, Ok, Err, ◌⊎◌}
 use Rattle.st_base.specs.Damages.{DamageView, unmet}
-use Rattle.st_tblock.specs.Block.{RowView, is_above, is_before, Entry, IsBlock, next_in, key_of, past, is_had, BlockReading, Rows, start, restarts_in}
+use Rattle.st_tblock.specs.Block.{RowView, is_above, is_before, Entry, IsBlock, next_in, key_of, is_had, BlockReading, Rows, start, restarts_in}
 use Rattle.st_tblock.specs.Cursor.{damage_at}
 use Rattle.st_tblock.specs.EntryCursorView.{EntryCursorView, past_entry}
 use Rattle.st_tblock.specs.Lookup.{lookup}

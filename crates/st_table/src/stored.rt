@@ -85,6 +85,7 @@ fn read_part<R: Reader>(
     ensures error { IfErr result NoCheckFailed }
     ensures cause { HasCauseOf TableErr.ReadFault (R.faults file.old) (R.faults file.new) result }
     ensures reads { R.reads file.new ≤ R.reads file.old + 1 }
+    ensures asked { R.asked file.new ≤ R.asked file.old + len }
     ensures same { IsSameFile (R.content file.old) (R.content file.new) (R.extent file.old)
         (R.extent file.new) (R.beside file.old) (R.beside file.new) }
 {
@@ -112,6 +113,7 @@ pub fn read_block<R: Reader>(
     ensures within { OnOk result (vec_len block.new ≤ R.extent file.old) }
     ensures cause { HasCauseOf TableErr.ReadFault (R.faults file.old) (R.faults file.new) result }
     ensures reads { R.reads file.new ≤ R.reads file.old + 1 }
+    ensures asked { R.asked file.new ≤ R.asked file.old + (handle.size + TRAILER_SIZE) }
     ensures same { IsSameFile (R.content file.old) (R.content file.new) (R.extent file.old)
         (R.extent file.new) (R.beside file.old) (R.beside file.new) }
 {

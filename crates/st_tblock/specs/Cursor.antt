@@ -3,7 +3,7 @@ use Rattle.std.specs.Prelude.{◌≡◌, ℕ, ◌+◌, List, [], ◌∷◌, Opti
 use Rattle.st_base.specs.Damages.{DamageView, damage_view, unmet}
 use Rattle.st_tblock.specs.Parsing.{Read}
 use Rattle.st_tblock.specs.EntryCursorView.{EntryCursorView, past_entry}
-use Rattle.st_tblock.specs.Block.{RowView, Entry, BlockReading, next_in, key_of, past, is_had, restarts_in, start}
+use Rattle.st_tblock.specs.Block.{RowView, Entry, BlockReading, next_in, key_of, is_had, restarts_in, start}
 use Rattle.st_base.specs.declared.damages.Damage.{Damage}
 use Rattle.std.specs.Borrow.{Bor}
 use Rattle.st_tblock.specs.declared.entry.Parts.{Parts}

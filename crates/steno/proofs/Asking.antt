@@ -1,5 +1,5 @@
 -- From a reply to the query of a plan to what the words of a command line ask for.
-use Rattle.std.proofs.Common.{◌≡◌, ◌≢◌, ℕ, List, [], Option, refl, sym, subst, inl, inr}
+use Rattle.std.proofs.Common.{◌≡◌, ◌≢◌, ℕ, List, [], Option, Some, None, MatchOption, refl, sym, subst, inl, inr}
 use Rattle.std.proofs.KnownBytes.{Appends-nil, Keeps-refl}
 use Rattle.st_base.specs.Records.{Rec}
 use Rattle.st_base.specs.Ticks.{Ticks}
@@ -7,6 +7,8 @@ use Rattle.st_pcap.specs.declared.errors.PcapErr.{PcapErr}
 use Rattle.st_pcap.specs.Input.{Input, End, Whole, Refused}
 use Rattle.st_pcap.proofs.Uniqueness.{one_input}
 use Rattle.st_plan.specs.Jobs.{Job}
+use Rattle.st_plan.specs.Plans as plans
+use Rattle.st_plan.specs.declared.jobs.Plan.{Plan}
 use Rattle.st_plan.specs.declared.jobs.Plan.TheVariants.{Once}
 use Rattle.st_plan.proofs.OnePlan.{one_plan}
 use Rattle.st_query.specs.declared.errors.QueryErr.{QueryErr}
@@ -19,7 +21,7 @@ use Rattle.steno.specs.declared.status.Status.{Status}
 use Rattle.steno.specs.declared.status.Status.TheVariants.{Done, Usage, BadInput, BadQuery, ReadFault, WriteFault, DiskFault, Damaged, NoMemory, StampsSpent}
 use Rattle.steno.specs.Jobs.{IsReply, IsAsked, IsJob, Leaves}
 use Rattle.steno.specs.Messages.{line_of}
-use Rattle.steno.specs.Plans.{IsPlan}
+use Rattle.steno.specs.Plans.{IsOnce}
 use Rattle.steno.specs.Reports.{plain_of, ReportsQuery}
 use Rattle.steno.specs.Running.{AsksClock, EndsBy, IsJobMessage, IsRunMessage, EndsRun, HasWordCause}
 
@@ -53,7 +55,7 @@ asked_leaves job q now bytes StampsSpent message old new spelled h = absurd h.1
 
 -- what a plan asks for is what its words do
 pub job_of_asked : (words : List (List ℕ)) (job : Job) (now : ℕ) (bytes output : List ℕ) (status : Status) (message : List ℕ)
-    → IsPlan words job → IsAsked job now bytes output status message → IsJob words now bytes output status message
+    → IsOnce words job → IsAsked job now bytes output status message → IsJob words now bytes output status message
 job_of_asked words job now bytes output Done message plan asked = (job, plan, asked)
 job_of_asked words job now bytes output BadInput message plan asked = (job, plan, asked)
 job_of_asked words job now bytes output Usage message plan asked = absurd asked.2
@@ -66,7 +68,7 @@ job_of_asked words job now bytes output NoMemory message plan asked = (job, plan
 job_of_asked words job now bytes output StampsSpent message plan asked = (job, plan, asked)
 
 pub job_leaves : (words : List (List ℕ)) (job : Job) (now : ℕ) (bytes : List ℕ) (status : Status) (message : List ℕ) (old new : Option (List ℕ))
-    → IsPlan words job → Leaves (IsAsked job now bytes) status message old new → Leaves (IsJob words now bytes) status message old new
+    → IsOnce words job → Leaves (IsAsked job now bytes) status message old new → Leaves (IsJob words now bytes) status message old new
 job_leaves words job now bytes WriteFault message old new plan (output, status, silenced, asked, put, said) =
     (output, status, silenced, job_of_asked words job now bytes output status silenced plan asked, put, said)
 job_leaves words job now bytes ReadFault message old new plan h = h
@@ -79,14 +81,20 @@ job_leaves words job now bytes DiskFault message old new plan (output, asked, pu
 job_leaves words job now bytes Damaged message old new plan (output, asked, put) = (output, (job, plan, asked), put)
 job_leaves words job now bytes StampsSpent message old new plan (output, asked, put) = (output, (job, plan, asked), put)
 
+-- the job of a plan, if it is one of `once`, is that of the words
+pub once_only : (words : List (List ℕ)) (p : Plan) (found : Option Job) → plans.IsPlan words p → MatchOption found ((job : Job) → Once job ≡ p → ⊥) (λ job. Once job ≡ p)
+    → MatchOption found ((job : Job) → IsOnce words job → ⊥) (λ job. IsOnce words job)
+once_only words p None is none = λ job asked. none job (one_plan words (Once job) p asked is)
+once_only words p (Some job) is e = subst (plans.IsPlan words) (sym e) is
+
 once_same : (a b : Job) → Once a ≡ Once b → a ≡ b
 once_same a b e = cc
 
-pub jobs_same : (a b : Job) (words : List (List ℕ)) → IsPlan words a → IsPlan words b → a ≡ b
+pub jobs_same : (a b : Job) (words : List (List ℕ)) → IsOnce words a → IsOnce words b → a ≡ b
 jobs_same a b words p r = let same = one_plan words (Once a) (Once b) p r in once_same a b same
 
 -- what the words ask is not both spelled and refused
-pub apart : (job other : Job) (q : Node) (e : QueryErr) (words : List (List ℕ)) → IsPlan words job → IsPlan words other → Spells job.query q → Refuses other.query e → ⊥
+pub apart : (job other : Job) (q : Node) (e : QueryErr) (words : List (List ℕ)) → IsOnce words job → IsOnce words other → Spells job.query q → Refuses other.query e → ⊥
 apart job other q e words plan asked spelled refused = not_both other.query q e (subst (λ (j : Job). Spells j.query q) (jobs_same job other words plan asked) spelled) refused
 
 whole_only : (bytes : List ℕ) (rs qs : List Rec) (cause : PcapErr) → Input bytes rs Whole → Input bytes qs (Refused cause) → ⊥
@@ -94,7 +102,7 @@ whole_only bytes rs qs cause h k = let bad : Whole ≡ Refused cause = (one_inpu
 
 -- where the words ask a query and nothing fails, the input's end decides, unless memory runs out
 pub completes : (words : List (List ℕ)) (job : Job) (q : Node) (now : ℕ) (bytes : List ℕ) (rs : List Rec) (end : End) (status : Status) (message : List ℕ) (old new : Option (List ℕ))
-    → IsPlan words job → Spells job.query q → Input bytes rs end → (status ≡ ReadFault → ⊥) → (status ≡ WriteFault → ⊥)
+    → IsOnce words job → Spells job.query q → Input bytes rs end → (status ≡ ReadFault → ⊥) → (status ≡ WriteFault → ⊥)
     → Leaves (IsJob words now bytes) status message old new → EndsBy end status
 completes words job q now bytes rs Whole Done message old new plan spelled given read write h = inl refl
 completes words job q now bytes rs (Refused cause) BadInput message old new plan spelled given read write h = inl refl
@@ -135,7 +143,7 @@ refused_leaves job now bytes error report old refuses (inr (other, status, line)
     subst (λ s. Leaves (IsAsked job now bytes) s (line_of report) old old) (sym status) ([], (error, refuses other, refl, line), Appends-nil old)
 
 -- what the query of a plan says is what its words say
-pub says_of : (words : List (List ℕ)) (job : Job) (status : Status) (message : List ℕ) → IsPlan words job → status ≢ Usage → IsJobMessage job status message → IsRunMessage words status message
+pub says_of : (words : List (List ℕ)) (job : Job) (status : Status) (message : List ℕ) → IsOnce words job → status ≢ Usage → IsJobMessage job status message → IsRunMessage words status message
 says_of words job Usage message plan other h = absurd (other refl)
 says_of words job BadQuery message plan other (e, refused, line) = (job, e, plan, refused, line)
 says_of words job Done message plan other h = h
@@ -148,12 +156,12 @@ says_of words job NoMemory message plan other h = h
 says_of words job StampsSpent message plan other h = h
 
 -- words without a plan
-pub unplanned_ends : (words : List (List ℕ)) (bytes : List ℕ) (clock old : Option (List ℕ)) (result : Report) → result ≡ plain_of Usage → ((job : Job) → IsPlan words job → ⊥)
+pub unplanned_ends : (words : List (List ℕ)) (bytes : List ℕ) (clock old : Option (List ℕ)) (result : Report) → result ≡ plain_of Usage → ((job : Job) → IsOnce words job → ⊥)
     → EndsRun words clock clock bytes old old result.status (line_of result)
 unplanned_ends words bytes clock old result is none =
     subst (λ (r : Report). EndsRun words clock clock bytes old old r.status (line_of r)) (sym is) (0, refl, ([], (none, refl, refl), Appends-nil old))
 
-pub unplanned_cause : (words : List (List ℕ)) (result : Report) → result ≡ plain_of Usage → ((job : Job) → IsPlan words job → ⊥) → HasWordCause words result.status
+pub unplanned_cause : (words : List (List ℕ)) (result : Report) → result ≡ plain_of Usage → ((job : Job) → IsOnce words job → ⊥) → HasWordCause words result.status
 unplanned_cause words result is none =
     subst (λ (r : Report). HasWordCause words r.status) (sym is) (record {
       usage = λ _. none;

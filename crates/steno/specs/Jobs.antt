@@ -16,7 +16,7 @@ use Rattle.steno.specs.declared.status.Status.{Status}
 use Rattle.steno.specs.declared.status.Status.TheVariants.{Done, Usage, BadInput, BadQuery, ReadFault, WriteFault, NoMemory}
 use Rattle.steno.specs.Limited.{Limited}
 use Rattle.steno.specs.Messages.{status_line, query_line, input_line}
-use Rattle.steno.specs.Plans.{IsPlan}
+use Rattle.steno.specs.Plans.{IsOnce}
 
 -- the output is the pcap text of the answer over these records, cut to the job's limits and in its
 -- unit
@@ -52,9 +52,9 @@ IsAsked job now bytes output status message =
 -- fault ends it
 abbrev pub IsJob : List (List ℕ) → ℕ → List ℕ → List ℕ → Status → List ℕ → Type 0
 IsJob words now bytes output Usage message =
-    ((job : Job) → IsPlan words job → ⊥) × (output ≡ []) × (message ≡ status_line Usage)
+    ((job : Job) → IsOnce words job → ⊥) × (output ≡ []) × (message ≡ status_line Usage)
 IsJob words now bytes output status message =
-    (job : Job) × IsPlan words job × IsAsked job now bytes output status message
+    (job : Job) × IsOnce words job × IsAsked job now bytes output status message
 
 -- What a run leaves at the output, of the jobs that it may be asked for: all of one's output; after a
 -- fault of the output a prefix of it; and nothing where the input failed or memory ran out.

@@ -4,6 +4,6 @@ use Rattle.st_plan.specs.Jobs.{Job}
 use Rattle.st_plan.specs.Plans as words
 use Rattle.st_plan.specs.declared.jobs.Plan.TheVariants.{Once}
 
--- the arguments ask for `once` with this query, unit and limits
-abbrev pub IsPlan : List (List ℕ) → Job → Type 0
-IsPlan asked job = words.IsPlan asked (Once job)
+-- The arguments ask for `once` with this query, unit and limits. No other command is built.
+abbrev pub IsOnce : List (List ℕ) → Job → Type 0
+IsOnce asked job = words.IsPlan asked (Once job)

@@ -14,7 +14,7 @@ use Rattle.steno.specs.declared.status.Status.TheVariants.{Done, Usage, BadInput
 use Rattle.steno.specs.Gathering.{StopsAt}
 use Rattle.steno.specs.Jobs.{IsAsked, IsJob, Leaves}
 use Rattle.steno.specs.Messages.{line_of, status_line, query_line, input_line}
-use Rattle.steno.specs.Plans.{IsPlan}
+use Rattle.steno.specs.Plans.{IsOnce}
 use Rattle.steno.specs.Reports.{Tells}
 
 -- the clock was asked once, but not at all where the arguments ask for nothing, or there was no memory
@@ -62,7 +62,7 @@ IsAnswerMessage status message = ⊥
 abbrev pub IsRunMessage : List (List ℕ) → Status → List ℕ → Type 0
 IsRunMessage words Usage message = message ≡ status_line Usage
 IsRunMessage words BadQuery message =
-    (job : Job) × (e : QueryErr) × IsPlan words job × Refuses job.query e × (message ≡ query_line e)
+    (job : Job) × (e : QueryErr) × IsOnce words job × Refuses job.query e × (message ≡ query_line e)
 IsRunMessage words status message = IsAnswerMessage status message
 
 -- the message of a job that ended so, over any input
@@ -78,15 +78,15 @@ TellsRun words clock ticked err told before after status =
     (message : List ℕ) × IsRunMessage words status message × Tells err told before after message
     × ((now : ℕ) × AsksClock clock ticked status now)
 
--- Arguments without a plan, and only these, end so, unless memory runs out. A query is refused only
--- if the arguments ask one that is, and if they do, the run ends in no other way unless memory runs
--- out.
+-- Arguments without a plan of `once`, and only these, end so, unless memory runs out. A query is
+-- refused only if the arguments ask one that is, and if they do, the run ends in no other way unless
+-- memory runs out.
 pub record HasWordCause (words : List (List ℕ)) (status : Status) : Type 0 where
-  pub usage : status ≡ Usage → (job : Job) → IsPlan words job → ⊥
-  pub unplanned : ((job : Job) → IsPlan words job → ⊥) → (status ≡ Usage) ⊎ (status ≡ NoMemory)
+  pub usage : status ≡ Usage → (job : Job) → IsOnce words job → ⊥
+  pub unplanned : ((job : Job) → IsOnce words job → ⊥) → (status ≡ Usage) ⊎ (status ≡ NoMemory)
   pub refused : status ≡ BadQuery
-      → (job : Job) × (e : QueryErr) × IsPlan words job × Refuses job.query e
-  pub exact : (job : Job) (e : QueryErr) → IsPlan words job → Refuses job.query e
+      → (job : Job) × (e : QueryErr) × IsOnce words job × Refuses job.query e
+  pub exact : (job : Job) (e : QueryErr) → IsOnce words job → Refuses job.query e
       → (status ≡ BadQuery) ⊎ (status ≡ NoMemory)
 
 -- the query of a plan is refused if and only if it is one that is, unless memory runs out

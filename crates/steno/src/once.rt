@@ -9,7 +9,7 @@ use crate::gather::gather;
 use crate::report::{Report, input_ended, plain, query_refused};
 use crate::status::Status;
 use st_base::{Clock, Sink, Source};
-use st_plan::Once;
+use st_plan::Job;
 use st_query::parse;
 use std::alloc::Global;
 
@@ -21,7 +21,7 @@ use std::alloc::Global;
 /// refused, the input fails, or memory runs out.
 pub fn once<I: Source, O: Sink, C: Clock>(
     alloc: Global,
-    plan: &Once<'_>,
+    plan: &Job<'_>,
     input: &mut I,
     out: &mut O,
     clock: &mut C,

@@ -1,20 +1,20 @@
 //! A run of the program, over whatever its streams and clock are.
 
-ghost use Rattle.std.specs.Prelude.{◌≡◌, ℕ, List, Some, map, string_bytes};
+ghost use Rattle.std.specs.Prelude.{◌≡◌, ℕ, List, Some, IfOk, MatchOption, map, string_bytes};
 ghost use Rattle.st_base.specs.Records.{Rec};
 ghost use Rattle.st_pcap.specs.Input.{Input, End};
-ghost use Rattle.st_plan.specs.Jobs.{Job};
+ghost use Rattle.st_plan.specs.Jobs.{Job as JobView};
 ghost use Rattle.st_query.specs.declared.nodes.Node.{Node};
 ghost use Rattle.st_query.specs.Spelling.{Spells};
 ghost use Rattle.steno.specs.Messages.{line_of};
-ghost use Rattle.steno.specs.Plans.{IsPlan};
+ghost use Rattle.steno.specs.Plans.{IsOnce};
 ghost use Rattle.steno.specs.Running.{EndsInput, EndsAndTells, EndsRun, TellsRun, IsRunMessage, AsksClock, HasWordCause, HasFaultCause, NoneRose, EndsBy, LeavesAlone, LeavesStreams};
 
 use crate::once::once;
 use crate::report::{Report, plain, tell};
 use crate::status::{Ended, Status};
 use st_base::{Clock, NoMemory, Sink, Source};
-use st_plan::{Once, Plan, plan_of};
+use st_plan::{Job, Plan, plan_of};
 use std::alloc::Global;
 
 /// Does what the arguments in `words` ask for: `once QUERY` writes to `out` the packets of the pcap
@@ -50,8 +50,8 @@ pub fn run<I: Source, O: Sink, E: Sink, C: Clock>(
         (O.faults out.old) (O.faults out.new) result.status }
 
     // Where nothing failed, the input's end decides; it was read to its end, or to its refusal.
-    ensures complete { (asked : Job) (bytes : List ℕ) (q : Node) (rs : List Rec) (end : End)
-        → IsPlan (map string_bytes words.now) asked → Spells asked.query q
+    ensures complete { (asked : JobView) (bytes : List ℕ) (q : Node) (rs : List Rec) (end : End)
+        → IsOnce (map string_bytes words.now) asked → Spells asked.query q
         → I.left input.old ≡ Some bytes → Input bytes rs end
         → NoneRose (I.faults input.old) (I.faults input.new) (O.faults out.old) (O.faults out.new)
         → EndsBy end result.status }
@@ -98,18 +98,36 @@ fn obey<I: Source, O: Sink, C: Clock>(
     ensures rest { (I.beside input.new ≡ I.beside input.old)
         × (O.beside out.new ≡ O.beside out.old) }
 {
-    match plan_of(alloc, words) {
-        Ok(Some(plan)) => once(alloc, &once_of(plan), input, out, clock),
+    match once_of(alloc, words) {
+        Ok(Some(job)) => once(alloc, &job, input, out, clock),
         Ok(None) => plain(Status::Usage),
         Err(NoMemory) => plain(Status::NoMemory),
     }
 }
 
-// What a plan asks for, which is one command so far.
-fn once_of<'a>(plan: Plan<'a>) -> Once<'a>
-    ensures { Plan.Once result ≡ plan.entry }
+// The job of the arguments, if their plan is one of `once`; no other command is built.
+fn once_of<'a>(alloc: Global, words: &'a [String]) -> Result<Option<Job<'a>>, NoMemory>
+    ensures { IfOk result (λ found. MatchOption found
+        ((job : JobView) → IsOnce (map string_bytes words.entry.now) job → ⊥)
+        (λ job. IsOnce (map string_bytes words.entry.now) job)) }
+{
+    match plan_of(alloc, words) {
+        Ok(Some(plan)) => Ok(job_of(plan)),
+        Ok(None) => Ok(None),
+        Err(error) => Err(error),
+    }
+}
+
+// The job of a plan, if it is one of `once`.
+fn job_of<'a>(plan: Plan<'a>) -> Option<Job<'a>>
+    ensures { MatchOption result ((job : JobView) → Plan.Once job ≡ plan.entry → ⊥)
+        (λ job. Plan.Once job ≡ plan.entry) }
 {
     match plan {
-        Plan::Once(once) => once,
+        Plan::Once(job) => Some(job),
+        Plan::Load(_) => None,
+        Plan::Query(_) => None,
+        Plan::List(_) => None,
+        Plan::Check(_) => None,
     }
 }

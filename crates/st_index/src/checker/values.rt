@@ -20,8 +20,8 @@ pub fn is_summary(key: &[u8]) -> bool
     }
 }
 
-/// The first check of the summary row's value that fails: its length in bytes, which is to be 24, and
-/// its version, which is to be 1. The place is always 0.
+/// The first check of the summary row's value that fails: its length in bytes, of which 24 is
+/// wanted, and its version, of which 1 is wanted. The place is always 0.
 pub fn summary_damage(value: &[u8]) -> Option<Damage>
     ensures { option_map damage_view result ≡ summary_wrong (Some value.now) }
 {
@@ -58,8 +58,8 @@ fn are_rising(value: &[u8]) -> bool
     true
 }
 
-/// The first check of a row's positions that fails: their length in bytes, of which the remainder
-/// by 4 is to be 0, and that they rise, found 0, want 1. The place is always 0.
+/// The first check of a row's positions that fails: the remainder by 4 of their length in bytes,
+/// of which 0 is wanted, and whether they rise, with 0 found and 1 wanted. The place is always 0.
 pub fn positions_damage(value: &[u8]) -> Option<Damage>
     ensures { option_map damage_view result ≡ positions_wrong value.now }
 {

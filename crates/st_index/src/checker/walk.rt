@@ -12,8 +12,8 @@ ghost use Rattle.st_index.specs.CheckRows.{row_wrong, row_text, rows_wrong};
 ghost use Rattle.st_index.specs.CheckWalk.{Compares, Walks};
 
 use crate::checker::content::Content;
-use crate::row_list::RowList;
 use crate::checker::difference::{NO_BYTE, first_byte, row_difference};
+use crate::row_list::RowList;
 use st_base::{Damage, NoMemory, Reader};
 use st_table::{Cursor, Row, Table, TableErr};
 use std::alloc::Global;

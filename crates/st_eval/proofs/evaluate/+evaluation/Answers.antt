@@ -25,14 +25,17 @@ gather-parts-preserved g t c =
     let step = c.in-Ok.ensures in
     let left = tree c.get-rest.result.now in
     let right = tree c.get.result.now in
-    let is : tree c.parts.rest.now ≡ either left right = rw (c.get.ensures, c.get-rest.ensures) (ap tree c.in-Or.is ∙ or_tree c.in-Or.left c.in-Or.right) in
-    (or_smaller c.parts.rest.now c.get-rest.result.now c.in-Or.left c.in-Or.right (size-Node c.args.node.now) c.in-Or.is c.get-rest.ensures before.0,
-    step.entries ∙ before.1, step.same_reference ∙ before.2, step.cause.still ∙ before.3,
-    record { content = step.same.content ∙ same.content; extent = step.same.extent ∙ same.extent; beside = step.same.beside ∙ same.beside },
-    (λ bytes index h. step.stays bytes index (before.5 bytes index h)),
-    λ rows over.
-      or_appended rows c.args.now (tree c.parts.rest.now) left right c.parts.all.items c.gather.new.all.items (λ p. has c.args.all.now.items p || selects rows (tree c.args.node.now) c.args.now p)
-        is (step.appends rows (over_later _ _ _ _ _ _ rows before.5 over)) (before.6 rows over))
+    let is : tree c.parts.rest.now ≡ either left right = rw (c.get.ensures, c.get-rest.ensures) (ap tree c.in-Or.is ∙ or_tree c.in-Or.left c.in-Or.right) in (
+      or_smaller c.parts.rest.now c.get-rest.result.now c.in-Or.left c.in-Or.right (size-Node c.args.node.now) c.in-Or.is c.get-rest.ensures before.0,
+      step.entries ∙ before.1,
+      step.same_reference ∙ before.2,
+      step.cause.still ∙ before.3,
+      record { content = step.same.content ∙ same.content; extent = step.same.extent ∙ same.extent; beside = step.same.beside ∙ same.beside },
+      (λ bytes index h. step.stays bytes index (before.5 bytes index h)),
+      λ rows over.
+          or_appended rows c.args.now (tree c.parts.rest.now) left right c.parts.all.items c.gather.new.all.items (λ p. has c.args.all.now.items p || selects rows (tree c.args.node.now) c.args.now p)
+          is (step.appends rows (over_later _ _ _ _ _ _ rows before.5 over)) (before.6 rows over),
+    )
 
 pub gather-returns-in-Err-find-clause-appends : goal.gather-returns-in-Err-find-clause-appends
 gather-returns-in-Err-find-clause-appends g t c rows over = c.in-Err-find.ensures.finds rows (over_later _ _ _ _ _ _ rows c.parts.invariant.5 over)
@@ -51,9 +54,9 @@ gather-returns-in-And-clause-appends g t c rows over =
     let is : tree c.parts.rest.now ≡ both left right = rw (c.get-in-And.ensures, c.get-in-And-2.ensures) (ap tree c.in-And.is ∙ and_tree c.in-And.left c.in-And.right) in
     let then_over = over_later _ _ _ _ _ _ rows before.5 over in
     appends_end (λ p. has c.in-Ok-find.keep p && selects rows left c.args.now p) (selects rows (tree c.parts.rest.now) c.args.now) (selects rows (tree c.args.node.now) c.args.now) (HasSoundValues rows)
-      c.parts.all.items c.args.all.now.items c.gather_common.new.all.items c.gather_common.result
-      (and_found rows c.args.now (tree c.parts.rest.now) left right c.in-Ok-find.keep is (c.in-Ok-find.ensures.finds rows then_over))
-      (before.6 rows over) (c.gather_common.ensures.appends rows (over_later _ _ _ _ _ _ rows c.in-Ok-find.ensures.stays then_over))
+    c.parts.all.items c.args.all.now.items c.gather_common.new.all.items c.gather_common.result
+    (and_found rows c.args.now (tree c.parts.rest.now) left right c.in-Ok-find.keep is (c.in-Ok-find.ensures.finds rows then_over))
+    (before.6 rows over) (c.gather_common.ensures.appends rows (over_later _ _ _ _ _ _ rows c.in-Ok-find.ensures.stays then_over))
 
 pub gather-returns-in-And-clause-stays : goal.gather-returns-in-And-clause-stays
 gather-returns-in-And-clause-stays g t c bytes index is = c.gather_common.ensures.stays bytes index (c.in-Ok-find.ensures.stays bytes index (c.parts.invariant.5 bytes index is))
@@ -63,8 +66,8 @@ gather-returns-in_default-clause-appends g t c rows over =
     let before = c.parts.invariant in
     let rest = selects rows (tree c.parts.rest.now) c.args.now in
     appends_end rest rest (selects rows (tree c.args.node.now) c.args.now) (HasSoundValues rows)
-      c.parts.all.items c.args.all.now.items c.append_primitive.new.all.items c.append_primitive.result
-      (λ p. refl) (before.6 rows over) (c.append_primitive.ensures.appends rows (over_later _ _ _ _ _ _ rows before.5 over))
+    c.parts.all.items c.args.all.now.items c.append_primitive.new.all.items c.append_primitive.result
+    (λ p. refl) (before.6 rows over) (c.append_primitive.ensures.appends rows (over_later _ _ _ _ _ _ rows before.5 over))
 
 pub gather-returns-in_default-clause-stays : goal.gather-returns-in_default-clause-stays
 gather-returns-in_default-clause-stays g t c bytes index is = c.append_primitive.ensures.stays bytes index (c.parts.invariant.5 bytes index is)
@@ -97,14 +100,17 @@ gather_common-parts-preserved-in-Or g t c =
     let step = c.in-Ok.ensures in
     let left = tree c.get-rest.result.now in
     let right = tree c.get.result.now in
-    let is : tree c.parts.rest.now ≡ either left right = rw (c.get.ensures, c.get-rest.ensures) (ap tree c.in-Or.is ∙ or_tree c.in-Or.left c.in-Or.right) in
-    (or_smaller c.parts.rest.now c.get-rest.result.now c.in-Or.left c.in-Or.right (size-Node c.args.node.now) c.in-Or.is c.get-rest.ensures before.0,
-    step.entries ∙ before.1, step.same_reference ∙ before.2, step.cause.still ∙ before.3,
-    record { content = step.same.content ∙ same.content; extent = step.same.extent ∙ same.extent; beside = step.same.beside ∙ same.beside },
-    (λ bytes index h. step.stays bytes index (before.5 bytes index h)),
-    λ rows over.
-      or_kept_appended rows c.args.now (tree c.parts.rest.now) left right c.parts.keep c.in-Ok.found c.parts.all.items c.append_common.new.all.items (λ p. has c.args.all.now.items p || (has c.args.keep p && selects rows (tree c.args.node.now) c.args.now p))
-        is (step.finds rows (over_later _ _ _ _ _ _ rows before.5 over)) c.in-Ok-append_common.ensures.gains (before.6 rows over))
+    let is : tree c.parts.rest.now ≡ either left right = rw (c.get.ensures, c.get-rest.ensures) (ap tree c.in-Or.is ∙ or_tree c.in-Or.left c.in-Or.right) in (
+      or_smaller c.parts.rest.now c.get-rest.result.now c.in-Or.left c.in-Or.right (size-Node c.args.node.now) c.in-Or.is c.get-rest.ensures before.0,
+      step.entries ∙ before.1,
+      step.same_reference ∙ before.2,
+      step.cause.still ∙ before.3,
+      record { content = step.same.content ∙ same.content; extent = step.same.extent ∙ same.extent; beside = step.same.beside ∙ same.beside },
+      (λ bytes index h. step.stays bytes index (before.5 bytes index h)),
+      λ rows over.
+          or_kept_appended rows c.args.now (tree c.parts.rest.now) left right c.parts.keep c.in-Ok.found c.parts.all.items c.append_common.new.all.items (λ p. has c.args.all.now.items p || (has c.args.keep p && selects rows (tree c.args.node.now) c.args.now p))
+          is (step.finds rows (over_later _ _ _ _ _ _ rows before.5 over)) c.in-Ok-append_common.ensures.gains (before.6 rows over),
+    )
 
 pub gather_common-parts-preserved : goal.gather_common-parts-preserved
 gather_common-parts-preserved g t c =
@@ -113,14 +119,17 @@ gather_common-parts-preserved g t c =
     let step = c.in-Ok-find.ensures in
     let left = tree c.get-rest-in-And.result.now in
     let right = tree c.get-in-And.result.now in
-    let is : tree c.parts.rest.now ≡ both left right = rw (c.get-in-And.ensures, c.get-rest-in-And.ensures) (ap tree c.in-And.is ∙ and_tree c.in-And.left c.in-And.right) in
-    (and_smaller c.parts.rest.now c.get-rest-in-And.result.now c.in-And.left c.in-And.right (size-Node c.args.node.now) c.in-And.is c.get-rest-in-And.ensures before.0,
-    step.entries ∙ before.1, step.same_reference ∙ before.2, step.cause.still ∙ before.3,
-    record { content = step.same.content ∙ same.content; extent = step.same.extent ∙ same.extent; beside = step.same.beside ∙ same.beside },
-    (λ bytes index h. step.stays bytes index (before.5 bytes index h)),
-    λ rows over.
-      and_kept_found rows c.args.now (tree c.parts.rest.now) left right c.parts.keep c.both.new.self c.in-Ok-find.found c.parts.all.items (λ p. has c.args.all.now.items p || (has c.args.keep p && selects rows (tree c.args.node.now) c.args.now p))
-        is (step.finds rows (over_later _ _ _ _ _ _ rows before.5 over)) c.both.ensures (before.6 rows over))
+    let is : tree c.parts.rest.now ≡ both left right = rw (c.get-in-And.ensures, c.get-rest-in-And.ensures) (ap tree c.in-And.is ∙ and_tree c.in-And.left c.in-And.right) in (
+      and_smaller c.parts.rest.now c.get-rest-in-And.result.now c.in-And.left c.in-And.right (size-Node c.args.node.now) c.in-And.is c.get-rest-in-And.ensures before.0,
+      step.entries ∙ before.1,
+      step.same_reference ∙ before.2,
+      step.cause.still ∙ before.3,
+      record { content = step.same.content ∙ same.content; extent = step.same.extent ∙ same.extent; beside = step.same.beside ∙ same.beside },
+      (λ bytes index h. step.stays bytes index (before.5 bytes index h)),
+      λ rows over.
+          and_kept_found rows c.args.now (tree c.parts.rest.now) left right c.parts.keep c.both.new.self c.in-Ok-find.found c.parts.all.items (λ p. has c.args.all.now.items p || (has c.args.keep p && selects rows (tree c.args.node.now) c.args.now p))
+          is (step.finds rows (over_later _ _ _ _ _ _ rows before.5 over)) c.both.ensures (before.6 rows over),
+    )
 
 pub gather_common-returns-in-Ok-append_primitive-clause-appends : goal.gather_common-returns-in-Ok-append_primitive-clause-appends
 gather_common-returns-in-Ok-append_primitive-clause-appends g t c rows over =
@@ -128,12 +137,12 @@ gather_common-returns-in-Ok-append_primitive-clause-appends g t c rows over =
     let rest = tree c.parts.rest.now in
     let found = c.append_primitive.new.all.items in
     let start : (p : ℕ) → has found p ≡ (has [] p || selects rows rest c.args.now p) = λ p.
-      c.in-Ok-append_primitive.ensures.appends rows (over_later _ _ _ _ _ _ rows before.5 over) p
-      ∙ ap (λ (xs : List ℕ). has xs p || selects rows rest c.args.now p) c.new-found.ensures.items in
+    c.in-Ok-append_primitive.ensures.appends rows (over_later _ _ _ _ _ _ rows before.5 over) p
+    ∙ ap (λ (xs : List ℕ). has xs p || selects rows rest c.args.now p) c.new-found.ensures.items in
     common_end (λ p. has c.sorted.result p && has c.parts.keep p) (λ p. has c.parts.keep p && selects rows rest c.args.now p) (λ p. has c.args.keep p && selects rows (tree c.args.node.now) c.args.now p) (HasSoundValues rows)
-      c.parts.all.items c.args.all.now.items c.append_common-in-Ok-append_primitive.new.all.items c.append_common-in-Ok-append_primitive.result
-      (kept_found rows c.args.now rest c.parts.keep found c.sorted.result c.sorted.ensures.same start)
-      (before.6 rows over) c.append_common-in-Ok-append_primitive.ensures.gains c.append_common-in-Ok-append_primitive.ensures.memory
+    c.parts.all.items c.args.all.now.items c.append_common-in-Ok-append_primitive.new.all.items c.append_common-in-Ok-append_primitive.result
+    (kept_found rows c.args.now rest c.parts.keep found c.sorted.result c.sorted.ensures.same start)
+    (before.6 rows over) c.append_common-in-Ok-append_primitive.ensures.gains c.append_common-in-Ok-append_primitive.ensures.memory
 
 pub gather_common-returns-in-Err-append_primitive-clause-appends : goal.gather_common-returns-in-Err-append_primitive-clause-appends
 gather_common-returns-in-Err-append_primitive-clause-appends g t c rows over = c.in-Err-append_primitive.ensures.appends rows (over_later _ _ _ _ _ _ rows c.parts.invariant.5 over)

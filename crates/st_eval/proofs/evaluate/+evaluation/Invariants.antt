@@ -16,10 +16,10 @@ invariant-gather-parts g l =
     × (g.R.Reader.faults l.table.file.now ≡ g.R.Reader.faults l.fn.table.file.now)
     × IsSameFile (g.R.Reader.content l.fn.table.file.now) (g.R.Reader.content l.table.file.now) (g.R.Reader.extent l.fn.table.file.now) (g.R.Reader.extent l.table.file.now) (g.R.Reader.beside l.fn.table.file.now) (g.R.Reader.beside l.table.file.now)
     × ((bytes : List ℕ) (index : List RowView)
-      → IsEntered (g.R.Reader.content l.fn.table.file.now) l.fn.table.kept.entries.items l.fn.table.kept.checked.items bytes index
-      → IsEntered (g.R.Reader.content l.table.file.now) l.table.kept.entries.items l.table.kept.checked.items bytes index)
+    → IsEntered (g.R.Reader.content l.fn.table.file.now) l.fn.table.kept.entries.items l.fn.table.kept.checked.items bytes index
+    → IsEntered (g.R.Reader.content l.table.file.now) l.table.kept.entries.items l.table.kept.checked.items bytes index)
     × ((rows : List RowView) → IsOver (g.R.Reader.content l.fn.table.file.now) l.fn.table.kept.entries.items l.fn.table.kept.checked.items rows
-      → (p : ℕ) → (has l.all.items p || selects rows (tree l.rest) l.now p) ≡ (has l.fn.all.items p || selects rows (tree l.fn.node) l.now p))
+    → (p : ℕ) → (has l.all.items p || selects rows (tree l.rest) l.now p) ≡ (has l.fn.all.items p || selects rows (tree l.fn.node) l.now p))
 
 abbrev pub invariant-gather_common-parts : goal.invariant-gather_common-parts
 invariant-gather_common-parts g l =
@@ -29,10 +29,10 @@ invariant-gather_common-parts g l =
     × (g.R.Reader.faults l.table.file.now ≡ g.R.Reader.faults l.fn.table.file.now)
     × IsSameFile (g.R.Reader.content l.fn.table.file.now) (g.R.Reader.content l.table.file.now) (g.R.Reader.extent l.fn.table.file.now) (g.R.Reader.extent l.table.file.now) (g.R.Reader.beside l.fn.table.file.now) (g.R.Reader.beside l.table.file.now)
     × ((bytes : List ℕ) (index : List RowView)
-      → IsEntered (g.R.Reader.content l.fn.table.file.now) l.fn.table.kept.entries.items l.fn.table.kept.checked.items bytes index
-      → IsEntered (g.R.Reader.content l.table.file.now) l.table.kept.entries.items l.table.kept.checked.items bytes index)
+    → IsEntered (g.R.Reader.content l.fn.table.file.now) l.fn.table.kept.entries.items l.fn.table.kept.checked.items bytes index
+    → IsEntered (g.R.Reader.content l.table.file.now) l.table.kept.entries.items l.table.kept.checked.items bytes index)
     × ((rows : List RowView) → IsOver (g.R.Reader.content l.fn.table.file.now) l.fn.table.kept.entries.items l.fn.table.kept.checked.items rows
-      → (p : ℕ) → (has l.all.items p || (has l.keep p && selects rows (tree l.rest) l.now p)) ≡ (has l.fn.all.items p || (has l.fn.keep p && selects rows (tree l.fn.node) l.now p)))
+    → (p : ℕ) → (has l.all.items p || (has l.keep p && selects rows (tree l.rest) l.now p)) ≡ (has l.fn.all.items p || (has l.fn.keep p && selects rows (tree l.fn.node) l.now p)))
 
 abbrev pub decreases-gather_common-parts : goal.decreases-gather_common-parts
 decreases-gather_common-parts g l = size-Node l.rest

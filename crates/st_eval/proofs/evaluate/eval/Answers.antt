@@ -9,4 +9,4 @@ use Rattle.st_eval.proofs.evaluate.eval.Goals as goal
 pub returns-clause-selects : goal.returns-clause-selects
 returns-clause-selects g c rows given over is =
     selects_found given rows c.args.query.now c.args.now c.find.result is c.node.ensures.sound.in_range c.find.ensures.rising
-      (subst (λ (q : Node). Finds (selects rows (tree q) c.args.now) (HasSoundValues rows) c.find.result) c.node.ensures.same (c.find.ensures.finds rows over))
+    (subst (λ (q : Node). Finds (selects rows (tree q) c.args.now) (HasSoundValues rows) c.find.result) c.node.ensures.same (c.find.ensures.finds rows over))

@@ -8,14 +8,14 @@ returns-in-Ok-Some-clause-appends g c rows over =
     let got = gets_row _ _ _ c.args.key.now rows (Ok c.in-Ok-Some.field-0) c.in-Ok-Some.ensures.table over in
     let value : Some c.bytes.result.now ≡ c.in-Ok-Some.field-0 = cc in
     appends_one c.args.key.now c.bytes.result.now rows c.args.all.now.items c.append_positions.new.all.items c.append_positions.result
-      (rows_rise _ _ _ rows over) (value ∙ got) c.append_positions.ensures.positions c.append_positions.ensures.refuses
+    (rows_rise _ _ _ rows over) (value ∙ got) c.append_positions.ensures.positions c.append_positions.ensures.refuses
 
 pub returns-in-Ok-Some-clause-refuses : goal.returns-in-Ok-Some-clause-refuses
 returns-in-Ok-Some-clause-refuses g c bytes index is =
     let named = c.in-Ok-Some.ensures.gets bytes is.known (entered _ _ _ bytes index is) is.marks in
     let value : c.in-Ok-Some.field-0 ≡ Some c.bytes.result.now = cc in
-    refuses_value bytes index c.args.key.now c.bytes.result.now c.append_positions.result
-      (subst (λ (o : Option (List ℕ)). Answers bytes index c.args.key.now o) value named) c.append_positions.ensures.refuses
+    refuses_value bytes index c.args.key.now c.bytes.result.now c.append_positions.result c.requires
+    (subst (λ (o : Option (List ℕ)). Answers bytes index c.args.key.now o) value named) c.append_positions.ensures.refuses
 
 pub returns-in-Ok-None-clause-appends : goal.returns-in-Ok-None-clause-appends
 returns-in-Ok-None-clause-appends g c rows over =

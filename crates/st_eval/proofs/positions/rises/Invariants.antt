@@ -1,5 +1,5 @@
 use Rattle.std.proofs.Common.{◌≡◌, ◌-◌, drop}
-use Rattle.st_eval.specs.Refusals.{rises}
+use Rattle.st_rows.specs.Values.{rises}
 use Rattle.st_eval.proofs.positions.rises.Given as goal
 
 abbrev pub invariant-loop-i : goal.invariant-loop-i

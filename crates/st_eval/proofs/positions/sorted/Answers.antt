@@ -1,7 +1,7 @@
 use Rattle.std.proofs.Common.{◌∙◌, sym, ap, subst, eqb, List, ℕ}
 use Rattle.std.proofs.lemmas.List.Filters.{dedup_is}
 use Rattle.st_rows.specs.Positions.{has, Rising}
-use Rattle.st_eval.specs.Refusals.{rises}
+use Rattle.st_rows.specs.Values.{rises}
 use Rattle.st_eval.proofs.Risings.{rising_from, sorted_has, sorted_rises}
 use Rattle.st_eval.proofs.positions.sorted.Goals as goal
 

@@ -16,7 +16,7 @@ returns-in-Ok-Some-clause-refuses g c bytes index is =
     let named = c.in-Ok-Some.ensures.gets bytes is.known (entered _ _ _ bytes index is) is.marks in
     let value : c.in-Ok-Some.field-0 ≡ Some c.bytes.result.now = cc in
     refuses_read bytes index c.bytes.result.now c.summary_in.result
-      (subst (λ (o : Option (List ℕ)). Answers bytes index summary_key o) value named) c.summary_in.ensures.refuses
+    (subst (λ (o : Option (List ℕ)). Answers bytes index summary_key o) value named) c.summary_in.ensures.refuses
 
 pub returns-in-Ok-None-clause-summarizes : goal.returns-in-Ok-None-clause-summarizes
 returns-in-Ok-None-clause-summarizes g c rows given over is few =

@@ -13,11 +13,12 @@ positions-preserved c =
     let x = c.read_u32.result in
     let e : x ≡ big_number 4 (drop at v) = rw (take_rest v at) at c.read_u32.ensures in
     let long = length-drop at v in
-    let room : 4 ≤ length (drop at v) = omega (arith, c.positions-test.true, long) in
-    (omega (arith, c.positions-test.true),
-    ap (λ (xs : List ℕ). xs ++ positions_in (drop (at + 4) v)) c.in_ok-push.ensures.items
-    ∙ (ap (λ (ys : List ℕ). (all ++ x ∷ []) ++ positions_in ys) (sym (drop-drop 4 at v))
-    ∙ takes_position all (drop at v) (c.args.all.now.items ++ positions_in v) x room e c.positions.invariant.1))
+    let room : 4 ≤ length (drop at v) = omega (arith, c.positions-test.true, long) in (
+      omega (arith, c.positions-test.true),
+      ap (λ (xs : List ℕ). xs ++ positions_in (drop (at + 4) v)) c.in_ok-push.ensures.items
+          ∙ (ap (λ (ys : List ℕ). (all ++ x ∷ []) ++ positions_in ys) (sym (drop-drop 4 at v))
+          ∙ takes_position all (drop at v) (c.args.all.now.items ++ positions_in v) x room e c.positions.invariant.1),
+    )
 
 pub returns : goal.returns
 returns c = no_position c.positions.all.items (drop c.positions.at c.args.value.now) (c.args.all.now.items ++ positions_in c.args.value.now) (omega (arith, length-drop c.positions.at c.args.value.now, c.positions-test.false)) c.positions.invariant.1

@@ -24,7 +24,7 @@ returns-in-Ok-clause-ready g c same =
     let fits : IsNextOf c.args.rows.now.summary (lists_left c.args.rows.now.lists) w = subst (λ (b : Bool). RowFits {E = NoMemory} c.args.rows.now w (Ok b)) c.in-Ok-true.field-0-test c.in-Ok-true.ensures.fits in
     let row : ◌≡◌ {A = RowView} (c.key.result.now, c.value.result.now) (held_row w) = λ i. (c.key.ensures i, c.value.ensures i) in
     ready_on c.args.builder.now c.add.new.self c.args.rows.now.summary (lists_left c.args.rows.now.lists) w c.requires fits
-      (c.in-Ok.ensures.last ∙ ap (λ (r : RowView). Some r.0) row) (c.in-Ok.ensures.spent ∙ ap (λ (r : RowView). c.args.builder.now.spent + room_of r) row)
+    (c.in-Ok.ensures.last ∙ ap (λ (r : RowView). Some r.0) row) (c.in-Ok.ensures.spent ∙ ap (λ (r : RowView). c.args.builder.now.spent + room_of r) row)
 
 pub returns-in-Err-add-clause-row : goal.returns-in-Err-add-clause-row
 returns-in-Err-add-clause-row g c =

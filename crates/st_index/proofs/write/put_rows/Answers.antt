@@ -1,9 +1,8 @@
-use Rattle.std.proofs.Common.{◌≡◌, Bool, true, Ok, Err, sym, ap, ◌∙◌, subst, refl}
+use Rattle.std.proofs.Common.{Bool, true, Ok, ap, ◌∙◌, subst}
 use Rattle.std.proofs.lemmas.Result.{err_from_is_err_and}
 use Rattle.st_table.specs.declared.build_errors.BuildErr.{BuildErr}
-use Rattle.st_index.specs.KeyLists.{lists_left}
 use Rattle.st_index.specs.RowList.{rows_left}
-use Rattle.st_index.specs.Write.{IsReady, PutsRow}
+use Rattle.st_index.specs.Write.{PutsRow}
 use Rattle.st_index.proofs.Writing.{put_more, put_prefix}
 use Rattle.st_index.proofs.write.put_rows.Goals as goal
 
@@ -20,8 +19,9 @@ rows-preserved g c =
     let now = g.S.Sink.written c.put_next.new.sink in
     let step : PutsRow {E = BuildErr} k q (rows_left c.rows.rows) (rows_left c.put_next.new.rows) old now (Ok true) =
     subst (λ (b : Bool). PutsRow {E = BuildErr} k q (rows_left c.rows.rows) (rows_left c.put_next.new.rows) old now (Ok b)) c.if-branch.true c.in_ok-put_next.ensures.row in
-    let (r, split, after, written, builds) = step in
-    (put_more c.args.builder.now k q (rows_left c.args.rows.now) (rows_left c.rows.rows) (rows_left c.put_next.new.rows) r (g.S.Sink.written c.args.sink.now) old now c.rows.invariant.0 split after written builds,
-    c.in_ok-put_next.ensures.ready (ap (λ (b : Bool). Ok b) c.if-branch.true),
-    c.in_ok-put_next.ensures.cause.still ∙ c.rows.invariant.2,
-    c.put_next.ensures.rest ∙ c.rows.invariant.3)
+    let (r, split, after, written, builds) = step in (
+      put_more c.args.builder.now k q (rows_left c.args.rows.now) (rows_left c.rows.rows) (rows_left c.put_next.new.rows) r (g.S.Sink.written c.args.sink.now) old now c.rows.invariant.0 split after written builds,
+      c.in_ok-put_next.ensures.ready (ap (λ (b : Bool). Ok b) c.if-branch.true),
+      c.in_ok-put_next.ensures.cause.still ∙ c.rows.invariant.2,
+      c.put_next.ensures.rest ∙ c.rows.invariant.3,
+    )

@@ -1,6 +1,4 @@
-use Rattle.std.proofs.Common.{◌≡◌, List, ◌++◌, length}
-use Rattle.std.specs.Io.KnownBytes.{Appends}
-use Rattle.st_tblock.specs.Block.{RowView}
+use Rattle.std.proofs.Common.{◌≡◌, length}
 use Rattle.st_index.specs.KeyLists.{lists_left}
 use Rattle.st_index.specs.RowList.{rows_left}
 use Rattle.st_index.specs.Write.{IsReady}

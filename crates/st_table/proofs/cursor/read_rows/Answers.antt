@@ -1,4 +1,4 @@
-use Rattle.std.proofs.Common.{◌-◌, length, arith}
+use Rattle.std.proofs.Common.{arith}
 use Rattle.st_table.specs.TableFile.{footer_at}
 use Rattle.st_table.proofs.Stepping.{next_read}
 use Rattle.st_table.proofs.cursor.read_rows.Goals as goal

@@ -1,4 +1,4 @@
-use Rattle.std.proofs.Common.{inr, ◌-◌, ◌∙◌, ap, sym, length, arith}
+use Rattle.std.proofs.Common.{inr, ◌∙◌, ap, sym, length, arith}
 use Rattle.st_table.specs.TableFile.{footer_at}
 use Rattle.st_table.specs.Cursor.{CursorView}
 use Rattle.st_table.proofs.Advancing.{passes_still, passes_on, row_taken, none_left, next_refused}

@@ -1,4 +1,4 @@
-use Rattle.std.proofs.Common.{◌≡◌, ◌≤◌, ◌-◌, ℕ, List, [], length, Some}
+use Rattle.std.proofs.Common.{◌≡◌, ◌-◌, ℕ, List, [], length, Some}
 use Rattle.st_base.specs.PlacedReads.{IsSameFile}
 use Rattle.st_tblock.specs.Block.{RowView}
 use Rattle.st_table.specs.TableFile.{footer_at}

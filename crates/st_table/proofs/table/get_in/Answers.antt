@@ -1,4 +1,4 @@
-use Rattle.std.proofs.Common.{◌-◌, length, Ok, Err, sym, ◌∙◌, arith}
+use Rattle.std.proofs.Common.{Ok, Err, sym, ◌∙◌, arith}
 use Rattle.st_table.specs.TableFile.{footer_at}
 use Rattle.st_table.proofs.Finding.{decodes_length}
 use Rattle.st_table.proofs.Values.{gets_none, gets_value}

@@ -1,5 +1,4 @@
 use Rattle.st_index.specs.RowList.{rows_left}
-use Rattle.std.proofs.Common.{sym, ap, ◌∙◌}
 use Rattle.st_index.proofs.Reading.{no_memory}
 use Rattle.st_index.proofs.Judging.{walk_reads}
 use Rattle.st_index.proofs.checker.index.read_table.Goals as goal

@@ -1,4 +1,4 @@
-use Rattle.std.proofs.Common.{◌≡◌, ℕ, ◌+◌, ◌≤◌, List, [], ◌∷◌, ◌++◌, length, max, Option, Some, Ok, sym, ap, ◌∙◌, subst, arith}
+use Rattle.std.proofs.Common.{[], ◌∷◌, ◌++◌, ◌∙◌, subst}
 use Rattle.st_base.specs.Records.{Rec}
 use Rattle.st_block.specs.Scan.{PositionedRecord, HasGiven}
 use Rattle.st_block.specs.ScanView.{reached_offset}

@@ -1,9 +1,7 @@
 use Rattle.st_index.specs.RowList.{rows_left}
-use Rattle.std.proofs.Common.{◌≡◌, ℕ, List, [], ◌∷◌, ◌++◌, Option, Some, None, Result, Ok, Err, sym, ap, ◌∙◌, subst, inl}
+use Rattle.std.proofs.Common.{◌≡◌, [], ◌∷◌, ◌++◌, Some, None, Ok, Err, ap, ◌∙◌, subst, inl}
 use Rattle.st_tblock.specs.Block.{RowView}
 use Rattle.st_table.specs.TableFile.{footer_at}
-use Rattle.st_table.specs.Cursor.{Steps}
-use Rattle.st_table.specs.declared.errors.TableErr.{TableErr}
 use Rattle.st_table.proofs.Joining.{goes_joined}
 use Rattle.st_index.specs.CheckContent.{Remembers}
 use Rattle.st_index.proofs.Reading.{step_over, goes_nothing}

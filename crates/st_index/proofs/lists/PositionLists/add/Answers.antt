@@ -17,8 +17,8 @@ pub returns-clause-gained : goal.returns-clause-gained
 returns-clause-gained c k =
     let s = key.Second c.args.sec in
     gained_second c.args.frame.now c.args.sec k (positions_at c.args.self.now k) (positions_at c.make_all.new.self k) (positions_at c.put_all.new.self k) (positions_at c.put.new.self k) c.args.position
-      (c.make_all.ensures.same k ∙ c.make.ensures.same k) (c.requires k) (c.put_all.ensures.gained k)
-      (λ e. subst (λ (j : Key). positions_at c.put.new.self j ≡ with_last (positions_at c.put_all.new.self j) c.args.position) (sym e) c.put.ensures.here) (c.put.ensures.others k)
+    (c.make_all.ensures.same k ∙ c.make.ensures.same k) (c.requires k) (c.put_all.ensures.gained k)
+    (λ e. subst (λ (j : Key). positions_at c.put.new.self j ≡ with_last (positions_at c.put_all.new.self j) c.args.position) (sym e) c.put.ensures.here) (c.put.ensures.others k)
 
 pub returns-clause-count : goal.returns-clause-count
 returns-clause-count c ks apart =

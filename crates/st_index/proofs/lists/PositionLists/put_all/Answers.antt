@@ -1,4 +1,4 @@
-use Rattle.std.proofs.Common.{◌↔◌, inr, ◌∷◌, ◌≡◌, ◌≤◌, ◌+◌, sym, subst, ap, length, Contains, List, arith, refl}
+use Rattle.std.proofs.Common.{◌↔◌, inr, ◌∷◌, ◌≡◌, sym, subst, ap, length, Contains, List, arith, refl}
 use Rattle.st_walk.specs.declared.text.Key.{Key}
 use Rattle.st_walk.specs.Walk.{FrameHas}
 use Rattle.st_walk.specs.Listing.{keys_left, frame_keys}
@@ -29,17 +29,18 @@ pub loop-key-preserved : goal.loop-key-preserved
 loop-key-preserved c =
     let j = c.in-Some.key in
     let step = c.in-Some.ensures.steps in
-    let own = c.loop-key.invariant.1 j (subst (λ (ks : List Key). Contains ks j) (sym step) (0, omega arith, refl)) in
-    (λ k. pushed_on (FrameHas c.args.frame.now k) k j (keys_left c.loop-key.key-iterator) (keys_left c.next.new.self) (positions_at c.args.self.now k) (positions_at c.loop-key.self k) (positions_at c.put.new.self k) c.args.position (HasRoom c.args.self.now k) (HasRoom c.loop-key.self k) (HasRoom c.put.new.self k)
-        step (λ e. subst (λ (i : Key). FrameHas c.args.frame.now i) (sym e) own) (c.requires.fresh k)
-        (λ e. subst (λ (i : Key). positions_at c.put.new.self i ≡ with_last (positions_at c.loop-key.self i) c.args.position) (sym e) c.put.ensures.here)
-        (c.put.ensures.others k) (c.put.ensures.rooms k) (c.loop-key.invariant.0 k),
-    λ k h. c.loop-key.invariant.1 k (subst (λ (ks : List Key). Contains ks k) (sym step) (there j k _ h)),
-    λ ks apart.
-      let put = count_put c.loop-key.self c.put.new.self j c.args.position ks apart c.put.ensures.here c.put.ensures.others in
-      let left : length (keys_left c.loop-key.key-iterator) ≡ length (j ∷ keys_left c.next.new.self) = ap length step in
-      let had = c.loop-key.invariant.2 ks apart in
-      omega (arith, put, left, had))
+    let own = c.loop-key.invariant.1 j (subst (λ (ks : List Key). Contains ks j) (sym step) (0, omega arith, refl)) in (
+      λ k. pushed_on (FrameHas c.args.frame.now k) k j (keys_left c.loop-key.key-iterator) (keys_left c.next.new.self) (positions_at c.args.self.now k) (positions_at c.loop-key.self k) (positions_at c.put.new.self k) c.args.position (HasRoom c.args.self.now k) (HasRoom c.loop-key.self k) (HasRoom c.put.new.self k)
+          step (λ e. subst (λ (i : Key). FrameHas c.args.frame.now i) (sym e) own) (c.requires.fresh k)
+          (λ e. subst (λ (i : Key). positions_at c.put.new.self i ≡ with_last (positions_at c.loop-key.self i) c.args.position) (sym e) c.put.ensures.here)
+          (c.put.ensures.others k) (c.put.ensures.rooms k) (c.loop-key.invariant.0 k),
+      λ k h. c.loop-key.invariant.1 k (subst (λ (ks : List Key). Contains ks k) (sym step) (there j k _ h)),
+      λ ks apart.
+          let put = count_put c.loop-key.self c.put.new.self j c.args.position ks apart c.put.ensures.here c.put.ensures.others in
+          let left : length (keys_left c.loop-key.key-iterator) ≡ length (j ∷ keys_left c.next.new.self) = ap length step in
+          let had = c.loop-key.invariant.2 ks apart in
+          omega (arith, put, left, had),
+    )
 
 pub returns-clause-gained : goal.returns-clause-gained
 returns-clause-gained c k = pushed_all (FrameHas c.args.frame.now k) k _ _ _ _ _ _ c.in-None.ensures.steps.0 (c.loop-key.invariant.0 k)

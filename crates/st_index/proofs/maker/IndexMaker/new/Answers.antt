@@ -1,6 +1,4 @@
-use Rattle.std.proofs.Common.{◌≡◌, ℕ, ◌<◌, List, [], length, All, sym, subst, ap, arith, refl}
-use Rattle.st_walk.specs.declared.text.Key.{Key}
-use Rattle.st_index.specs.PositionLists.{positions_at, count_in}
+use Rattle.std.proofs.Common.{ℕ, ◌<◌, List, All, sym, subst, arith}
 use Rattle.st_index.proofs.Counting.{count_none}
 use Rattle.st_index.proofs.maker.IndexMaker.new.Goals as goal
 

@@ -1,12 +1,9 @@
-use Rattle.std.proofs.Common.{◌≡◌, ℕ, List, [], Ok, Err, sym, ap, ◌∙◌, subst}
-use Rattle.std.specs.Prelude.{OnOk, IfOk}
+use Rattle.std.proofs.Common.{[], subst}
 use Rattle.std.proofs.lemmas.Result.{on_ok_weaker}
-use Rattle.st_tblock.specs.Block.{RowView}
 use Rattle.st_table.specs.TableBuilderView.{TableBuilderView, no_rows}
 use Rattle.st_table.specs.Builder.{Builds}
-use Rattle.st_index.specs.KeyLists.{lists_left}
 use Rattle.st_index.specs.RowList.{rows_of, rows_left}
-use Rattle.st_index.proofs.Writing.{AllPut, all_put, table_put, table_length, table_of, table_prefix, ready_first}
+use Rattle.st_index.proofs.Writing.{all_put, table_put, table_length, table_of, table_prefix}
 use Rattle.st_index.proofs.maker.IndexMaker.write.Goals as goal
 
 pub returns-in-Ok-put_rows-clause-bytes : goal.returns-in-Ok-put_rows-clause-bytes

@@ -1,13 +1,7 @@
-use Rattle.std.proofs.Common.{◌≡◌, ℕ, ◌+◌, ◌*◌, ◌≤◌, ◌^◌, List, ◌∷◌, map, Option, Some, None, sym, subst, ap, arith, true≢false, is_some}
-use Rattle.st_block.specs.Scan.{PositionedRecord}
-use Rattle.st_rows.specs.Rows.{AreRowsOf}
+use Rattle.std.proofs.Common.{◌≡◌, List, sym, subst, ap, arith}
 use Rattle.st_index.specs.EntryLists.{KeyList}
 use Rattle.st_index.specs.KeyLists.{key_lists, lists_left, AreLists, count_of}
-use Rattle.st_index.specs.Maker.{HasPackets}
-use Rattle.st_index.specs.RowList.{rows_from}
-use Rattle.st_index.specs.declared.lists.PositionLists.{PositionLists}
-use Rattle.st_index.specs.declared.summary.Summary.{Summary}
-use Rattle.st_index.proofs.RowsOf.{rows_of_records, count_bound, rows_of_some}
+use Rattle.st_index.proofs.RowsOf.{count_bound, rows_of_some}
 use Rattle.st_index.proofs.row_list.RowList.new.Goals as goal
 
 pub returns-clause-lists : goal.returns-clause-lists

@@ -1,4 +1,4 @@
-use Rattle.std.proofs.Common.{◌+◌, ◌-◌, ◌∙◌, ap, refl, length}
+use Rattle.std.proofs.Common.{◌+◌, ◌∙◌, ap, refl}
 use Rattle.st_table.specs.TableFile.{footer_at}
 use Rattle.st_table.specs.Cursor.{CursorView}
 use Rattle.st_table.proofs.Stepping.{next_same, refuses_same}

@@ -1,4 +1,4 @@
-use Rattle.std.proofs.Common.{◌-◌, length, None, sym, subst}
+use Rattle.std.proofs.Common.{None, sym, subst}
 use Rattle.st_table.specs.TableFile.{footer_at}
 use Rattle.st_table.specs.Marks.{Checked}
 use Rattle.st_table.proofs.Tables.{table_entered}

@@ -1,4 +1,4 @@
-use Rattle.std.proofs.Common.{◌-◌, length, sym, subst}
+use Rattle.std.proofs.Common.{sym, subst}
 use Rattle.st_table.specs.TableFile.{footer_at}
 use Rattle.st_table.specs.Index.{Decodes}
 use Rattle.st_table.proofs.Tables.{entered_rises, gets_row}

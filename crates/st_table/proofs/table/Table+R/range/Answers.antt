@@ -1,4 +1,4 @@
-use Rattle.std.proofs.Common.{◌≡◌, ◌-◌, ◌∙◌, sym, subst, ap, length, None}
+use Rattle.std.proofs.Common.{◌≡◌, ◌∙◌, sym, subst, ap, None}
 use Rattle.std.proofs.lemmas.Result.{IfOk-weaker}
 use Rattle.st_table.specs.TableFile.{footer_at}
 use Rattle.st_table.specs.IndexLookup.{entry_for, found_at}

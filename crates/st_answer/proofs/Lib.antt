@@ -1,0 +1,17 @@
+pub mod AnswerOrder
+pub mod Limits
+pub mod Heading
+pub mod Files
+pub mod Sent
+pub mod Picking
+pub mod Distinct
+pub mod Replying
+pub mod Reading
+pub mod Indexes
+pub mod Holding
+pub mod Telling
+pub mod Found
+pub mod Results
+pub mod Selecting
+pub mod Lending
+pub mod Staying

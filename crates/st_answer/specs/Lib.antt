@@ -1,0 +1,15 @@
+pub mod Packets
+pub mod Answer
+pub mod Limited
+pub mod Bounds
+pub mod Stores
+pub mod Sets
+pub mod Replies
+pub mod Laws
+pub mod SlicePairs
+pub mod Picks
+pub mod Heads
+pub mod Sending
+pub mod Order
+pub mod Lending
+pub mod Gathering

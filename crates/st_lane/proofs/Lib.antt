@@ -1,0 +1,6 @@
+mod Blocks
+mod Pushing
+mod Representing
+mod Wholes
+mod Cuts
+mod OneLane

@@ -1,0 +1,31 @@
+-- How records are cut into pairs: each pair takes as many of those to come as its file has blocks
+-- for.
+use Rattle.std.specs.Prelude.{◌≡◌, ℕ, ◌<◌, ◌≤◌, List, [], ◌∷◌, ◌++◌, length, All}
+use Rattle.st_base.specs.Records.{Rec}
+use Rattle.st_block.specs.BlockText.{IsShort, blocks}
+
+-- Records are the longest prefix of themselves and the rest whose file has at most this many
+-- blocks: a file of them and one or more of the rest has more.
+pub record IsLongest (size most : ℕ) (first rest : List Rec) : Type 0 where
+  pub some : 1 ≤ length first
+  pub fits : length (blocks size first) ≤ most
+  pub longest : (more left : List Rec) → rest ≡ more ++ left → 1 ≤ length more
+      → most < length (blocks size (first ++ more))
+
+-- records in lists, of which each is the longest prefix of the records that are left
+abbrev pub AreLongest : ℕ → ℕ → List (List Rec) → List Rec → Type 0
+AreLongest size most [] rs = rs ≡ []
+AreLongest size most (first ∷ lists) rs =
+    (rest : List Rec) × (rs ≡ first ++ rest) × IsLongest size most first rest
+    × AreLongest size most lists rest
+
+-- the records of each pair, where a block has this size and a file at most this many blocks; each
+-- record is short enough for a block
+pub record Cut (size most : ℕ) (rs : List Rec) (lists : List (List Rec)) : Type 0 where
+  pub short : All (IsShort size) rs
+  pub are : AreLongest size most lists rs
+
+-- these records are a list of the cut, wherever this record comes next: a file of them has at most
+-- this many blocks, and with the record more
+abbrev pub EndsList : ℕ → ℕ → List Rec → Rec → Type 0
+EndsList size most rs r = most < length (blocks size (rs ++ r ∷ []))

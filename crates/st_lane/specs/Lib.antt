@@ -1,0 +1,5 @@
+pub mod Cut
+pub mod Filling
+pub mod Lane
+pub mod Sealing
+pub mod Laws

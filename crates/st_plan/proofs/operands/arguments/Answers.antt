@@ -1,0 +1,9 @@
+use Rattle.std.proofs.Common.{◌∙◌, sym}
+use Rattle.st_plan.proofs.Named.{three_are, named, other_named}
+use Rattle.st_plan.proofs.operands.arguments.Goals as goal
+
+pub returns-then-eq : goal.returns-then-eq
+returns-then-eq c = three_are c.args.operands.now _ c.if-operands-ne3.false ∙ named _ c.args.name.now _ (sym c.eq.ensures ∙ c.if-eq.true)
+
+pub returns-else-eq : goal.returns-else-eq
+returns-else-eq c = λ a b is. other_named _ c.args.name.now _ _ (sym c.eq.ensures ∙ c.if-eq.false) (sym (three_are c.args.operands.now _ c.if-operands-ne3.false) ∙ is)
