@@ -281,13 +281,29 @@ def damage(folder, block, index, packets, positions):
     last = max(rows)
     says("a position of three bytes", block, of_rows({**rows, last: rows[last][:-1]}), "damaged index 0 3 0")
     says("a position twice", block, of_rows({**rows, last: rows[last] + rows[last][-4:]}), "damaged index 0 0 1")
-    first = rows[b"\0"][8:12]
-    says("a least time that is too early", block, of_rows({**rows, b"\0": rows[b"\0"][:11] + bytes([first[3] - 1]) + rows[b"\0"][12:]}),
-         f"damaged rows 0 {first[3] - 1} {first[3]}")
-    at = sorted(rows).index(last)
-    says("a row too few", block, of_rows({key: value for key, value in rows.items() if key != last}), f"damaged rows {at} 256 0")
-    says("a row too many", block, of_rows({**rows, b"\x08": b""}), f"damaged rows {at + 1} 0 256")
-    says("a row that lost its last position", block, of_rows({**rows, last: rows[last][:-4]}), f"damaged rows {at} 256 {rows[last][-4]}")
+    early = struct.pack(">I", int.from_bytes(rows[b"\0"][8:12], "big") - 1)
+    changes = {
+        "a least time that is too early": {**rows, b"\0": rows[b"\0"][:8] + early + rows[b"\0"][12:]},
+        "a row too few": {key: value for key, value in rows.items() if key != last},
+        "a row too many": {**rows, b"\x08": b""},
+        "a row that lost its last position": {**rows, last: rows[last][:-4]},
+        "a row under the next key": {(last[:-1] + bytes([last[-1] + 1]) if key == last else key): value for key, value in rows.items()},
+    }
+    for name, changed in changes.items():
+        says(name, block, of_rows(changed), "damaged rows {} {} {}".format(*difference(changed, rows)))
+
+
+def difference(found, wanted):
+    """The number of the first row that differs, and the bytes there; 256 if there is none."""
+    def texts(rows):
+        return [struct.pack(">I", len(key)) + key + value for key, value in sorted(rows.items())]
+
+    have, want = texts(found), texts(wanted)
+    for place in range(max(len(have), len(want))):
+        one, other = (rows[place] if place < len(rows) else b"" for rows in (have, want))
+        if one != other:
+            at = next(n for n in range(max(len(one), len(other))) if one[n : n + 1] != other[n : n + 1])
+            return place, *(text[at] if at < len(text) else 256 for text in (one, other))
 
 
 def main():

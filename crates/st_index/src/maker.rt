@@ -31,7 +31,7 @@ pub struct IndexMaker {
 }
 
 impl IndexMaker {
-    ghost use Rattle.std.specs.Prelude.{◌≡◌, ℕ, ◌≤◌, ◌+◌, ◌^◌, [], ◌∷◌, length, OnOk, OnErr, IsSome};
+    ghost use Rattle.std.specs.Prelude.{◌≡◌, ℕ, ◌≤◌, ◌+◌, ◌^◌, [], ◌∷◌, length, is_none, OnOk, OnErr, IsSome};
     ghost use Rattle.st_index.specs.Maker.{HasRecords, IsUnchanged, Adds};
 
     /// A maker without packets. It takes no memory.
@@ -67,5 +67,12 @@ impl IndexMaker {
         self.summary = Some(with_packet(self.summary, (r.sec, r.nsec)));
         self.end = u64::from(position) + (RECORD_HEAD + r.body.len()) as u64;
         Ok(())
+    }
+
+    /// Whether it has no packets.
+    pub fn is_empty(&self) -> bool
+        ensures { result ≡ is_none self.now.summary }
+    {
+        self.summary.is_none()
     }
 }

@@ -66,8 +66,8 @@ pub record IsSteady (f : FillingView) : Type 0 where
   pub some : 1 ≤ f.records → (1 ≤ f.here.count) × IsSome f.maker.summary
   pub none : f.records ≡ 0 → f.here.used ≡ BLOCK_HEAD
 
--- the record has no place any more: it is short enough, there are others, it doesn't fit the block
--- at hand, and that block is the last one allowed
+-- a file of the lane's records has to end before this one: a block takes it, there are others, but
+-- the block at hand has no room for it, and none may follow
 pub record IsFull (f : FillingView) (r : Rec) : Type 0 where
   pub short : IsShort f.size r
   pub others : 1 ≤ f.records

@@ -26,6 +26,10 @@ lend l = record l { lent = capped_sum l.lent 1; peak = max l.peak (capped_sum l.
 -- a file of this kind came back, which was read so many times, for so many bytes
 abbrev pub take_back : Kind → ℕ → ℕ → LoansView → LoansView
 take_back kind.Block reads asked l =
-    record { lent = l.lent - 1; peak = l.peak; block_reads = capped_sum l.block_reads reads;
-    block_asked = capped_sum l.block_asked asked }
+    record {
+      lent = l.lent - 1;
+      peak = l.peak;
+      block_reads = capped_sum l.block_reads reads;
+      block_asked = capped_sum l.block_asked asked;
+    }
 take_back kind.Index reads asked l = record l { lent = l.lent - 1 }

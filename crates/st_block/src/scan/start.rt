@@ -6,9 +6,7 @@ ghost use Rattle.st_block.specs.Scan.{Starts, EntersNew, start_reads};
 
 use crate::errors::HeadErr;
 use crate::fields::number_at;
-use crate::format::{
-    BLOCK_SIZE_AT, MAX_BLOCKS, MIN_BLOCK, START, VERSION, VERSION_AT,
-};
+use crate::format::{BLOCK_SIZE_AT, MAX_BLOCKS, MIN_BLOCK, START, VERSION, VERSION_AT};
 use crate::scan::state::ScanState;
 use crate::sizes::is_block_size;
 use st_base::{Damage, Reader, read_whole};
