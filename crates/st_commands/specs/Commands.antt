@@ -15,8 +15,8 @@ use Rattle.st_commands.specs.Pairs.{IsWholePair}
 use Rattle.st_commands.specs.declared.outcomes.Outcome.{Outcome}
 use Rattle.st_commands.specs.declared.outcomes.Outcome.TheVariants.{WriteFault, DiskFault, NoMemory}
 
--- as many files are out as before, unless their number has no room in a u64, and never more than two
--- more were
+-- as many files are out as before, unless their number has no room in a u64, and never more than
+-- two more were
 pub record GivesAllBack (before now : LoansView) : Type 0 where
   pub most : now.lent ≤ before.lent
   pub exact : before.lent + 2 < 2 ^ 64 → now.lent ≡ before.lent

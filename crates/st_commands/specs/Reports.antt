@@ -50,7 +50,8 @@ IsLine Verdicts e l =
     (v : Verdict) × Judges e.block e.index v
     × (l ≡ record { text = verdict_line e.stamp v; outcome = verdict_outcome e.stamp v })
 
--- a pair has no line because it is damaged: only if its summary row is asked for, and it isn't whole
+-- a pair has no line because it is damaged: only if its summary row is asked for, and it isn't
+-- whole
 abbrev pub HasNoLine : Report → Entry → Type 0
 HasNoLine Summaries e = IsWholePair e.block e.index → ⊥
 HasNoLine Verdicts e = ⊥

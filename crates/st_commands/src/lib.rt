@@ -17,9 +17,9 @@
 //!   first pairs, the last perhaps in part (`lines`).
 //! - After it each crash leaves the pairs that were found. A command that could not open the spool
 //!   may leave what a crash might have left before (`images`).
-//! - `DiskFault` and `WriteFault` come only with their cause (`disk`, `write`). `Damaged` names a pair
-//!   that is there and is not whole (`damaged_is_hurt`), and a check ends `Done` only if each pair is
-//!   whole (`done_is_whole`).
+//! - `DiskFault` and `WriteFault` come only with their cause (`disk`, `write`). `Damaged` names a
+//!   pair that is there and is not whole (`damaged_is_hurt`), and a check ends `Done` only if each
+//!   pair is whole (`done_is_whole`).
 //! - All files that were lent come back, and at most two are out at once (`loans`).
 //!
 //! # What it leaves to others

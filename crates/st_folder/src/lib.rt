@@ -7,7 +7,8 @@
 //!
 //! - `RealShelf` answers by the clauses of `Shelf`: a fault only if the count of faults rose, and
 //!   each lent file counted.
-//! - A file of a folder is taken for a name if and only if it has the text of that name (`name_of`).
+//! - A file of a folder is taken for a name if and only if it has the text of that name
+//!   (`name_of`).
 //! - Drafts are numbered from above all drafts among the names that were read; from 0 if one of
 //!   these has the greatest number (`first_number`).
 //! - A system call that a signal broke off is made again (`again`).

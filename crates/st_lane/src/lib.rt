@@ -1,9 +1,9 @@
 //! Lanes: one pair of a block file and its index that is being filled, record by record.
 //!
-//! A lane has two drafts of a shelf. A block goes to the draft of the block file as soon as the next
-//! one begins, so packets are in memory for one block only; of the others the positions of their
-//! keys are. A file has 1 to 4,095 blocks of one size, a power of two from 4,096 to 1,048,576 bytes:
-//! docs/FORMAT.md, "Block file" and "Index rows".
+//! A lane has two drafts of a shelf. A block goes to the draft of the block file as soon as the
+//! next one begins, so packets are in memory for one block only; of the others the positions of
+//! their keys are. A file has 1 to 4,095 blocks of one size, a power of two from 4,096 to 1,048,576
+//! bytes: docs/FORMAT.md, "Block file" and "Index rows".
 //!
 //! # What it promises
 //!

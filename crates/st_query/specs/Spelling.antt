@@ -45,8 +45,8 @@ pub record EndsAt (ts : List Token) (rest : List ℕ) (left : ℕ) (k : Kind) : 
   pub unfinished : (q : Tree) → Query 0 ts q → ⊥
   pub has_kind : HasKind ts None k
 
--- the text is refused, with this kind, at the first token that no further tokens make a query, or at
--- its end
+-- the text is refused, with this kind, at the first token that no further tokens make a query, or
+-- at its end
 abbrev pub IsRefused : List ℕ → ℕ → Kind → Type 0
 IsRefused text place k =
     (length text ≤ MAX_TEXT)

@@ -13,8 +13,8 @@ use Rattle.st_query.specs.declared.addrs.Addr.TheVariants.{V4, V6}
 abbrev pub IsNumber : ℕ → List ℕ → ℕ → Type 0
 IsNumber most word n = IsNumeral 10 word × (length word ≤ most) × (digits_value 10 word ≡ n)
 
--- four decimal numbers below 256 without leading zeros; or the groups of RFC 4291, 2.2, where `::` is
--- one zero group or more, and no group is written as decimal numbers
+-- four decimal numbers below 256 without leading zeros; or the groups of RFC 4291, 2.2, where `::`
+-- is one zero group or more, and no group is written as decimal numbers
 abbrev pub IsAddress : List ℕ → Addr → Type 0
 IsAddress word (V4 bits) = (ip : Ipv4Addr) × IsIpv4Text word ip × (bits ≡ ipv4_bits ip)
 IsAddress word (V6 bits) =

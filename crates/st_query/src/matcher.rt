@@ -252,8 +252,8 @@ fn matches_long(node: &Node, now: u64, r: RecordRef<'_>) -> bool
     matches_part(node, now, &packet)
 }
 
-/// Whether the packet matches the query, where the clock stands at `now` microseconds since 1970. It
-/// takes no memory.
+/// Whether the packet matches the query, where the clock stands at `now` microseconds since 1970.
+/// It takes no memory.
 pub fn matches(query: &Query, now: u64, r: RecordRef<'_>) -> bool
     ensures { IsTrue result ↔ Matches query.now now r.entry }
 {

@@ -95,8 +95,8 @@ fn cleared(value: u128, host: u32) -> u128
     (value >> host) << host
 }
 
-/// The net that an address lies in: the address with all but its first `bits` bits cleared, or as it
-/// is if it has no more bits than that.
+/// The net that an address lies in: the address with all but its first `bits` bits cleared, or as
+/// it is if it has no more bits than that.
 pub fn network(address: Addr, bits: u8) -> Addr
     ensures { result ≡ network address bits }
 {

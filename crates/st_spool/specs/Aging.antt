@@ -27,20 +27,26 @@ abbrev pub aged : SpoolState → ℕ → SpoolState
 aged st to = record st { removed = st.removed + 1; swept = to }
 
 -- the spool stands for the history with the removal, and no crash leaves the pair
-pub record Removes (IsWhole : List ℕ → List ℕ → Type 0) (old new : Option Log) (st : SpoolState) (earlier h : List Event) (e : Entry) (f : Files) : Type 0 where
+pub record Removes (IsWhole : List ℕ → List ℕ → Type 0) (old new : Option Log) (st : SpoolState)
+    (earlier h : List Event) (e : Entry) (f : Files) : Type 0 where
   pub stands : StandsFor IsWhole new st earlier (h ++ Remove e.stamp ∷ []) f
   pub images : (first : Log) → old ≡ Some first → RanTo first new h (Remove e.stamp)
 
 -- an ageing of a spool whose oldest pair is this one
-abbrev pub Ages : (List ℕ → List ℕ → Type 0) → Option Log → Option Log → SpoolState → List Event → List Event → Entry → Files → Result Bool AgeErr → Type 0
+abbrev pub Ages :
+    (List ℕ → List ℕ → Type 0) → Option Log → Option Log → SpoolState → List Event → List Event
+    → Entry → Files → Result Bool AgeErr → Type 0
 Ages IsWhole old new st earlier h e f (Ok true) = Removes IsWhole old new st earlier h e f
 Ages IsWhole old new st earlier h e f (Ok false) = ⊥
-Ages IsWhole old new st earlier h e f (Err DiskFault) = Fails IsWhole old new st earlier h (files_of e)
+Ages IsWhole old new st earlier h e f (Err DiskFault) =
+    Fails IsWhole old new st earlier h (files_of e)
 Ages IsWhole old new st earlier h e f (Err (Halted since)) = ⊥
 
 -- the state after it, with the shelf's count of faults
 abbrev pub AgesTo : SpoolState → SpoolState → ℕ → Result Bool AgeErr → Type 0
 AgesTo old new since (Ok true) = new ≡ aged old new.swept
 AgesTo old new since (Ok false) = ⊥
-AgesTo old new since (Err DiskFault) = (new ≡ failed old (Unhidden (oldest old)) since) ⊎ (new ≡ failed old (Hidden (oldest old)) since)
+AgesTo old new since (Err DiskFault) =
+    (new ≡ failed old (Unhidden (oldest old)) since)
+    ⊎ (new ≡ failed old (Hidden (oldest old)) since)
 AgesTo old new since (Err (Halted n)) = ⊥

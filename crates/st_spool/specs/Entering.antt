@@ -77,7 +77,8 @@ pub record IsLastStamp (P : Name → Type 0) (last : ℕ) : Type 0 where
 -- after a clearing there are just the pairs of what was read before
 abbrev pub ReadsCleared : Option Log → Option Log → List Name → Type 0
 ReadsCleared old new names =
-    (f : Folder) → AreThere names f → ((n : Name) → Reads old n (λ v. v ≡ f n)) → (n : Name) → Reads new n (λ v. v ≡ pairs_alone f n)
+    (f : Folder) → AreThere names f → ((n : Name) → Reads old n (λ v. v ≡ f n)) → (n : Name)
+    → Reads new n (λ v. v ≡ pairs_alone f n)
 
 -- the log with both folders flushed
 abbrev pub flushed_log : Log → Log
@@ -91,7 +92,8 @@ pub record Clears (first : Log) (known : Option Log) (Q : Folder → Type 0) : T
 
 -- an opening that failed: before both folders were flushed, or after
 abbrev pub FailsToEnter : Log → Option Log → Type 0
-FailsToEnter first known = Ran first known [] (Leaves first) (Leaves first) ⊎ Clears first known (SamePairs (reads first))
+FailsToEnter first known =
+    Ran first known [] (Leaves first) (Leaves first) ⊎ Clears first known (SamePairs (reads first))
 
 -- an opening found the pairs of these stamps and this greatest stamp, and cleared the folders
 pub record Opens (first : Log) (known : Option Log) (stamps : List ℕ) (last : ℕ) : Type 0 where
@@ -117,7 +119,8 @@ opened limit stamps last = record {
 
 -- An opening: the spool stands for the pairs that were read, and every crash leaves just these, and
 -- no draft, parked index or half of a pair.
-pub record Enters (IsWhole : List ℕ → List ℕ → Type 0) (first : Log) (known : Option Log) (st : SpoolState) : Type 0 where
+pub record Enters (IsWhole : List ℕ → List ℕ → Type 0) (first : Log) (known : Option Log)
+    (st : SpoolState) : Type 0 where
   pub pairs : List Entry
   pub found : PairsIn (reads first) pairs
   pub stands : (f : Files) → StandsFor IsWhole known st (events first) (Found pairs ∷ []) f

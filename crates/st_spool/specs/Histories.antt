@@ -9,5 +9,6 @@ use Rattle.st_spool.specs.declared.state.Span.{Span}
 -- neither a publication nor a removal changes the file set of a hold
 abbrev pub HoldsStay : Type 0
 HoldsStay =
-    ((hold : Span) (h : List Event) (e : Entry) → IsWithin (length (entries_of h)) hold → held hold (h ++ Publish e ∷ []) ≡ held hold h)
+    ((hold : Span) (h : List Event) (e : Entry) → IsWithin (length (entries_of h)) hold
+    → held hold (h ++ Publish e ∷ []) ≡ held hold h)
     × ((hold : Span) (h : List Event) (s : ℕ) → held hold (h ++ Remove s ∷ []) ≡ held hold h)

@@ -21,11 +21,17 @@ whole_set st = record { from = st.removed; to = length st.stamps }
 
 -- the state with a further hold, which is the one that was asked for last
 abbrev pub with_hold : SpoolState → SpoolState
-with_hold st = record st { holds = st.holds ++ whole_set st ∷ []; asks = next_count st.asks; asked = whole_set st }
+with_hold st =
+    record st {
+      holds = st.holds ++ whole_set st ∷ [];
+      asks = next_count st.asks;
+      asked = whole_set st;
+    }
 
 -- the second list is the first without one hold
 abbrev pub IsWithout : Span → List Span → List Span → Type 0
-IsWithout hold old new = (k : ℕ) × (k < length old) × (slice_index_or old k hold ≡ hold) × (new ≡ remove old k)
+IsWithout hold old new =
+    (k : ℕ) × (k < length old) × (slice_index_or old k hold ≡ hold) × (new ≡ remove old k)
 
 -- the index of the pair at this place is parked
 abbrev pub is_parked : Doubt → ℕ → ℕ → Bool
@@ -46,7 +52,9 @@ IsGone known s = Reads known (Block s) (λ v. v ≡ None) × Reads known (Parked
 
 -- Of the removed pairs from the first place on, those that no hold has were tried: where no fault
 -- was counted no file of them is left. None is left of those before the place that was reached.
-pub record Sweeps (known : Option Log) (stamps : List ℕ) (holds : List Span) (from to removed before now : ℕ) : Type 0 where
+pub record Sweeps (known : Option Log) (stamps : List ℕ) (holds : List Span)
+    (from to removed before now : ℕ) : Type 0 where
   pub later : from ≤ to
   pub gone : (n : ℕ) → from ≤ n → n < to → IsGone known (slice_index stamps n)
-  pub tried : (Rose before now → ⊥) → (n : ℕ) → from ≤ n → n < removed → covers holds n ≡ false → IsGone known (slice_index stamps n)
+  pub tried : (Rose before now → ⊥) → (n : ℕ) → from ≤ n → n < removed → covers holds n ≡ false
+      → IsGone known (slice_index stamps n)

@@ -5,7 +5,10 @@ use Rattle.st_shelf.specs.Origins.{FileOrigin}
 use Rattle.st_shelf.specs.Loans.{LoansView, lend}
 
 -- a file of this kind and shelf is out, read by nobody yet; or none is
-abbrev pub IsLent : {F E : Type 0} → Kind → (F → FileOrigin) → (F → ℕ) → (F → ℕ) → (F → ℕ) → ℕ → LoansView → LoansView → Result F E → Type 0
+abbrev pub IsLent :
+    {F E : Type 0} → Kind → (F → FileOrigin) → (F → ℕ) → (F → ℕ) → (F → ℕ) → ℕ → LoansView
+    → LoansView → Result F E → Type 0
 IsLent {F} {E} kind origin reads asked faults home old new (Ok file) =
-    ((origin file).kind ≡ kind) × ((origin file).home ≡ home) × (reads file ≡ 0) × (asked file ≡ 0) × (faults file ≡ 0) × (new ≡ lend old)
+    ((origin file).kind ≡ kind) × ((origin file).home ≡ home) × (reads file ≡ 0) × (asked file ≡ 0)
+    × (faults file ≡ 0) × (new ≡ lend old)
 IsLent {F} {E} kind origin reads asked faults home old new (Err e) = new ≡ old

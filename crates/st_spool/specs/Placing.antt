@@ -20,13 +20,20 @@ entry s f = record { stamp = s; block = f.block; index = f.index }
 -- The files of a pair were settled under a stamp that was free. At Ok each crash leaves the pair; a
 -- call that was stopped before it settled the block leaves at most half of it.
 abbrev pub Placed : Log → Option Log → (ℕ → Row) → ℕ → Files → Result (Unit {0}) Stopped → Type 0
-Placed first new rows t f (Ok v) = RanBy first new (Publish (entry t f) ∷ []) (set_row rows t (Coming f)) (set_row rows t (Pair f))
-Placed first new rows t f (Err Before) = RanBy first new [] (set_row rows t (Half f)) (set_row rows t (Half f))
-Placed first new rows t f (Err After) = RanBy first new (Publish (entry t f) ∷ []) (set_row rows t (Coming f)) (set_row rows t (Coming f))
+Placed first new rows t f (Ok v) =
+    RanBy first new (Publish (entry t f) ∷ []) (set_row rows t (Coming f)) (set_row rows t (Pair f))
+Placed first new rows t f (Err Before) =
+    RanBy first new [] (set_row rows t (Half f)) (set_row rows t (Half f))
+Placed first new rows t f (Err After) =
+    RanBy first new (Publish (entry t f) ∷ []) (set_row rows t (Coming f))
+    (set_row rows t (Coming f))
 
 -- The index of a pair was parked. At Ok no crash leaves the pair; a call that was stopped before it
 -- hid the index changed nothing.
 abbrev pub Hidden : Log → Option Log → (ℕ → Row) → ℕ → Files → Result (Unit {0}) Stopped → Type 0
-Hidden first new rows t f (Ok v) = RanBy first new (Remove t ∷ []) (set_row rows t (Going f)) (set_row rows t (Held f))
+Hidden first new rows t f (Ok v) =
+    RanBy first new (Remove t ∷ []) (set_row rows t (Going f)) (set_row rows t (Held f))
 Hidden first new rows t f (Err Before) = RanBy first new [] rows rows
-Hidden first new rows t f (Err After) = RanBy first new (Remove t ∷ []) (set_row rows t (Going f)) (set_row rows t (Going f)) × Reads new (Index t) (λ v. v ≡ None)
+Hidden first new rows t f (Err After) =
+    RanBy first new (Remove t ∷ []) (set_row rows t (Going f)) (set_row rows t (Going f))
+    × Reads new (Index t) (λ v. v ≡ None)

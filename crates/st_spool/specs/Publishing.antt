@@ -27,39 +27,45 @@ published st s = record st { stamps = st.stamps ++ s ∷ []; last = s }
 
 -- the state after a publication or an ageing that failed, with the shelf's count of faults then
 abbrev pub failed : SpoolState → Doubt → ℕ → SpoolState
-failed st doubt since = record st { doubt = doubt; halted = Some since; halts = next_count st.halts }
+failed st doubt since =
+    record st { doubt = doubt; halted = Some since; halts = next_count st.halts }
 
 -- the same of a publication under this stamp: its block was settled, or not
 abbrev pub FailsToPublish : SpoolState → SpoolState → ℕ → ℕ → Type 0
-FailsToPublish old new t since = (new ≡ failed old (Unsettled t) since) ⊎ (new ≡ failed old (Settled t) since)
+FailsToPublish old new t since =
+    (new ≡ failed old (Unsettled t) since) ⊎ (new ≡ failed old (Settled t) since)
 
--- every crash since the first log leaves the set of the history, or that with the further event, and
--- a crash now leaves the second; the event happened once
+-- every crash since the first log leaves the set of the history, or that with the further event,
+-- and a crash now leaves the second; the event happened once
 abbrev pub RanTo : Log → Option Log → List Event → Event → Type 0
-RanTo first known h e = Ran first known (e ∷ []) (Gives h (e ∷ [])) (λ c. PairsIn c (set_of (h ++ e ∷ [])))
+RanTo first known h e =
+    Ran first known (e ∷ []) (Gives h (e ∷ [])) (λ c. PairsIn c (set_of (h ++ e ∷ [])))
 
--- every crash since the first log leaves the set of the history; or that with the event in doubt, but
--- only if it began
+-- every crash since the first log leaves the set of the history; or that with the event in doubt,
+-- but only if it began
 abbrev pub RanInDoubt : Log → Option Log → List Event → List Event → Type 0
 RanInDoubt first known h es = Ran first known es (Gives h es) (Gives h es)
 
--- every crash since the first log leaves what one might have left then by the event in doubt, and no
--- event happened
+-- every crash since the first log leaves what one might have left then by the event in doubt, and
+-- no event happened
 abbrev pub RanAsBefore : Log → Option Log → List Event → List Event → Type 0
 RanAsBefore first known h es = Ran first known [] (Gives h es) (Gives h es)
 
 -- a publication of this entry: the spool stands for the history with it, and each crash leaves it
-pub record Publishes (IsWhole : List ℕ → List ℕ → Type 0) (old new : Option Log) (st : SpoolState) (earlier h : List Event) (e : Entry) (f : Files) : Type 0 where
+pub record Publishes (IsWhole : List ℕ → List ℕ → Type 0) (old new : Option Log) (st : SpoolState)
+    (earlier h : List Event) (e : Entry) (f : Files) : Type 0 where
   pub stands : StandsFor IsWhole new st earlier (h ++ Publish e ∷ []) f
   pub images : (first : Log) → old ≡ Some first → RanTo first new h (Publish e)
 
 -- a call that failed on a pair with these files: the spool stands for the history as before
-pub record Fails (IsWhole : List ℕ → List ℕ → Type 0) (old new : Option Log) (st : SpoolState) (earlier h : List Event) (f : Files) : Type 0 where
+pub record Fails (IsWhole : List ℕ → List ℕ → Type 0) (old new : Option Log) (st : SpoolState)
+    (earlier h : List Event) (f : Files) : Type 0 where
   pub stands : StandsFor IsWhole new st earlier h f
   pub images : (first : Log) → old ≡ Some first → RanInDoubt first new h (begun st.doubt f)
 
 -- a call with no event: the spool stands for the history as before, with the same event in doubt
-pub record Keeps (IsWhole : List ℕ → List ℕ → Type 0) (old new : Option Log) (st : SpoolState) (earlier h : List Event) (f : Files) : Type 0 where
+pub record Keeps (IsWhole : List ℕ → List ℕ → Type 0) (old new : Option Log) (st : SpoolState)
+    (earlier h : List Event) (f : Files) : Type 0 where
   pub stands : StandsFor IsWhole new st earlier h f
   pub images : (first : Log) → old ≡ Some first → RanAsBefore first new h (begun st.doubt f)
 

@@ -9,13 +9,16 @@ use Rattle.st_spool.specs.declared.refusals.PublishErr.TheVariants as publish
 use Rattle.st_spool.specs.declared.refusals.AgeErr.{AgeErr}
 use Rattle.st_spool.specs.declared.refusals.AgeErr.TheVariants as age
 
--- A fault comes only where the call was not refused. A refusal leaves the spool as it was, and hands
--- the pair back: after an earlier call that failed, or else where no stamp is left.
-abbrev pub RefusesPair : {D T S : Type 0} → SpoolView D → SpoolView D → SealedPair T S → PublishErr T S → Type 0
+-- A fault comes only where the call was not refused. A refusal leaves the spool as it was, and
+-- hands the pair back: after an earlier call that failed, or else where no stamp is left.
+abbrev pub RefusesPair :
+    {D T S : Type 0} → SpoolView D → SpoolView D → SealedPair T S → PublishErr T S → Type 0
 RefusesPair {D} {T} {S} old new pair publish.DiskFault = MayPublish old.state
-RefusesPair {D} {T} {S} old new pair (publish.Halted since back) = (old.state.halted ≡ Some since) × (new ≡ old) × (back ≡ pair)
+RefusesPair {D} {T} {S} old new pair (publish.Halted since back) =
+    (old.state.halted ≡ Some since) × (new ≡ old) × (back ≡ pair)
 RefusesPair {D} {T} {S} old new pair (publish.StampsSpent last back) =
-    (old.state.halted ≡ None) × (old.state.last ≡ 2 ^ 64 - 1) × (last ≡ old.state.last) × (new ≡ old) × (back ≡ pair)
+    (old.state.halted ≡ None) × (old.state.last ≡ 2 ^ 64 - 1) × (last ≡ old.state.last)
+    × (new ≡ old) × (back ≡ pair)
 
 -- the same of an ageing
 abbrev pub RefusesAge : {D : Type 0} → SpoolView D → SpoolView D → AgeErr → Type 0

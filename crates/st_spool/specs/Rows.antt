@@ -7,10 +7,10 @@ use Rattle.st_disk.specs.Events.{Event}
 use Rattle.st_disk.specs.Runs.{Ran}
 use Rattle.st_disk.specs.Pairs.{Entry, Files, IsFileSet, files_at, PairsIn}
 
--- Free: nothing is there. Half: the block isn't, the index may be. Coming: each of the two files may
--- be there. Pair: both are. Going: the block is, and the index under either of its names. Held: the
--- block is, and the index is parked. Past: the index isn't there. Lone: the block isn't. Both: both
--- files are there.
+-- Free: nothing is there. Half: the block isn't, the index may be. Coming: each of the two files
+-- may be there. Pair: both are. Going: the block is, and the index under either of its names. Held:
+-- the block is, and the index is parked. Past: the index isn't there. Lone: the block isn't. Both:
+-- both files are there.
 pub data Row : Type 0 where
   Free : Row
   Half : Files → Row
@@ -26,9 +26,11 @@ pub data Row : Type 0 where
 abbrev pub Fits : Row → Option (List ℕ) → Option (List ℕ) → Option (List ℕ) → Type 0
 Fits Free b i p = (b ≡ None) × (i ≡ None) × (p ≡ None)
 Fits (Half f) b i p = (b ≡ None) × ((i ≡ None) ⊎ (i ≡ Some f.index)) × (p ≡ None)
-Fits (Coming f) b i p = ((b ≡ None) ⊎ (b ≡ Some f.block)) × ((i ≡ None) ⊎ (i ≡ Some f.index)) × (p ≡ None)
+Fits (Coming f) b i p =
+    ((b ≡ None) ⊎ (b ≡ Some f.block)) × ((i ≡ None) ⊎ (i ≡ Some f.index)) × (p ≡ None)
 Fits (Pair f) b i p = (b ≡ Some f.block) × (i ≡ Some f.index) × (p ≡ None)
-Fits (Going f) b i p = (b ≡ Some f.block) × (((i ≡ Some f.index) × (p ≡ None)) ⊎ ((i ≡ None) × (p ≡ Some f.index)))
+Fits (Going f) b i p =
+    (b ≡ Some f.block) × (((i ≡ Some f.index) × (p ≡ None)) ⊎ ((i ≡ None) × (p ≡ Some f.index)))
 Fits (Held f) b i p = (b ≡ Some f.block) × (i ≡ None) × (p ≡ Some f.index)
 Fits Past b i p = i ≡ None
 Fits Lone b i p = b ≡ None
@@ -79,7 +81,7 @@ pub record IsSetOf (rows : ℕ → Row) (set : List Entry) : Type 0 where
 abbrev pub Either : List Entry → List Entry → Folder → Type 0
 Either set other c = PairsIn c set ⊎ PairsIn c other
 
--- a run of calls on whose way each crash leaves what the first rows allow, and a crash after it what
--- the second allow
+-- a run of calls on whose way each crash leaves what the first rows allow, and a crash after it
+-- what the second allow
 abbrev pub RanBy : Log → Option Log → List Event → (ℕ → Row) → (ℕ → Row) → Type 0
 RanBy first known es rows now = Ran first known es (Has rows) (Has now)

@@ -63,7 +63,8 @@ IsCalm None doubt halts = (doubt ≡ Nothing) × (halts ≡ 0)
 IsCalm (Some since) doubt halts = 0 < halts
 
 -- what is so of the shelf, where its log is known
-pub record OnDisk (IsWhole : List ℕ → List ℕ → Type 0) (log : Log) (st : SpoolState) (earlier h : List Event) (f : Files) : Type 0 where
+pub record OnDisk (IsWhole : List ℕ → List ℕ → Type 0) (log : Log) (st : SpoolState)
+    (earlier h : List Event) (f : Files) : Type 0 where
   -- under the names of each stamp each image has what the state allows
   pub images : Each log (Has (rows_by st f (entries_of h)))
   -- the shelf's events are those before the opening, those of the history since, and the one in
@@ -74,7 +75,8 @@ pub record OnDisk (IsWhole : List ℕ → List ℕ → Type 0) (log : Log) (st :
 
 -- A spool with this state, over a shelf of this log, whose events before the opening are given,
 -- stands for the history h; these are the files of the pair in doubt.
-pub record StandsFor (IsWhole : List ℕ → List ℕ → Type 0) (known : Option Log) (st : SpoolState) (earlier h : List Event) (f : Files) : Type 0 where
+pub record StandsFor (IsWhole : List ℕ → List ℕ → Type 0) (known : Option Log) (st : SpoolState)
+    (earlier h : List Event) (f : Files) : Type 0 where
   pub legal : Legal st.limit h
   -- what is kept of the history
   pub stamps : map stamp_of (entries_of h) ≡ st.stamps

@@ -10,9 +10,9 @@ use Rattle.st_spool.specs.declared.state.Doubt.{Doubt}
 use Rattle.st_spool.specs.declared.state.Doubt.TheVariants.{Nothing, Unsettled, Settled, Unhidden, Hidden}
 
 -- The limit in pairs; the stamps of all pairs that were found or published, in order, of which so
--- many, the first ones, were removed, and of these so many have no file left; the greatest stamp; the sets that are held; the event
--- in doubt; where a call failed, the shelf's count of faults then, and how many calls failed so; how
--- many holds were given, and the set of the last one.
+-- many, the first ones, were removed, and of these so many have no file left; the greatest stamp;
+-- the sets that are held; the event in doubt; where a call failed, the shelf's count of faults
+-- then, and how many calls failed so; how many holds were given, and the set of the last one.
 pub record SpoolState : Type 0 where
   pub limit : ℕ
   pub stamps : List ℕ
@@ -40,7 +40,9 @@ pub record Placement : Type 0 where
 -- where the entry of a stamp is in a list whose first place has this number
 abbrev pub place_in : ℕ → ℕ → List Entry → Option Placement
 place_in n s [] = None
-place_in n s (e ∷ es) = cond (nat_eq e.stamp s) (Some (record { place = n; files = files_of e })) (place_in (n + 1) s es)
+place_in n s (e ∷ es) =
+    cond (nat_eq e.stamp s) (Some (record { place = n; files = files_of e }))
+    (place_in (n + 1) s es)
 
 -- some hold has the entry at this place
 abbrev pub covers : List Span → ℕ → Bool
@@ -49,11 +51,12 @@ covers holds n = list_any (λ h. nat_le h.from n && nat_lt n h.to) holds
 -- the row of an entry, and of a stamp that no entry has
 abbrev pub row_at : ℕ → List Span → Bool → Option Placement → Row
 row_at removed holds above None = cond above Free Past
-row_at removed holds above (Some p) = cond (nat_le removed p.place) (Pair p.files) (cond (covers holds p.place) (Held p.files) Past)
+row_at removed holds above (Some p) =
+    cond (nat_le removed p.place) (Pair p.files) (cond (covers holds p.place) (Held p.files) Past)
 
 -- The rows of a spool of which nothing is in doubt: an entry of the set has its pair, a held entry
--- outside the set its block and its parked index, another one no index. Above the last stamp nothing
--- is there.
+-- outside the set its block and its parked index, another one no index. Above the last stamp
+-- nothing is there.
 abbrev pub rows_of : ℕ → List Span → ℕ → List Entry → ℕ → Row
 rows_of removed holds last all s = row_at removed holds (nat_lt last s) (place_in 0 s all)
 
@@ -74,8 +77,10 @@ abbrev pub MayBe : Doubt → Files → ℕ → ℕ → List Entry → Type 0
 MayBe Nothing f removed last all = ⊤
 MayBe (Unsettled t) f removed last all = last < t
 MayBe (Settled t) f removed last all = last < t
-MayBe (Unhidden t) f removed last all = place_in 0 t all ≡ Some (record { place = removed; files = f })
-MayBe (Hidden t) f removed last all = place_in 0 t all ≡ Some (record { place = removed; files = f })
+MayBe (Unhidden t) f removed last all =
+    place_in 0 t all ≡ Some (record { place = removed; files = f })
+MayBe (Hidden t) f removed last all =
+    place_in 0 t all ≡ Some (record { place = removed; files = f })
 
 -- no stamp is above this
 abbrev pub AreUpTo : ℕ → List Entry → Type 0

@@ -4,8 +4,8 @@
 //! A history is a list of events: the pairs that were found at opening, then publications and
 //! removals, in order. A stamp orders the pairs; each is above all before it. A hold is a snapshot
 //! of the pairs that are published; its files stay, parked if need be, until its release. Which
-//! bytes make a whole pair is a `PairRule`'s to say. The order in which files are settled and parked
-//! is this project's own; docs/FORMAT.md, "Folders and names", has the names.
+//! bytes make a whole pair is a `PairRule`'s to say. The order in which files are settled and
+//! parked is this project's own; docs/FORMAT.md, "Folders and names", has the names.
 //!
 //! # What it promises
 //!
@@ -20,14 +20,14 @@
 //!
 //! # What it leaves to others
 //!
-//! It reads no file. Threads that share a spool are not its concern, nor is what a doubt comes to: a
-//! halted spool is closed and opened anew.
+//! It reads no file. Threads that share a spool are not its concern, nor is what a doubt comes to:
+//! a halted spool is closed and opened anew.
 //!
 //! # Where to read
 //!
-//! `specs/History.antt` says which histories there may be, `specs/Rows.antt` and `specs/States.antt`
-//! what a crash may leave under the names of a stamp, `specs/Standing.antt` which history a spool
-//! stands for. Then `spool`.
+//! `specs/History.antt` says which histories there may be, `specs/Rows.antt` and
+//! `specs/States.antt` what a crash may leave under the names of a stamp, `specs/Standing.antt`
+//! which history a spool stands for. Then `spool`.
 #![tactic(auto)]
 
 mod held;

@@ -145,9 +145,9 @@ impl<D: Shelf, W: PairRule> Spool<D, W> {
     /// Publishes a pair of sealed files of this spool's shelf, under a stamp above all so far that
     /// is `floor` or greater. At Ok no crash leaves less than the pair.
     ///
-    /// `DiskFault` comes only if the shelf's count of faults rose: each file that was not settled is
-    /// abandoned, the pair is in doubt, and the spool refuses from then on. `Halted` comes only if an
-    /// earlier call failed, and `StampsSpent` only if no stamp is left; both change nothing.
+    /// `DiskFault` comes only if the shelf's count of faults rose: each file that was not settled
+    /// is abandoned, the pair is in doubt, and the spool refuses from then on. `Halted` comes only
+    /// if an earlier call failed, and `StampsSpent` only if no stamp is left; both change nothing.
     pub fn publish(
         &mut self,
         pair: SealedPair<D::Draft>,
@@ -407,8 +407,8 @@ impl<D: Shelf, W: PairRule> Spool<D, W> {
     /// Ends a hold of this spool, and removes the files of removed pairs that no hold has any more,
     /// but those of a removal in doubt.
     ///
-    /// A removal of a file that fails raises the shelf's count of faults, and is tried again by each
-    /// later `release` and `age`.
+    /// A removal of a file that fails raises the shelf's count of faults, and is tried again by
+    /// each later `release` and `age`.
     pub fn release(&mut self, hold: Hold)
         requires { Contains self.old.state.holds hold }
         // the spool
@@ -445,11 +445,12 @@ impl<D: Shelf, W: PairRule> Spool<D, W> {
     }
 
     /// Removes the oldest pair, if more are published than the limit, and answers whether it did.
-    /// Files of removed pairs that no hold has are removed too; the others stay until their release.
+    /// Files of removed pairs that no hold has are removed too; the others stay until their
+    /// release.
     ///
-    /// A removal of a file that fails raises the shelf's count of faults, and is tried again by each
-    /// later `age` and `release`. `DiskFault` comes only if that count rose; the spool refuses from
-    /// then on. `Halted` comes only if an earlier call failed, and changes nothing.
+    /// A removal of a file that fails raises the shelf's count of faults, and is tried again by
+    /// each later `age` and `release`. `DiskFault` comes only if that count rose; the spool refuses
+    /// from then on. `Halted` comes only if an earlier call failed, and changes nothing.
     pub fn age(&mut self) -> Result<bool, AgeErr>
         // what it does, if there is something to remove
         ensures aged { (earlier h : List Event) (f : Files) (e : Entry) (after : List Entry)

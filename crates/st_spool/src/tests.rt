@@ -167,7 +167,8 @@ fn two_pairs(alloc: Global, shelf: MemShelf) -> Option<(Answer, Answer, MemShelf
 
 // An opening of an empty shelf is three calls, two flushes and a list. A publication here is six:
 // two drafts are made, the index and the block are settled, the folders flushed. So the second
-// pair's block is settled by call 13 and durable after call 15. At most four changes are not flushed.
+// pair's block is settled by call 13 and durable after call 15. At most four changes are not
+// flushed.
 #[test]
 fn a_crash_leaves_the_second_pair_whole_or_not_at_all(rt: HostRuntime) -> Result<(), Fail> {
     let alloc = rt.alloc();

@@ -162,8 +162,8 @@ impl<'a, R: Reader> Table<'a, R> {
     /// The data block that the index names for `key` is read whole. Damage is that of its first
     /// check that fails, in the order of docs/FORMAT.md, "Checks of a table": its end, its type
     /// byte, its sum, its restarts; each entry, its key above the last one and between the index
-    /// keys around the block. `Compressed` comes if and only if the type byte is 1. `ReadFault` comes only if the
-    /// file failed in this call. The table's entries stay.
+    /// keys around the block. `Compressed` comes if and only if the type byte is 1. `ReadFault`
+    /// comes only if the file failed in this call. The table's entries stay.
     ///
     /// Restarts and entries are checked until no check fails: from then on the block counts as
     /// checked, and only its end, its type byte and its sum are checked at each call.
@@ -230,10 +230,10 @@ impl<'a, R: Reader> Table<'a, R> {
     ///
     /// Each data block is read whole, by one read at most, before its first row is given, and once
     /// in a reading. Damage is that of its first check that fails, in the order of docs/FORMAT.md,
-    /// "Checks of a table": its end, its type byte, its sum, its restarts; each entry, its key above
-    /// the last one and between the index keys around the block. `Compressed` comes if and only if the type
-    /// byte is 1. `ReadFault` comes only if the file failed in this call. After an error `cursor`
-    /// is before that block.
+    /// "Checks of a table": its end, its type byte, its sum, its restarts; each entry, its key
+    /// above the last one and between the index keys around the block. `Compressed` comes if and
+    /// only if the type byte is 1. `ReadFault` comes only if the file failed in this call. After an
+    /// error `cursor` is before that block.
     ///
     /// Over any file a reading ends: each row that is given leaves fewer to come (`most_left`). A
     /// row at hand is given without a read; a block is passed over only if none of its rows is

@@ -48,16 +48,16 @@ IsAsked job now bytes output BadQuery message =
 IsAsked job now bytes output status message =
     (q : Node) × Spells job.query q × IsReply job q now bytes output status message
 
--- what these arguments ask for over these bytes ends so, with this output and this message, where no
--- fault ends it
+-- what these arguments ask for over these bytes ends so, with this output and this message, where
+-- no fault ends it
 abbrev pub IsJob : List (List ℕ) → ℕ → List ℕ → List ℕ → Status → List ℕ → Type 0
 IsJob words now bytes output Usage message =
     ((job : Job) → IsOnce words job → ⊥) × (output ≡ []) × (message ≡ status_line Usage)
 IsJob words now bytes output status message =
     (job : Job) × IsOnce words job × IsAsked job now bytes output status message
 
--- What a run leaves at the output, of the jobs that it may be asked for: all of one's output; after a
--- fault of the output a prefix of it; and nothing where the input failed or memory ran out.
+-- What a run leaves at the output, of the jobs that it may be asked for: all of one's output; after
+-- a fault of the output a prefix of it; and nothing where the input failed or memory ran out.
 abbrev pub Leaves :
     (List ℕ → Status → List ℕ → Type 0) → Status → List ℕ → Option (List ℕ) → Option (List ℕ)
     → Type 0

@@ -17,8 +17,8 @@ use Rattle.steno.specs.Messages.{line_of, status_line, query_line, input_line}
 use Rattle.steno.specs.Plans.{IsOnce}
 use Rattle.steno.specs.Reports.{Tells}
 
--- the clock was asked once, but not at all where the arguments ask for nothing, or there was no memory
--- for their plan
+-- the clock was asked once, but not at all where the arguments ask for nothing, or there was no
+-- memory for their plan
 abbrev pub AsksClock : Option (List ℕ) → Option (List ℕ) → Status → ℕ → Type 0
 AsksClock old new Usage now = new ≡ old
 AsksClock old new NoMemory now = (new ≡ old) ⊎ Ticks old new now
@@ -79,8 +79,8 @@ TellsRun words clock ticked err told before after status =
     × ((now : ℕ) × AsksClock clock ticked status now)
 
 -- Arguments without a plan of `once`, and only these, end so, unless memory runs out. A query is
--- refused only if the arguments ask one that is, and if they do, the run ends in no other way unless
--- memory runs out.
+-- refused only if the arguments ask one that is, and if they do, the run ends in no other way
+-- unless memory runs out.
 pub record HasWordCause (words : List (List ℕ)) (status : Status) : Type 0 where
   pub usage : status ≡ Usage → (job : Job) → IsOnce words job → ⊥
   pub unplanned : ((job : Job) → IsOnce words job → ⊥) → (status ≡ Usage) ⊎ (status ≡ NoMemory)
@@ -95,8 +95,8 @@ pub record HasQueryCause (job : Job) (status : Status) : Type 0 where
   pub refused : status ≡ BadQuery → (e : QueryErr) × Refuses job.query e
   pub exact : (e : QueryErr) → Refuses job.query e → (status ≡ BadQuery) ⊎ (status ≡ NoMemory)
 
--- A fault of the input or of the output comes only if its count rose. No count falls, and each stays
--- as it was unless the run ends with that fault.
+-- A fault of the input or of the output comes only if its count rose. No count falls, and each
+-- stays as it was unless the run ends with that fault.
 pub record HasFaultCause (before after old new : ℕ) (status : Status) : Type 0 where
   pub read : status ≡ ReadFault → Rose before after
   pub write : status ≡ WriteFault → Rose old new
