@@ -67,8 +67,11 @@ Leaves log c =
 
 abbrev pub and_then : Log → Call → Log
 and_then log call =
-    record { start_blocks = log.start_blocks; start_indexes = log.start_indexes;
-    calls = log.calls ++ call ∷ [] }
+    record {
+      start_blocks = log.start_blocks;
+      start_indexes = log.start_indexes;
+      calls = log.calls ++ call ∷ [];
+    }
 
 -- a moment is a number of calls
 abbrev pub moment : Log → ℕ
@@ -76,8 +79,11 @@ moment log = length log.calls
 
 abbrev pub at_moment : ℕ → Log → Log
 at_moment k log =
-    record { start_blocks = log.start_blocks; start_indexes = log.start_indexes;
-    calls = take k log.calls }
+    record {
+      start_blocks = log.start_blocks;
+      start_indexes = log.start_indexes;
+      calls = take k log.calls;
+    }
 
 -- a crash at some moment from t on might have left this
 abbrev pub Since : Log → ℕ → Folder → Type 0
