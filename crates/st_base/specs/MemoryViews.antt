@@ -61,6 +61,14 @@ TakesOrFails old new bytes result =
     × (new ≡ record old { written = old.written ++ bytes; calls = next_count old.calls }))
     (λ _. new ≡ record old { calls = next_count old.calls; faults = next_count old.faults })
 
+-- the call takes all, and the number of bytes taken so far rises by theirs, but stops at the
+-- greatest number of a u64
+abbrev pub TakesAll : {E : Type 0} → ℕ → ℕ → List ℕ → Result ℕ E → Type 0
+TakesAll old new bytes result =
+    MatchResult result
+    (λ n. (n ≡ length bytes) × (new ≡ min (old + length bytes) (2 ^ 64 - 1)))
+    (λ _. ⊥)
+
 -- a file after a read that asked for this many bytes
 abbrev pub read_once : ReaderView → ℕ → ReaderView
 read_once r n = record r { reads = next_count r.reads; asked = min (r.asked + n) (2 ^ 64 - 1) }

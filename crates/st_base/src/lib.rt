@@ -14,6 +14,7 @@
 //! - `Plain` sends each piece by one `put`.
 //! - `MemSource`, `SureSource`, `MemSink`, `MemReader`, `SliceReader` and `MemClock` meet their
 //!   traits, and their content is known; the clause of its constructor says what each begins as.
+//! - `SureSink` meets its trait, keeps the number of its bytes alone, and never fails.
 //! - `StreamSource`, `StreamSink`, `FileReader` and `MachineClock` meet their traits over std's
 //!   readers, writers, files and clock, and know no more than these do.
 //!
@@ -51,7 +52,7 @@ pub use failures::{Failed, NoMemory};
 pub use file_reader::FileReader;
 pub use limits::Limits;
 pub use machine_clock::MachineClock;
-pub use memory::{MemClock, MemReader, MemSink, MemSource, SliceReader, SureSource};
+pub use memory::{MemClock, MemReader, MemSink, MemSource, SliceReader, SureSink, SureSource};
 pub use outlets::{Outlet, Plain};
 pub use readers::{Reader, read_whole};
 pub use records::{Record, RecordRef};

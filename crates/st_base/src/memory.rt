@@ -8,6 +8,6 @@ mod source;
 
 pub use clock::MemClock;
 pub use reader::{MemReader, copy_at};
-pub use sink::MemSink;
+pub use sink::{MemSink, SureSink};
 pub use slice::SliceReader;
 pub use source::{MemSource, SureSource};

@@ -6,8 +6,8 @@ use crate::file_reader::PlacedBytes;
 use crate::memory::copy_at;
 use crate::{
     Clock, Failed, FileReader, MachineClock, MemClock, MemReader, MemSink, MemSource, Octets,
-    Outlet, Plain, Reader, Record, Sink, SliceReader, Source, StreamSink, StreamSource, SureSource,
-    put, read_whole,
+    Outlet, Plain, Reader, Record, Sink, SliceReader, Source, StreamSink, StreamSource, SureSink,
+    SureSource, put, read_whole,
 };
 use std::fs::File;
 use std::io::{self, ErrorKind, Read, Write};
@@ -39,6 +39,12 @@ fn put_writes_all_or_says_that_it_failed(rt: HostRuntime) -> Result<(), Fail> {
     assert_eq!(rt; put(&mut sink, b" three"), Err(Failed));
     assert_eq!(rt; put(&mut sink, b"."), Ok(()));
     assert_eq!(rt; sink.bytes(), b"one two.".as_slice());
+    let mut sure = SureSink::new();
+    assert_eq!(rt; put(&mut sure, b"four"), Ok(()));
+    assert_eq!(rt;
+        (sure.write(b""), sure.write(b"seven"), sure.count()),
+        (Ok(0), Ok(5), 9)
+    );
     let mut stream = StreamSink::over(Vec::<u8>::new(rt.alloc()));
     assert_eq!(rt; put(&mut stream, b"all of it"), Ok(()));
     assert_eq!(rt; stream.flush(), Ok(()));

@@ -1,4 +1,4 @@
-ghost use Rattle.std.specs.Prelude.{◌≡◌, ◌+◌, ◌^◌, ◌≤◌, ◌<◌, List, [], length, IfOk, Some};
+ghost use Rattle.std.specs.Prelude.{◌≡◌, ◌+◌, ◌^◌, ◌≤◌, ◌<◌, List, [], length, IfOk, Some, None};
 ghost use Rattle.std.specs.Io.{WritesAtMost};
 ghost use Rattle.std.specs.Io.KnownBytes.{WriteAppends};
 ghost use Rattle.st_base.specs.Faults.{HasWriteCause};
@@ -80,6 +80,58 @@ impl Sink for MemSink {
             self.faults = next_count(self.faults);
             return Err(Failed);
         }
+        Ok(bytes.len())
+    }
+}
+
+/// A sink that keeps no bytes, only how many it was given. It takes no memory and never fails.
+#[derive(Drop)]
+pub struct SureSink {
+    count: u64,
+}
+
+impl Model for SureSink {
+    ghost use Rattle.std.specs.Prelude.{ℕ};
+
+    ghost Value = { ℕ };
+
+    ghost view = { λ a. a.count };
+}
+
+impl SureSink {
+    /// A sink that was given nothing yet.
+    pub fn new() -> SureSink
+        ensures { result ≡ 0 }
+    {
+        SureSink { count: 0 }
+    }
+
+    /// How many bytes it was given, but no more than a u64 holds.
+    pub fn count(&self) -> u64
+        ensures { result ≡ self.now }
+    {
+        self.count
+    }
+}
+
+impl Sink for SureSink {
+    ghost use Rattle.st_base.specs.MemoryViews.{TakesAll};
+
+    ghost Beside = { Unit {0} };
+
+    ghost written = { λ s. None };
+
+    ghost faults = { λ s. 0 };
+
+    ghost beside = { λ s. tt };
+
+    fn write(&mut self, bytes: &[u8]) -> Result<usize, Failed>
+        ensures bound { WritesAtMost result bytes.now }
+        ensures bytes { WriteAppends None None result bytes.now }
+        ensures cause { HasWriteCause 0 0 bytes.now result }
+        ensures exact { TakesAll self.old self.new bytes.now result }
+    {
+        self.count = self.count.saturating_add(bytes.len() as u64);
         Ok(bytes.len())
     }
 }
