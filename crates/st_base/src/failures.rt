@@ -1,4 +1,6 @@
 use std::alloc::AllocError;
+use std::fmt::{self, Display, Formatter};
+use std::io;
 
 /// Out of memory. What the call that returns it leaves is said at that call.
 #[derive(Clone, Copy, Debug, PartialEq, Eq)]
@@ -14,3 +16,45 @@ impl From<AllocError> for NoMemory {
 /// called rose in that call.
 #[derive(Clone, Copy, Debug, PartialEq, Eq)]
 pub struct Failed;
+
+/// A call of the system, as an operator reads its name.
+#[derive(Clone, Copy, Debug, PartialEq, Eq)]
+pub enum Call {
+    Read,
+    Write,
+    Flush,
+    Sync,
+    Create,
+    Open,
+    Lock,
+    List,
+    Rename,
+    Remove,
+    MakeFolder,
+}
+
+impl Display for Call {
+    fn fmt<W: fmt::Write>(&self, f: &mut Formatter<W>) -> fmt::Result {
+        f.pad(match self {
+            Call::Read => "read",
+            Call::Write => "write",
+            Call::Flush => "flush",
+            Call::Sync => "sync",
+            Call::Create => "create",
+            Call::Open => "open",
+            Call::Lock => "lock",
+            Call::List => "list",
+            Call::Rename => "rename",
+            Call::Remove => "remove",
+            Call::MakeFolder => "make folder",
+        })
+    }
+}
+
+/// A call of the system that failed, and the system's error. It owns no memory, so it is kept and
+/// shown even where memory has run out.
+#[derive(Clone, Copy, Debug)]
+pub struct CallFailure {
+    pub call: Call,
+    pub error: io::Error,
+}

@@ -3,7 +3,7 @@ ghost use Rattle.st_base.specs.Faults.{HasCause, CountsOne, CountsOn};
 ghost use Rattle.st_base.specs.PlacedReads.{HasPart, ReadsAt, FailsAsKnown};
 ghost use Rattle.st_base.specs.KnownLength.{of_length};
 
-use crate::failures::Failed;
+use crate::failures::{Call, CallFailure, Failed};
 use crate::readers::Reader;
 use std::fs::File;
 use std::io;
@@ -36,6 +36,7 @@ impl PlacedBytes for File {
 }
 
 /// A file of the machine that is read at places, each read by one system call and nothing ahead.
+/// It keeps its first failure.
 ///
 /// Its size is the one that it was handed in with, and a file that turns out shorter fails. Its
 /// content is known if the file's is and has that size, which is never so for a file of the
@@ -47,6 +48,7 @@ pub struct FileReader<F = File> {
     reads: u64,
     asked: u64,
     faults: u64,
+    failure: Option<CallFailure>,
 }
 
 impl<F> FileReader<F> {
@@ -62,7 +64,13 @@ impl<F> FileReader<F> {
             reads: 0,
             asked: 0,
             faults: 0,
+            failure: None,
         }
+    }
+
+    /// The first failure of the file that was counted.
+    pub fn failure(&self) -> Option<CallFailure> {
+        self.failure
     }
 }
 
@@ -109,8 +117,10 @@ impl<F: PlacedBytes> Reader for FileReader<F> {
         let wanted = (out.len() as u64).min(left) as usize;
         match self.file.fill_at(place, out.split_at_mut(wanted).0) {
             Ok(()) => Ok(wanted),
-            Err(_) => {
+            Err(error) => {
+                let call = Call::Read;
                 self.faults = self.faults.saturating_add(1);
+                self.failure = self.failure.or(Some(CallFailure { call, error }));
                 Err(Failed)
             }
         }

@@ -16,7 +16,8 @@
 //!   traits, and their content is known; the clause of its constructor says what each begins as.
 //! - `SureSink` meets its trait, keeps the number of its bytes alone, and never fails.
 //! - `StreamSource`, `StreamSink`, `FileReader` and `MachineClock` meet their traits over std's
-//!   readers, writers, files and clock, and know no more than these do.
+//!   readers, writers, files and clock, and know no more than these do. The first three keep their
+//!   first failure, of which no clause speaks.
 //!
 //! # What it leaves to others
 //!
@@ -48,7 +49,7 @@ mod tests;
 pub use bytes::Octets;
 pub use clocks::Clock;
 pub use damages::Damage;
-pub use failures::{Failed, NoMemory};
+pub use failures::{Call, CallFailure, Failed, NoMemory};
 pub use file_reader::FileReader;
 pub use limits::Limits;
 pub use machine_clock::MachineClock;

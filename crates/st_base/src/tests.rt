@@ -5,7 +5,7 @@ ghost use Rattle.st_base.specs.Outlets.{SentAll};
 use crate::file_reader::PlacedBytes;
 use crate::memory::copy_at;
 use crate::{
-    Clock, Failed, FileReader, MachineClock, MemClock, MemReader, MemSink, MemSource, Octets,
+    Call, Clock, Failed, FileReader, MachineClock, MemClock, MemReader, MemSink, MemSource, Octets,
     Outlet, Plain, Reader, Record, Sink, SliceReader, Source, StreamSink, StreamSource, SureSink,
     SureSource, put, read_whole,
 };
@@ -111,7 +111,7 @@ impl Turns<'_> {
         match *first {
             Turn::BrokenOff => Err(io::Error::from(ErrorKind::Interrupted)),
             Turn::Takes(count) => Ok(count.min(room)),
-            Turn::Fails => Err(io::Error::from(ErrorKind::Other)),
+            Turn::Fails => Err(io::Error::from(ErrorKind::StorageFull)),
         }
     }
 }
@@ -162,6 +162,16 @@ fn a_stream_tries_again_after_a_signal_and_counts_each_failure_once(
     assert_eq!(rt; flushed.flush(), Ok(()));
     assert_eq!(rt; flushed.flush(), Err(Failed));
     assert_eq!(rt; flushed.flush(), Ok(()));
+    // Each keeps the first failure, whose words are an operator's.
+    let kept = [source.failure(), sink.failure(), flushed.failure()];
+    for (kept, call) in kept.into_iter().zip(["read", "write", "flush"]) {
+        let told = match kept {
+            Some(kept) => format!(in rt.alloc(); "{}: {}", kept.call, kept.error)?,
+            None => String::new(rt.alloc()),
+        };
+        let wanted = format!(in rt.alloc(); "{call}: {}", ErrorKind::StorageFull)?;
+        assert_eq!(rt; told, wanted);
+    }
     Ok(())
 }
 
@@ -206,7 +216,10 @@ fn a_file_is_read_at_places(rt: HostRuntime) -> Result<(), Fail> {
     );
     assert_eq!(rt; short.read_at(6, &mut out), Ok(4));
     assert_eq!(rt; out.as_slice(), b"6789".as_slice());
+    assert!(rt; short.failure().is_none());
     assert_eq!(rt; short.read_at(7, &mut out), Err(Failed));
+    let kept = short.failure().map(|kept| (kept.call, kept.error.kind()));
+    assert_eq!(rt; kept, Some((Call::Read, ErrorKind::UnexpectedEof)));
     // Each program of the machine begins with the same four bytes.
     let mut shell = FileReader::over(File::open(&rt, "/bin/sh")?, 4);
     assert_eq!(rt; shell.read_at(1, out.split_at_mut(3).0), Ok(3));
