@@ -1,6 +1,6 @@
 -- A run of calls, one call after the other, whether it succeeded or not.
-use Rattle.std.proofs.Common.{◌≡◌, ◌≤◌, ◌+◌, ℕ, List, [], ◌∷◌, ◌++◌, length, Option, None, Some, Result, Ok, Err, refl, sym, ◌∙◌, ap, subst, inl, inr, ⊎_elim, arith, length-append, append_assoc}
-use Rattle.std.proofs.lemmas.List.{take_all, append-nil}
+use Rattle.std.proofs.Common.{◌≡◌, ◌≤◌, ◌+◌, ℕ, List, [], ◌∷◌, ◌++◌, length, take, Option, None, Some, Result, Ok, Err, refl, sym, ◌∙◌, ap, subst, inl, inr, ⊎_elim, arith, length-append, append_assoc}
+use Rattle.std.proofs.lemmas.List.{take_all, append-nil, take-append-le}
 use Rattle.st_disk.specs.declared.naming.Kind.{Kind}
 use Rattle.st_disk.specs.declared.naming.Kind.TheVariants as kind
 use Rattle.st_disk.specs.declared.naming.Name.{Name}
@@ -11,13 +11,42 @@ use Rattle.st_disk.specs.declared.changes.Call.{Call}
 use Rattle.st_disk.specs.declared.changes.Call.TheVariants.{Did, Flush, Other}
 use Rattle.st_disk.specs.Names.{kind_of}
 use Rattle.st_disk.specs.Folders.{Folder, apply, where_there, given}
-use Rattle.st_disk.specs.Disks.{Log, reads, Leaves, and_then, moment, Since, log_of}
+use Rattle.st_disk.specs.Disks.{Log, reads, Leaves, and_then, moment, at_moment, Since, log_of}
 use Rattle.st_disk.specs.Events.{Event, Publish, Remove, call_events, events}
 use Rattle.st_disk.specs.LoggedCalls.{Adds, Looks, Does, removal, Abandons, Reads, KnownBefore}
-use Rattle.st_disk.specs.Runs.{Each, LeavesOnly, Ran}
+use Rattle.st_disk.specs.Runs.{Each, Grew, LeavesOnly, Ran}
 use Rattle.st_disk.proofs.Images.{leaves_did, leaves_flush, leaves_other}
 use Rattle.st_disk.proofs.Eventful.{events_then}
 use Rattle.st_disk.proofs.Moments.{since_then}
+
+-- a log is itself with no call more
+pub grew_none : (log : Log) → Grew log log
+grew_none log = record { blocks = refl; indexes = refl; more = []; calls = sym (append-nil log.calls) }
+
+pub grew_call : (old mid : Log) (call : Call) → Grew old mid → Grew old (and_then mid call)
+grew_call old mid call grew = record {
+  blocks = grew.blocks;
+  indexes = grew.indexes;
+  more = grew.more ++ call ∷ [];
+  calls = ap (λ (cs : List Call). cs ++ call ∷ []) grew.calls ∙ append_assoc old.calls grew.more (call ∷ []);
+}
+
+pub grew_then : (a b c : Log) → Grew a b → Grew b c → Grew a c
+grew_then a b c one two = record {
+  blocks = two.blocks ∙ one.blocks;
+  indexes = two.indexes ∙ one.indexes;
+  more = one.more ++ two.more;
+  calls = two.calls ∙ ap (λ (cs : List Call). cs ++ two.more) one.calls ∙ append_assoc a.calls one.more two.more;
+}
+
+-- at the moments of a log a later one is the same
+pub grew_moment : (m : ℕ) (old new : Log) → m ≤ moment old → Grew old new → at_moment m new ≡ at_moment m old
+grew_moment m old new le grew =
+    let calls : take m new.calls ≡ take m old.calls = ap (take m) grew.calls ∙ take-append-le m old.calls grew.more le in
+    λ i. log_of (grew.blocks i) (grew.indexes i) (calls i)
+
+pub grew_later : (old new : Log) → Grew old new → moment old ≤ moment new
+grew_later old new grew = let longer : length new.calls ≡ length old.calls + length grew.more = ap length grew.calls ∙ length-append old.calls grew.more in omega arith
 
 -- since now there is no moment but now
 pub since_only_now : (log : Log) (c : Folder) → Since log (moment log) c → Leaves log c
@@ -25,11 +54,12 @@ since_only_now log c s = subst (λ (cs : List Call). Leaves (log_of log.start_bl
 
 -- before the first call
 pub started : (log : Log) (P : Folder → Type 0) → Each log P → LeavesOnly log log P
-started log P here = record { later = omega arith; since = λ c s. here c (since_only_now log c s); before = λ t c le s. inl s }
+started log P here = record { grew = grew_none log; later = omega arith; since = λ c s. here c (since_only_now log c s); before = λ t c le s. inl s }
 
 -- one call more
 pub goes_on : (old mid : Log) (call : Call) (P : Folder → Type 0) → LeavesOnly old mid P → Each (and_then mid call) P → LeavesOnly old (and_then mid call) P
 goes_on old mid call P so_far here = record {
+  grew = grew_call old mid call so_far.grew;
   later = let longer : length (mid.calls ++ call ∷ []) ≡ length mid.calls + 1 = length-append mid.calls (call ∷ []) in let was : length old.calls ≤ length mid.calls = so_far.later in omega arith;
   since = λ c s. ⊎_elim (λ was. so_far.since c was) (λ now. here c now) (since_then mid call (moment old) c s);
   before = λ t c le s. ⊎_elim (λ was. so_far.before t c le was) (λ now. inr (here c now)) (since_then mid call t c s);
@@ -37,6 +67,7 @@ goes_on old mid call P so_far here = record {
 
 pub weaken : (old new : Log) (P S : Folder → Type 0) → ((c : Folder) → P c → S c) → LeavesOnly old new P → LeavesOnly old new S
 weaken old new P S gives only = record {
+  grew = only.grew;
   later = only.later;
   since = λ c s. gives c (only.since c s);
   before = λ t c le s. ⊎_elim (λ was. inl was) (λ has. inr (gives c has)) (only.before t c le s);
@@ -45,6 +76,7 @@ weaken old new P S gives only = record {
 -- calls after calls
 pub only_then : (a b c : Log) (P : Folder → Type 0) → LeavesOnly a b P → LeavesOnly b c P → LeavesOnly a c P
 only_then a b c P one two = record {
+  grew = grew_then a b c one.grew two.grew;
   later = let x : length a.calls ≤ length b.calls = one.later in let y : length b.calls ≤ length c.calls = two.later in omega arith;
   since = λ f s. ⊎_elim (λ was. one.since f was) (λ has. has) (two.before (moment a) f one.later s);
   before = λ t f le s. ⊎_elim (λ was. one.before t f le was) (λ has. inr has) (two.before t f (let x : length a.calls ≤ length b.calls = one.later in omega arith) s);
