@@ -11,10 +11,10 @@ use Rattle.st_disk.specs.declared.changes.Call.{Call}
 use Rattle.st_disk.specs.declared.changes.Call.TheVariants.{Did, Flush, Other}
 use Rattle.st_disk.specs.Names.{kind_of}
 use Rattle.st_disk.specs.Folders.{Folder, apply, where_there, given}
-use Rattle.st_disk.specs.Disks.{Log, reads, Leaves, and_then, moment, at_moment, Since, log_of}
+use Rattle.st_disk.specs.Disks.{Log, Grew, reads, Leaves, and_then, moment, at_moment, Since, log_of}
 use Rattle.st_disk.specs.Events.{Event, Publish, Remove, call_events, events}
 use Rattle.st_disk.specs.LoggedCalls.{Adds, Looks, Does, removal, Abandons, Reads, KnownBefore}
-use Rattle.st_disk.specs.Runs.{Each, Grew, LeavesOnly, Ran}
+use Rattle.st_disk.specs.Runs.{Each, LeavesOnly, Ran}
 use Rattle.st_disk.proofs.Images.{leaves_did, leaves_flush, leaves_other}
 use Rattle.st_disk.proofs.Eventful.{events_then}
 use Rattle.st_disk.proofs.Moments.{since_then}
@@ -92,17 +92,17 @@ known_before None new call now is adds = absurd (cc)
 known_before (Some log) new call now is adds = (log, refl, cc)
 
 pub known_adds : (old new : Option Log) (call : Call) → Adds old new call → KnownBefore old new
-known_adds old new call adds log is = let was = known_before old new call log is adds in (was.0, was.1)
+known_adds old new call adds log is = let was = known_before old new call log is adds in (was.0, was.1, subst (λ (l : Log). Grew was.0 l) (sym was.2) (grew_call was.0 was.0 call (grew_none was.0)))
 
 pub known_looks : (old new : Option Log) → Looks old new → KnownBefore old new
-known_looks old new looks = ⊎_elim (λ adds. known_adds old new Other adds) (λ full. λ log is. (log, sym full.1 ∙ is)) looks
+known_looks old new looks = ⊎_elim (λ adds. known_adds old new Other adds) (λ full. λ log is. (log, sym full.1 ∙ is, grew_none log)) looks
 
 pub known_does : {T E : Type 0} (old new : Option Log) (r : Result T E) (call : Call) → Does old new r (λ _. call) → KnownBefore old new
 known_does {T = T} {E = E} old new (Ok v) call does = known_adds old new call does
 known_does {T = T} {E = E} old new (Err e) call does = known_looks old new does
 
 pub known_then : (a b c : Option Log) → KnownBefore a b → KnownBefore b c → KnownBefore a c
-known_then a b c one two log is = let mid = two log is in one mid.0 mid.1
+known_then a b c one two log is = let mid = two log is in let was = one mid.0 mid.1 in (was.0, was.1, grew_then was.0 mid.0 log was.2 mid.2)
 
 -- each image after a call
 pub each_other : (Q : Folder → Type 0) (log : Log) → Each log Q → Each (and_then log Other) Q

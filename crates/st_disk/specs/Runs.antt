@@ -1,20 +1,12 @@
 -- A run of calls: what every crash since its first moment leaves, and what it did to the pairs.
 use Rattle.std.specs.Prelude.{◌≡◌, ◌≤◌, ◌⊎◌, ◌++◌, ℕ, List, Option, Some}
 use Rattle.st_disk.specs.Folders.{Folder}
-use Rattle.st_disk.specs.declared.changes.Call.{Call}
-use Rattle.st_disk.specs.Disks.{Log, Leaves, moment, Since}
+use Rattle.st_disk.specs.Disks.{Log, Grew, Leaves, moment, Since}
 use Rattle.st_disk.specs.Events.{Event, events}
 
 -- each image that a crash now may leave has this
 abbrev pub Each : Log → (Folder → Type 0) → Type 0
 Each log Q = (c : Folder) → Leaves log c → Q c
-
--- The second log is the first with calls more. So at the moments of the first both are one log.
-pub record Grew (old new : Log) : Type 0 where
-  pub blocks : new.start_blocks ≡ old.start_blocks
-  pub indexes : new.start_indexes ≡ old.start_indexes
-  pub more : List Call
-  pub calls : new.calls ≡ old.calls ++ more
 
 -- a crash at any moment from the first log on, to the second, leaves what has P
 pub record LeavesOnly (old new : Log) (P : Folder → Type 0) : Type 0 where
