@@ -1,6 +1,6 @@
 -- A run of calls, one call after the other, whether it succeeded or not.
-use Rattle.std.proofs.Common.{◌≡◌, ◌≤◌, ◌+◌, ℕ, List, [], ◌∷◌, ◌++◌, length, Option, None, Some, Result, Ok, Err, refl, sym, ◌∙◌, ap, subst, inl, inr, ⊎_elim, arith, length-append, append_assoc}
-use Rattle.std.proofs.lemmas.List.{take_all, append-nil}
+use Rattle.std.proofs.Common.{◌≡◌, ◌≤◌, ◌+◌, ℕ, List, [], ◌∷◌, ◌++◌, length, take, Option, None, Some, Result, Ok, Err, refl, sym, ◌∙◌, ap, subst, inl, inr, ⊎_elim, arith, length-append, append_assoc}
+use Rattle.std.proofs.lemmas.List.{take_all, append-nil, take-append-le}
 use Rattle.st_disk.specs.declared.naming.Kind.{Kind}
 use Rattle.st_disk.specs.declared.naming.Kind.TheVariants as kind
 use Rattle.st_disk.specs.declared.naming.Name.{Name}
@@ -11,7 +11,7 @@ use Rattle.st_disk.specs.declared.changes.Call.{Call}
 use Rattle.st_disk.specs.declared.changes.Call.TheVariants.{Did, Flush, Other}
 use Rattle.st_disk.specs.Names.{kind_of}
 use Rattle.st_disk.specs.Folders.{Folder, apply, where_there, given}
-use Rattle.st_disk.specs.Disks.{Log, reads, Leaves, and_then, moment, Since, log_of}
+use Rattle.st_disk.specs.Disks.{Log, Grew, reads, Leaves, and_then, moment, at_moment, Since, log_of}
 use Rattle.st_disk.specs.Events.{Event, Publish, Remove, call_events, events}
 use Rattle.st_disk.specs.LoggedCalls.{Adds, Looks, Does, removal, Abandons, Reads, KnownBefore}
 use Rattle.st_disk.specs.Runs.{Each, LeavesOnly, Ran}
@@ -19,17 +19,47 @@ use Rattle.st_disk.proofs.Images.{leaves_did, leaves_flush, leaves_other}
 use Rattle.st_disk.proofs.Eventful.{events_then}
 use Rattle.st_disk.proofs.Moments.{since_then}
 
+-- a log is itself with no call more
+pub grew_none : (log : Log) → Grew log log
+grew_none log = record { blocks = refl; indexes = refl; more = []; calls = sym (append-nil log.calls) }
+
+pub grew_call : (old mid : Log) (call : Call) → Grew old mid → Grew old (and_then mid call)
+grew_call old mid call grew = record {
+  blocks = grew.blocks;
+  indexes = grew.indexes;
+  more = grew.more ++ call ∷ [];
+  calls = ap (λ (cs : List Call). cs ++ call ∷ []) grew.calls ∙ append_assoc old.calls grew.more (call ∷ []);
+}
+
+pub grew_then : (a b c : Log) → Grew a b → Grew b c → Grew a c
+grew_then a b c one two = record {
+  blocks = two.blocks ∙ one.blocks;
+  indexes = two.indexes ∙ one.indexes;
+  more = one.more ++ two.more;
+  calls = two.calls ∙ ap (λ (cs : List Call). cs ++ two.more) one.calls ∙ append_assoc a.calls one.more two.more;
+}
+
+-- at the moments of a log a later one is the same
+pub grew_moment : (m : ℕ) (old new : Log) → m ≤ moment old → Grew old new → at_moment m new ≡ at_moment m old
+grew_moment m old new le grew =
+    let calls : take m new.calls ≡ take m old.calls = ap (take m) grew.calls ∙ take-append-le m old.calls grew.more le in
+    λ i. log_of (grew.blocks i) (grew.indexes i) (calls i)
+
+pub grew_later : (old new : Log) → Grew old new → moment old ≤ moment new
+grew_later old new grew = let longer : length new.calls ≡ length old.calls + length grew.more = ap length grew.calls ∙ length-append old.calls grew.more in omega arith
+
 -- since now there is no moment but now
 pub since_only_now : (log : Log) (c : Folder) → Since log (moment log) c → Leaves log c
 since_only_now log c s = subst (λ (cs : List Call). Leaves (log_of log.start_blocks log.start_indexes cs) c) (take_all s.0 log.calls s.1) s.3
 
 -- before the first call
 pub started : (log : Log) (P : Folder → Type 0) → Each log P → LeavesOnly log log P
-started log P here = record { later = omega arith; since = λ c s. here c (since_only_now log c s); before = λ t c le s. inl s }
+started log P here = record { grew = grew_none log; later = omega arith; since = λ c s. here c (since_only_now log c s); before = λ t c le s. inl s }
 
 -- one call more
 pub goes_on : (old mid : Log) (call : Call) (P : Folder → Type 0) → LeavesOnly old mid P → Each (and_then mid call) P → LeavesOnly old (and_then mid call) P
 goes_on old mid call P so_far here = record {
+  grew = grew_call old mid call so_far.grew;
   later = let longer : length (mid.calls ++ call ∷ []) ≡ length mid.calls + 1 = length-append mid.calls (call ∷ []) in let was : length old.calls ≤ length mid.calls = so_far.later in omega arith;
   since = λ c s. ⊎_elim (λ was. so_far.since c was) (λ now. here c now) (since_then mid call (moment old) c s);
   before = λ t c le s. ⊎_elim (λ was. so_far.before t c le was) (λ now. inr (here c now)) (since_then mid call t c s);
@@ -37,6 +67,7 @@ goes_on old mid call P so_far here = record {
 
 pub weaken : (old new : Log) (P S : Folder → Type 0) → ((c : Folder) → P c → S c) → LeavesOnly old new P → LeavesOnly old new S
 weaken old new P S gives only = record {
+  grew = only.grew;
   later = only.later;
   since = λ c s. gives c (only.since c s);
   before = λ t c le s. ⊎_elim (λ was. inl was) (λ has. inr (gives c has)) (only.before t c le s);
@@ -45,6 +76,7 @@ weaken old new P S gives only = record {
 -- calls after calls
 pub only_then : (a b c : Log) (P : Folder → Type 0) → LeavesOnly a b P → LeavesOnly b c P → LeavesOnly a c P
 only_then a b c P one two = record {
+  grew = grew_then a b c one.grew two.grew;
   later = let x : length a.calls ≤ length b.calls = one.later in let y : length b.calls ≤ length c.calls = two.later in omega arith;
   since = λ f s. ⊎_elim (λ was. one.since f was) (λ has. has) (two.before (moment a) f one.later s);
   before = λ t f le s. ⊎_elim (λ was. one.before t f le was) (λ has. inr has) (two.before t f (let x : length a.calls ≤ length b.calls = one.later in omega arith) s);
@@ -60,17 +92,17 @@ known_before None new call now is adds = absurd (cc)
 known_before (Some log) new call now is adds = (log, refl, cc)
 
 pub known_adds : (old new : Option Log) (call : Call) → Adds old new call → KnownBefore old new
-known_adds old new call adds log is = let was = known_before old new call log is adds in (was.0, was.1)
+known_adds old new call adds log is = let was = known_before old new call log is adds in (was.0, was.1, subst (λ (l : Log). Grew was.0 l) (sym was.2) (grew_call was.0 was.0 call (grew_none was.0)))
 
 pub known_looks : (old new : Option Log) → Looks old new → KnownBefore old new
-known_looks old new looks = ⊎_elim (λ adds. known_adds old new Other adds) (λ full. λ log is. (log, sym full.1 ∙ is)) looks
+known_looks old new looks = ⊎_elim (λ adds. known_adds old new Other adds) (λ full. λ log is. (log, sym full.1 ∙ is, grew_none log)) looks
 
 pub known_does : {T E : Type 0} (old new : Option Log) (r : Result T E) (call : Call) → Does old new r (λ _. call) → KnownBefore old new
 known_does {T = T} {E = E} old new (Ok v) call does = known_adds old new call does
 known_does {T = T} {E = E} old new (Err e) call does = known_looks old new does
 
 pub known_then : (a b c : Option Log) → KnownBefore a b → KnownBefore b c → KnownBefore a c
-known_then a b c one two log is = let mid = two log is in one mid.0 mid.1
+known_then a b c one two log is = let mid = two log is in let was = one mid.0 mid.1 in (was.0, was.1, grew_then was.0 mid.0 log was.2 mid.2)
 
 -- each image after a call
 pub each_other : (Q : Folder → Type 0) (log : Log) → Each log Q → Each (and_then log Other) Q

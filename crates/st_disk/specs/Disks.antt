@@ -88,3 +88,10 @@ at_moment k log =
 -- a crash at some moment from t on might have left this
 abbrev pub Since : Log → ℕ → Folder → Type 0
 Since log t c = (k : ℕ) × (t ≤ k) × (k ≤ moment log) × Leaves (at_moment k log) c
+
+-- The second log is the first with calls more. At the moments of the first both are one.
+pub record Grew (old new : Log) : Type 0 where
+  pub blocks : new.start_blocks ≡ old.start_blocks
+  pub indexes : new.start_indexes ≡ old.start_indexes
+  pub more : List Call
+  pub calls : new.calls ≡ old.calls ++ more

@@ -8,7 +8,7 @@ use Rattle.st_disk.specs.declared.changes.Change.TheVariants.{Remove}
 use Rattle.st_disk.specs.declared.changes.Call.{Call}
 use Rattle.st_disk.specs.declared.changes.Call.TheVariants.{Did, Other}
 use Rattle.st_disk.specs.Folders.{Folder, where_there}
-use Rattle.st_disk.specs.Disks.{Log, reads, Leaves, and_then, moment}
+use Rattle.st_disk.specs.Disks.{Log, Grew, reads, Leaves, and_then, moment}
 
 -- the log has this call more; a log that isn't known stays so
 abbrev pub Adds : Option Log → Option Log → Call → Type 0
@@ -43,9 +43,9 @@ abbrev pub Abandons : Option Log → Option Log → Name → ℕ → ℕ → ℕ
 Abandons old new n own before now =
     (Adds old new (removal old n) × (own ≡ 0 → now ≡ before)) ⊎ (Looks old new × Rose before now)
 
--- a log that is known after a call was known before it
+-- a log that is known after some calls was known before them, and has grown
 abbrev pub KnownBefore : Option Log → Option Log → Type 0
-KnownBefore old new = (log : Log) → new ≡ Some log → (was : Log) × (old ≡ Some was)
+KnownBefore old new = (log : Log) → new ≡ Some log → (was : Log) × (old ≡ Some was) × Grew was log
 
 -- a call that leaves what is read under the name
 abbrev pub Spares : Call → Name → Type 0

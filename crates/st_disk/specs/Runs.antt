@@ -1,7 +1,7 @@
 -- A run of calls: what every crash since its first moment leaves, and what it did to the pairs.
 use Rattle.std.specs.Prelude.{◌≡◌, ◌≤◌, ◌⊎◌, ◌++◌, ℕ, List, Option, Some}
 use Rattle.st_disk.specs.Folders.{Folder}
-use Rattle.st_disk.specs.Disks.{Log, Leaves, moment, Since}
+use Rattle.st_disk.specs.Disks.{Log, Grew, Leaves, moment, Since}
 use Rattle.st_disk.specs.Events.{Event, events}
 
 -- each image that a crash now may leave has this
@@ -10,6 +10,7 @@ Each log Q = (c : Folder) → Leaves log c → Q c
 
 -- a crash at any moment from the first log on, to the second, leaves what has P
 pub record LeavesOnly (old new : Log) (P : Folder → Type 0) : Type 0 where
+  pub grew : Grew old new
   pub later : moment old ≤ moment new
   pub since : (c : Folder) → Since new (moment old) c → P c
   -- for a run that began earlier

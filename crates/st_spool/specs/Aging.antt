@@ -5,8 +5,11 @@ use Rattle.st_disk.specs.Pairs.{Entry, Files, files_of}
 use Rattle.st_disk.specs.Events.{Event, Remove}
 use Rattle.st_spool.specs.States.{SpoolState}
 use Rattle.st_spool.specs.Standing.{StandsFor}
+use Rattle.st_spool.specs.Placing.{FailsToHide}
 use Rattle.st_spool.specs.Publishing.{failed, RanTo, Fails}
-use Rattle.st_spool.specs.declared.state.Doubt.TheVariants.{Unhidden, Hidden}
+use Rattle.st_spool.specs.declared.state.Doubt.{Doubt}
+use Rattle.st_spool.specs.declared.state.Doubt.TheVariants.{Nothing, Unsettled, Settled, Unhidden, Hidden}
+use Rattle.st_spool.specs.declared.settling.Stopped.TheVariants.{Before, After}
 use Rattle.st_spool.specs.declared.refusals.AgeErr.{AgeErr}
 use Rattle.st_spool.specs.declared.refusals.AgeErr.TheVariants.{DiskFault, Halted}
 
@@ -32,6 +35,21 @@ pub record Removes (IsWhole : List ℕ → List ℕ → Type 0) (old new : Optio
   pub stands : StandsFor IsWhole new st earlier (h ++ Remove e.stamp ∷ []) f
   pub images : (first : Log) → old ≡ Some first → RanTo first new h (Remove e.stamp)
 
+-- where an ageing that failed was stopped, by the event in doubt
+abbrev pub StoppedBy : Option Log → Option Log → Doubt → Type 0
+StoppedBy old new Nothing = ⊥
+StoppedBy old new (Unsettled t) = ⊥
+StoppedBy old new (Settled t) = ⊥
+StoppedBy old new (Unhidden t) = FailsToHide old new t Before
+StoppedBy old new (Hidden t) = FailsToHide old new t After
+
+-- An ageing that failed: the spool stands for the history as before, and the call that failed was
+-- one that parks the index or makes that durable, not the removal of a file.
+pub record FailsToAge (IsWhole : List ℕ → List ℕ → Type 0) (old new : Option Log) (st : SpoolState)
+    (earlier h : List Event) (e : Entry) : Type 0 where
+  pub fails : Fails IsWhole old new st earlier h (files_of e)
+  pub stopped : StoppedBy old new st.doubt
+
 -- an ageing of a spool whose oldest pair is this one
 abbrev pub Ages :
     (List ℕ → List ℕ → Type 0) → Option Log → Option Log → SpoolState → List Event → List Event
@@ -39,7 +57,7 @@ abbrev pub Ages :
 Ages IsWhole old new st earlier h e f (Ok true) = Removes IsWhole old new st earlier h e f
 Ages IsWhole old new st earlier h e f (Ok false) = ⊥
 Ages IsWhole old new st earlier h e f (Err DiskFault) =
-    Fails IsWhole old new st earlier h (files_of e)
+    FailsToAge IsWhole old new st earlier h e
 Ages IsWhole old new st earlier h e f (Err (Halted since)) = ⊥
 
 -- the state after it, with the shelf's count of faults

@@ -7,13 +7,14 @@ use Rattle.st_disk.specs.declared.changes.Call.TheVariants.{Flush}
 use Rattle.st_disk.specs.Names.{number_of}
 use Rattle.st_disk.specs.Folders.{Folder}
 use Rattle.st_disk.specs.Disks.{Log, reads, Leaves, and_then}
-use Rattle.st_disk.specs.LoggedCalls.{Reads}
+use Rattle.st_disk.specs.LoggedCalls.{Looks, Reads}
 use Rattle.st_disk.specs.Runs.{Ran}
 use Rattle.st_disk.specs.Pairs.{Entry, Files, PairsIn, both}
 use Rattle.st_disk.specs.Events.{Found, events}
 use Rattle.st_spool.specs.Rows.{Row, Past, Lone, Both}
 use Rattle.st_spool.specs.States.{SpoolState}
 use Rattle.st_spool.specs.Standing.{StandsFor}
+use Rattle.st_spool.specs.Recalling.{history}
 use Rattle.st_spool.specs.declared.state.Doubt.TheVariants as doubt
 
 -- the second where the first is there
@@ -90,10 +91,16 @@ pub record Clears (first : Log) (known : Option Log) (Q : Folder → Type 0) : T
   pub flushed : Ran first (Some (flushed_log first)) [] (Leaves first) (Is (reads first))
   pub cleared : Ran (flushed_log first) known [] (SamePairs (reads first)) Q
 
--- an opening that failed: before both folders were flushed, or after
+-- One of the two flushes failed, and no other call was made: the block folder was not flushed, or
+-- the index folder after it. Each crash leaves an image that the shelf had at first.
+pub record FailsToFlush (first : Log) (known : Option Log) : Type 0 where
+  pub calls : Looks (Some first) known ⊎ Looks (Some (and_then first (Flush kind.Block))) known
+  pub images : Ran first known [] (Leaves first) (Leaves first)
+
+-- an opening that failed: as it flushed both folders, or after
 abbrev pub FailsToEnter : Log → Option Log → Type 0
 FailsToEnter first known =
-    Ran first known [] (Leaves first) (Leaves first) ⊎ Clears first known (SamePairs (reads first))
+    FailsToFlush first known ⊎ Clears first known (SamePairs (reads first))
 
 -- an opening found the pairs of these stamps and this greatest stamp, and cleared the folders
 pub record Opens (first : Log) (known : Option Log) (stamps : List ℕ) (last : ℕ) : Type 0 where
@@ -106,6 +113,7 @@ abbrev pub opened : ℕ → List ℕ → ℕ → SpoolState
 opened limit stamps last = record {
   limit = limit;
   stamps = stamps;
+  found = length stamps;
   removed = 0;
   swept = 0;
   last = last;
@@ -124,5 +132,6 @@ pub record Enters (IsWhole : List ℕ → List ℕ → Type 0) (first : Log) (kn
   pub pairs : List Entry
   pub found : PairsIn (reads first) pairs
   pub stands : (f : Files) → StandsFor IsWhole known st (events first) (Found pairs ∷ []) f
+  pub history : (now : Log) → known ≡ Some now → history st now now ≡ Found pairs ∷ []
   pub last : IsLastStamp (λ n. IsSome (reads first n)) st.last
   pub images : Clears first known (Is (pairs_alone (reads first)))

@@ -3,6 +3,7 @@ pub mod Rows
 pub mod Placing
 pub mod States
 pub mod Standing
+pub mod Recalling
 pub mod Publishing
 pub mod Aging
 pub mod Refusing
@@ -10,5 +11,6 @@ pub mod Holding
 pub mod Lending
 pub mod Histories
 pub mod Entering
+pub mod Covers
 pub use Rattle.st_disk.specs.Events
 pub use Rattle.st_disk.specs.Pairs

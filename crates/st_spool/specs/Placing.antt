@@ -1,9 +1,11 @@
 -- What is left of a publication and of a removal, whether it succeeded or not.
-use Rattle.std.specs.Prelude.{◌≡◌, ℕ, List, [], ◌∷◌, Option, None, Result, Ok, Err}
-use Rattle.st_disk.specs.declared.naming.Name.TheVariants.{Index}
+use Rattle.std.specs.Prelude.{◌≡◌, ℕ, List, [], ◌∷◌, Option, None, Some, Result, Ok, Err}
+use Rattle.st_disk.specs.declared.naming.Name.TheVariants.{Block, Index}
+use Rattle.st_disk.specs.declared.changes.Call.TheVariants.{Did}
+use Rattle.st_disk.specs.declared.changes.Change.TheVariants.{Hide}
 use Rattle.st_disk.specs.Disks.{Log}
 use Rattle.st_disk.specs.Events.{Publish, Remove}
-use Rattle.st_disk.specs.LoggedCalls.{Reads}
+use Rattle.st_disk.specs.LoggedCalls.{Adds, Looks, Reads}
 use Rattle.st_disk.specs.Pairs.{Entry, Files}
 use Rattle.st_spool.specs.Rows.{Row, Half, Coming, Pair, Going, Held, set_row, RanBy}
 use Rattle.st_spool.specs.declared.settling.Stopped.{Stopped}
@@ -18,7 +20,8 @@ abbrev pub entry : ℕ → Files → Entry
 entry s f = record { stamp = s; block = f.block; index = f.index }
 
 -- The files of a pair were settled under a stamp that was free. At Ok each crash leaves the pair; a
--- call that was stopped before it settled the block leaves at most half of it.
+-- call that was stopped before it settled the block leaves at most half of it, and one that was
+-- stopped later leaves both files as they are read.
 abbrev pub Placed : Log → Option Log → (ℕ → Row) → ℕ → Files → Result (Unit {0}) Stopped → Type 0
 Placed first new rows t f (Ok v) =
     RanBy first new (Publish (entry t f) ∷ []) (set_row rows t (Coming f)) (set_row rows t (Pair f))
@@ -27,6 +30,7 @@ Placed first new rows t f (Err Before) =
 Placed first new rows t f (Err After) =
     RanBy first new (Publish (entry t f) ∷ []) (set_row rows t (Coming f))
     (set_row rows t (Coming f))
+    × Reads new (Block t) (λ v. v ≡ Some f.block) × Reads new (Index t) (λ v. v ≡ Some f.index)
 
 -- The index of a pair was parked. At Ok no crash leaves the pair; a call that was stopped before it
 -- hid the index changed nothing.
@@ -37,3 +41,10 @@ Hidden first new rows t f (Err Before) = RanBy first new [] rows rows
 Hidden first new rows t f (Err After) =
     RanBy first new (Remove t ∷ []) (set_row rows t (Going f)) (set_row rows t (Going f))
     × Reads new (Index t) (λ v. v ≡ None)
+
+-- Which calls there were where the index of a pair was not parked for good: one that failed to park
+-- it; or the index was parked, and one call failed after it. There was no other call.
+abbrev pub FailsToHide : Option Log → Option Log → ℕ → Stopped → Type 0
+FailsToHide old new t Before = Looks old new
+FailsToHide old new t After =
+    (parked : Option Log) × Adds old parked (Did (Hide t)) × Looks parked new

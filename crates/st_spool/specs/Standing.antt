@@ -1,6 +1,5 @@
 -- The history that a spool stands for.
 use Rattle.std.specs.Prelude.{◌≡◌, ◌<◌, ◌≤◌, ℕ, List, [], ◌∷◌, ◌++◌, length, drop, map, Option, None, Some, ⊤}
-use Rattle.st_disk.specs.declared.naming.Name.TheVariants.{Index}
 use Rattle.st_disk.specs.Folders.{Folder}
 use Rattle.st_disk.specs.Disks.{Log, reads}
 use Rattle.st_disk.specs.Runs.{Each}
@@ -9,7 +8,7 @@ use Rattle.st_disk.specs.Events.{Event, Found, Publish, Remove, events}
 use Rattle.st_spool.specs.Rows.{Has, Either}
 use Rattle.st_spool.specs.History.{set_of, entries_of, Legal}
 use Rattle.st_spool.specs.Placing.{entry}
-use Rattle.st_spool.specs.States.{SpoolState, rows_by, MayBe, AreUpTo, IsWithin, AreWithin}
+use Rattle.st_spool.specs.States.{SpoolState, rows_by, read_rows, MayBe, AreUpTo, IsWithin, AreWithin}
 use Rattle.st_spool.specs.declared.state.Doubt.{Doubt}
 use Rattle.st_spool.specs.declared.state.Doubt.TheVariants.{Nothing, Unsettled, Settled, Unhidden, Hidden}
 
@@ -44,14 +43,6 @@ PublishWhole IsWhole (Found es ∷ h) = PublishWhole IsWhole h
 PublishWhole IsWhole (Publish e ∷ h) = IsWhole e.block e.index × PublishWhole IsWhole h
 PublishWhole IsWhole (Remove s ∷ h) = PublishWhole IsWhole h
 
--- the index of a removal in doubt, if it was hidden, is not read
-abbrev pub IsHidden : Doubt → Folder → Type 0
-IsHidden Nothing f = ⊤
-IsHidden (Unsettled t) f = ⊤
-IsHidden (Settled t) f = ⊤
-IsHidden (Unhidden t) f = ⊤
-IsHidden (Hidden t) f = f (Index t) ≡ None
-
 -- a folder has the pairs of a history, or of the history with a further event, if there is one
 abbrev pub Gives : List Event → List Event → Folder → Type 0
 Gives h [] c = PairsIn c (set_of h)
@@ -71,13 +62,16 @@ pub record OnDisk (IsWhole : List ℕ → List ℕ → Type 0) (log : Log) (st :
   -- doubt just if the failed call settled its block or hid its index
   pub past : events log ≡ earlier ++ (after_found h ++ begun st.doubt f)
   pub whole : PublishWhole IsWhole (h ++ in_doubt st.doubt f)
-  pub hidden : IsHidden st.doubt (reads log)
+  -- what is read under the names of each stamp, that of the doubt among them
+  pub read : Has (read_rows st f (entries_of h)) (reads log)
 
 -- A spool with this state, over a shelf of this log, whose events before the opening are given,
 -- stands for the history h; these are the files of the pair in doubt.
 pub record StandsFor (IsWhole : List ℕ → List ℕ → Type 0) (known : Option Log) (st : SpoolState)
     (earlier h : List Event) (f : Files) : Type 0 where
+  -- with the event in doubt, if there is one, this is a history too
   pub legal : Legal st.limit h
+  pub more : Legal st.limit (h ++ in_doubt st.doubt f)
   -- what is kept of the history
   pub stamps : map stamp_of (entries_of h) ≡ st.stamps
   pub set : set_of h ≡ drop st.removed (entries_of h)

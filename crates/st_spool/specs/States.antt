@@ -9,13 +9,15 @@ use Rattle.st_spool.specs.declared.state.Span.{Span}
 use Rattle.st_spool.specs.declared.state.Doubt.{Doubt}
 use Rattle.st_spool.specs.declared.state.Doubt.TheVariants.{Nothing, Unsettled, Settled, Unhidden, Hidden}
 
--- The limit in pairs; the stamps of all pairs that were found or published, in order, of which so
--- many, the first ones, were removed, and of these so many have no file left; the greatest stamp;
--- the sets that are held; the event in doubt; where a call failed, the shelf's count of faults
--- then, and how many calls failed so; how many holds were given, and the set of the last one.
+-- The limit in pairs; the stamps of all pairs that were found or published, in order, and how many
+-- of them were found at opening; how many, the first ones, were removed, and how many of these have
+-- no file left; the greatest stamp; the sets that are held; the event in doubt; where a call
+-- failed, the shelf's count of faults then, and how many calls failed so; how many holds were
+-- given, and the set of the last one.
 pub record SpoolState : Type 0 where
   pub limit : ℕ
   pub stamps : List ℕ
+  pub found : ℕ
   pub removed : ℕ
   pub swept : ℕ
   pub last : ℕ
@@ -26,9 +28,11 @@ pub record SpoolState : Type 0 where
   pub asks : ℕ
   pub asked : Span
 
--- a spool: its shelf, what it keeps, and for how many publications it has room
+-- a spool: its shelf, the shelf as the opening left it, what it keeps, and for how many
+-- publications it has room
 pub record SpoolView (D : Type 0) : Type 0 where
   pub shelf : D
+  pub base : D
   pub state : SpoolState
   pub spare : ℕ
 
@@ -71,6 +75,19 @@ with_doubt (Hidden t) f rows = set_row rows t (Going f)
 -- what a crash may leave under the names of each stamp
 abbrev pub rows_by : SpoolState → Files → List Entry → ℕ → Row
 rows_by st f all = with_doubt st.doubt f (rows_of st.removed st.holds st.last all)
+
+-- The rows of what is read, with an event in doubt. A block that was settled and an index that was
+-- hidden are read as if nothing had failed; without its block the index may be there or not.
+abbrev pub with_read : Doubt → Files → (ℕ → Row) → ℕ → Row
+with_read Nothing f rows = rows
+with_read (Unsettled t) f rows = set_row rows t (Half f)
+with_read (Settled t) f rows = set_row rows t (Pair f)
+with_read (Unhidden t) f rows = rows
+with_read (Hidden t) f rows = set_row rows t (Held f)
+
+-- what is read under the names of each stamp
+abbrev pub read_rows : SpoolState → Files → List Entry → ℕ → Row
+read_rows st f all = with_read st.doubt f (rows_of st.removed st.holds st.last all)
 
 -- the event in doubt is a publication above all stamps, or the removal of the least pair
 abbrev pub MayBe : Doubt → Files → ℕ → ℕ → List Entry → Type 0
