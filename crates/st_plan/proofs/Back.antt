@@ -6,7 +6,7 @@ use Rattle.clap.specs.Words.{Row, Text}
 use Rattle.clap.specs.Walk.{Walk, Waiting, idle, option, walked, settled_rows}
 use Rattle.clap.specs.Faults.{settle_fault, walk_fault}
 use Rattle.clap.specs.Lexer.{long_of, short_of}
-use Rattle.st_plan.specs.Line.{Valued, packets, bytes, block, blocks, name_of, long_name, name_and_value, Options, with_value, Line, is_plain, no_options}
+use Rattle.st_plan.specs.Line.{Valued, packets, bytes, block, blocks, limit, name_of, long_name, name_and_value, Options, with_value, Line, is_plain, no_options}
 use Rattle.st_plan.specs.Line as line
 use Rattle.st_plan.proofs.Steps as steps
 use Rattle.st_plan.proofs.Faults as faults
@@ -65,18 +65,19 @@ value_name n x others =
       | false ↦ others
     ] refl
 
-each : (n : Text) → bytes_eq (name_of packets) n ≡ false → bytes_eq (name_of bytes) n ≡ false → bytes_eq (name_of block) n ≡ false → bytes_eq (name_of blocks) n ≡ false
+each : (n : Text) → bytes_eq (name_of packets) n ≡ false → bytes_eq (name_of bytes) n ≡ false → bytes_eq (name_of block) n ≡ false → bytes_eq (name_of blocks) n ≡ false → bytes_eq (name_of limit) n ≡ false
     → (x : Valued) → bytes_eq (name_of x) n ≡ false
-each n a b c d packets = a
-each n a b c d bytes = b
-each n a b c d block = c
-each n a b c d blocks = d
+each n a b c d e packets = a
+each n a b c d e bytes = b
+each n a b c d e block = c
+each n a b c d e blocks = d
+each n a b c d e limit = e
 
 name : (n : Text) → Name n
 name n =
     elim (bytes_eq (codes "ns") n) as (λ b. bytes_eq (codes "ns") n ≡ b → Name n) [
       | true ↦ λ e. is_ns (sym ((bytes_eq-Decides (codes "ns") n).0 e))
-      | false ↦ λ e. value_name n packets (λ a. value_name n bytes (λ b. value_name n block (λ c. value_name n blocks (λ d. other e (each n a b c d)))))
+      | false ↦ λ e. value_name n packets (λ a. value_name n bytes (λ b. value_name n block (λ c. value_name n blocks (λ d. value_name n limit (λ f. other e (each n a b c d f))))))
     ] refl
 
 -- where what is pending can't be used, nothing is taken

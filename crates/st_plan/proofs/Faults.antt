@@ -10,7 +10,7 @@ use Rattle.clap.specs.declared.error.kind.ErrorKind.{ErrorKind}
 use Rattle.clap.specs.declared.error.kind.ErrorKind.TheVariants.{ArgumentConflict, UnknownArgument}
 use Rattle.clap.proofs.OnLiterals.{clap_on_literals}
 use Rattle.st_plan.specs.Rules.{line_app}
-use Rattle.st_plan.specs.Line.{Valued, packets, bytes, block, blocks, name_of, long_name, name_and_value, is_plain}
+use Rattle.st_plan.specs.Line.{Valued, packets, bytes, block, blocks, limit, name_of, long_name, name_and_value, is_plain}
 use Rattle.st_plan.proofs.Steps.{shape, rules, held, at, wait, words_in, and_false, plain_stop, plain_long, plain_short}
 
 -- the turn has a fault
@@ -52,9 +52,9 @@ pub unknown_long : (waiting : Waiting) (rows : List Row) (p : Option (Text × Li
     → bytes_eq (codes "ns") n ≡ false → ((x : Valued) → bytes_eq (name_of x) n ≡ false)
     → Fails (at rows p waiting false) w
 unfolding clap_on_literals
-unknown_long idle rows p w n v a b c d = record { kind = UnknownArgument; more = []; is = rw (a, b, c, d packets, d bytes, d block, d blocks) refl }
-unknown_long positional rows p w n v a b c d = record { kind = UnknownArgument; more = []; is = rw (a, b, c, d packets, d bytes, d block, d blocks) refl }
-unknown_long (option id) rows p w n v a b c d = record { kind = UnknownArgument; more = []; is = rw (a, b, c, d packets, d bytes, d block, d blocks) refl }
+unknown_long idle rows p w n v a b c d = record { kind = UnknownArgument; more = []; is = rw (a, b, c, d packets, d bytes, d block, d blocks, d limit) refl }
+unknown_long positional rows p w n v a b c d = record { kind = UnknownArgument; more = []; is = rw (a, b, c, d packets, d bytes, d block, d blocks, d limit) refl }
+unknown_long (option id) rows p w n v a b c d = record { kind = UnknownArgument; more = []; is = rw (a, b, c, d packets, d bytes, d block, d blocks, d limit) refl }
 
 pub flag_value : (waiting : Waiting) (rows : List Row) (p : Option (Text × List Text)) (v : Text) → Fails (at rows p waiting false) (codes "--ns=" ++ v)
 unfolding clap_on_literals
@@ -96,14 +96,17 @@ value_name_stuck packets idle rows p k = record { kind = k.kind; more = k.more; 
 value_name_stuck bytes idle rows p k = record { kind = k.kind; more = k.more; is = rw k.is refl }
 value_name_stuck block idle rows p k = record { kind = k.kind; more = k.more; is = rw k.is refl }
 value_name_stuck blocks idle rows p k = record { kind = k.kind; more = k.more; is = rw k.is refl }
+value_name_stuck limit idle rows p k = record { kind = k.kind; more = k.more; is = rw k.is refl }
 value_name_stuck packets positional rows p k = record { kind = k.kind; more = k.more; is = rw k.is refl }
 value_name_stuck bytes positional rows p k = record { kind = k.kind; more = k.more; is = rw k.is refl }
 value_name_stuck block positional rows p k = record { kind = k.kind; more = k.more; is = rw k.is refl }
 value_name_stuck blocks positional rows p k = record { kind = k.kind; more = k.more; is = rw k.is refl }
+value_name_stuck limit positional rows p k = record { kind = k.kind; more = k.more; is = rw k.is refl }
 value_name_stuck packets (option id) rows p k = record { kind = k.kind; more = k.more; is = rw k.is refl }
 value_name_stuck bytes (option id) rows p k = record { kind = k.kind; more = k.more; is = rw k.is refl }
 value_name_stuck block (option id) rows p k = record { kind = k.kind; more = k.more; is = rw k.is refl }
 value_name_stuck blocks (option id) rows p k = record { kind = k.kind; more = k.more; is = rw k.is refl }
+value_name_stuck limit (option id) rows p k = record { kind = k.kind; more = k.more; is = rw k.is refl }
 
 pub joined_stuck : (x : Valued) (waiting : Waiting) (rows : List Row) (p : Option (Text × List Text)) (v : Text) → Stuck rows p → Fails (at rows p waiting false) (name_and_value x v)
 unfolding clap_on_literals
@@ -111,14 +114,17 @@ joined_stuck packets idle rows p v k = record { kind = k.kind; more = k.more; is
 joined_stuck bytes idle rows p v k = record { kind = k.kind; more = k.more; is = rw k.is refl }
 joined_stuck block idle rows p v k = record { kind = k.kind; more = k.more; is = rw k.is refl }
 joined_stuck blocks idle rows p v k = record { kind = k.kind; more = k.more; is = rw k.is refl }
+joined_stuck limit idle rows p v k = record { kind = k.kind; more = k.more; is = rw k.is refl }
 joined_stuck packets positional rows p v k = record { kind = k.kind; more = k.more; is = rw k.is refl }
 joined_stuck bytes positional rows p v k = record { kind = k.kind; more = k.more; is = rw k.is refl }
 joined_stuck block positional rows p v k = record { kind = k.kind; more = k.more; is = rw k.is refl }
 joined_stuck blocks positional rows p v k = record { kind = k.kind; more = k.more; is = rw k.is refl }
+joined_stuck limit positional rows p v k = record { kind = k.kind; more = k.more; is = rw k.is refl }
 joined_stuck packets (option id) rows p v k = record { kind = k.kind; more = k.more; is = rw k.is refl }
 joined_stuck bytes (option id) rows p v k = record { kind = k.kind; more = k.more; is = rw k.is refl }
 joined_stuck block (option id) rows p v k = record { kind = k.kind; more = k.more; is = rw k.is refl }
 joined_stuck blocks (option id) rows p v k = record { kind = k.kind; more = k.more; is = rw k.is refl }
+joined_stuck limit (option id) rows p v k = record { kind = k.kind; more = k.more; is = rw k.is refl }
 
 pub joined_again : (x : Valued) (m : Bool) (rows : List Row) (p : Option (Text × List Text)) (v : Text) → settle_fault rules false (held rows p) ≡ []
     → has_row (name_of x) (settled_rows rules p rows) ≡ true → Fails (at rows p (wait m) false) (name_and_value x v)
@@ -127,10 +133,12 @@ joined_again packets true rows p v h k = record { kind = ArgumentConflict; more 
 joined_again bytes true rows p v h k = record { kind = ArgumentConflict; more = []; is = rw (h, k) refl }
 joined_again block true rows p v h k = record { kind = ArgumentConflict; more = []; is = rw (h, k) refl }
 joined_again blocks true rows p v h k = record { kind = ArgumentConflict; more = []; is = rw (h, k) refl }
+joined_again limit true rows p v h k = record { kind = ArgumentConflict; more = []; is = rw (h, k) refl }
 joined_again packets false rows p v h k = record { kind = ArgumentConflict; more = []; is = rw (h, k) refl }
 joined_again bytes false rows p v h k = record { kind = ArgumentConflict; more = []; is = rw (h, k) refl }
 joined_again block false rows p v h k = record { kind = ArgumentConflict; more = []; is = rw (h, k) refl }
 joined_again blocks false rows p v h k = record { kind = ArgumentConflict; more = []; is = rw (h, k) refl }
+joined_again limit false rows p v h k = record { kind = ArgumentConflict; more = []; is = rw (h, k) refl }
 
 pub value_settles : (x : Valued) (rows : List Row) (v : Text) → has_row (name_of x) rows ≡ false → settle_fault rules false (held rows (Some (name_of x, v ∷ []))) ≡ []
 unfolding clap_on_literals
@@ -138,6 +146,7 @@ value_settles packets rows v k = rw k refl
 value_settles bytes rows v k = rw k refl
 value_settles block rows v k = rw k refl
 value_settles blocks rows v k = rw k refl
+value_settles limit rows v k = rw k refl
 
 pub value_stuck : (x : Valued) (rows : List Row) (v : Text) → has_row (name_of x) rows ≡ true → Stuck rows (Some (name_of x, v ∷ []))
 unfolding clap_on_literals
@@ -145,6 +154,7 @@ value_stuck packets rows v k = record { kind = ArgumentConflict; more = []; is =
 value_stuck bytes rows v k = record { kind = ArgumentConflict; more = []; is = rw k refl }
 value_stuck block rows v k = record { kind = ArgumentConflict; more = []; is = rw k refl }
 value_stuck blocks rows v k = record { kind = ArgumentConflict; more = []; is = rw k refl }
+value_stuck limit rows v k = record { kind = ArgumentConflict; more = []; is = rw k refl }
 
 pub value_lacks : (x : Valued) (rows : List Row) → Stuck rows (Some (name_of x, []))
 unfolding clap_on_literals
@@ -152,3 +162,4 @@ value_lacks packets rows = record { kind = _; more = _; is = refl }
 value_lacks bytes rows = record { kind = _; more = _; is = refl }
 value_lacks block rows = record { kind = _; more = _; is = refl }
 value_lacks blocks rows = record { kind = _; more = _; is = refl }
+value_lacks limit rows = record { kind = _; more = _; is = refl }

@@ -7,7 +7,7 @@ use Rattle.clap.specs.Walk.{has_row, with_default, finished, Held, settled_rows,
 use Rattle.clap.specs.declared.parser.matches.Found.{Found}
 use Rattle.clap.specs.declared.parser.matches.ValueSource.TheVariants.{DefaultValue}
 use Rattle.clap.proofs.WalkLemmas.{first_value-rows, raw_values-rows}
-use Rattle.st_plan.specs.Line.{Valued, packets, bytes, block, blocks, name_of, Options, Line, no_options}
+use Rattle.st_plan.specs.Line.{Valued, packets, bytes, block, blocks, limit, name_of, Options, Line, no_options}
 use Rattle.st_plan.specs.Rules.{line_app}
 use Rattle.st_plan.specs.Found.{IsTaken, is_set, options_of, values_of, operands_of}
 use Rattle.st_plan.proofs.Rows.{first_use}
@@ -61,12 +61,14 @@ said_ns o gs rows false h e =
 
 -- the other arguments have no default
 no_defaults : (rows : List Row)
-    → with_default (with_default (with_default (with_default (with_default rows (value_in (name_of packets))) (value_in (name_of bytes))) (value_in (name_of block))) (value_in (name_of blocks))) words_in ≡ rows
+    → with_default (with_default (with_default (with_default (with_default (with_default rows (value_in (name_of packets))) (value_in (name_of bytes))) (value_in (name_of block))) (value_in (name_of blocks)))
+    (value_in (name_of limit))) words_in ≡ rows
 no_defaults rows = rw (
   either_same (has_row (name_of packets) rows) rows,
   either_same (has_row (name_of bytes) rows) rows,
   either_same (has_row (name_of block) rows) rows,
   either_same (has_row (name_of blocks) rows) rows,
+  either_same (has_row (name_of limit) rows) rows,
   either_same (has_row (codes "words") rows) rows,
 ) refl
 

@@ -8,7 +8,7 @@ use Rattle.clap.specs.Takes.{settle_passes}
 use Rattle.clap.specs.declared.parser.matches.ValueSource.TheVariants.{CommandLine}
 use Rattle.clap.specs.declared.parser.matches.ValueSource.{ValueSource}
 use Rattle.clap.specs.declared.builder.value_parser.Reading.{Reading}
-use Rattle.st_plan.specs.Line.{Valued, packets, bytes, block, blocks, name_of, Options, with_value}
+use Rattle.st_plan.specs.Line.{Valued, packets, bytes, block, blocks, limit, name_of, Options, with_value}
 use Rattle.st_plan.proofs.Rows.{has_row-all_of, without_none, first_use, next_use, other_use}
 use Rattle.st_plan.proofs.Steps.{rules, held, flag_in, value_in, words_in}
 
@@ -45,30 +45,35 @@ ns_apart packets = refl
 ns_apart bytes = refl
 ns_apart block = refl
 ns_apart blocks = refl
+ns_apart limit = refl
 
 apart_ns : (x : Valued) → bytes_eq (name_of x) (codes "ns") ≡ false
 apart_ns packets = refl
 apart_ns bytes = refl
 apart_ns block = refl
 apart_ns blocks = refl
+apart_ns limit = refl
 
 words_apart : (x : Valued) → bytes_eq (codes "words") (name_of x) ≡ false
 words_apart packets = refl
 words_apart bytes = refl
 words_apart block = refl
 words_apart blocks = refl
+words_apart limit = refl
 
 apart_words : (x : Valued) → bytes_eq (name_of x) (codes "words") ≡ false
 apart_words packets = refl
 apart_words bytes = refl
 apart_words block = refl
 apart_words blocks = refl
+apart_words limit = refl
 
 same_name : (x : Valued) → bytes_eq (name_of x) (name_of x) ≡ true
 same_name packets = refl
 same_name bytes = refl
 same_name block = refl
 same_name blocks = refl
+same_name limit = refl
 
 pub holds_ns : (o : Options) (gs : List Text) (rows : List Row) → Holds o gs rows → o.ns ≡ false → Holds (record o { ns = true }) gs (used (flag_in (codes "ns")) [] rows)
 holds_ns o gs rows h first =
@@ -108,6 +113,7 @@ settled_value packets = holds_value packets
 settled_value bytes = holds_value bytes
 settled_value block = holds_value block
 settled_value blocks = holds_value blocks
+settled_value limit = holds_value limit
 
 one_more : (gs : List Text) (w : Text) (how : Reading) (rows : List Row) → all_of (codes "words") rows ≡ some_of gs
     → all_of (codes "words") (with_values (codes "words") how CommandLine (w ∷ []) rows) ≡ some_of (gs ++ w ∷ [])

@@ -1,15 +1,15 @@
 -- Words have one plan at most.
+use Rattle.std.specs.Str.Parse.{digits_value}
 use Rattle.std.proofs.Common.{◌≡◌, ℕ, Bool, true, false, List, [], ◌∷◌, Option, Some, None, refl, sym, ap, ◌∙◌, subst, codes, cond}
 use Rattle.clap.specs.Words.{Text, matches_of}
 use Rattle.clap.specs.Walk.{walk, nothing_held}
-use Rattle.st_plan.specs.Jobs.{Job, LoadPlan, QueryPlan, SpoolPlan}
-use Rattle.st_plan.specs.Line.{Valued, packets, bytes, block, blocks, Options, Line, no_options}
+use Rattle.st_plan.specs.Jobs.{Job, LoadPlan, QueryPlan, SpoolPlan, DrillPlan}
+use Rattle.st_plan.specs.Line.{Valued, packets, bytes, block, blocks, limit, Options, Line, no_options}
 use Rattle.st_plan.specs.Rules.{line_app}
-use Rattle.st_plan.specs.Plans.{IsPlan, Asks, FormsAnswer, FormsLane, IsLimit, IsSize, IsBlocks}
+use Rattle.st_plan.specs.Plans.{IsPlan, Asks, FormsAnswer, FormsLane, IsLimit, IsSize, IsBlocks, IsPairs, IsCount}
 use Rattle.st_plan.specs.declared.jobs.LanePlan.{LanePlan}
 use Rattle.st_plan.specs.declared.jobs.Plan.{Plan}
 use Rattle.st_plan.specs.declared.jobs.Plan.TheVariants as plan
-use Rattle.st_pcap.specs.declared.forms.Unit.TheVariants.{Micro, Nano}
 use Rattle.st_plan.proofs.Holds.{some_of}
 use Rattle.st_plan.proofs.Steps.{rules}
 use Rattle.st_plan.proofs.Finish.{Said, said, reads}
@@ -51,6 +51,13 @@ same_blocks : (v : Option Text) (m n : ℕ) → IsBlocks v m → IsBlocks v n �
 same_blocks None m n h k = h ∙ sym k
 same_blocks (Some word) m n h k = sym h.0.2 ∙ k.0.2
 
+same_pairs : (v : Option Text) (m n : ℕ) → IsPairs v m → IsPairs v n → m ≡ n
+same_pairs None m n h k = h ∙ sym k
+same_pairs (Some word) m n h k = sym h.0.2 ∙ k.0.2
+
+same_count : (v w : Text) (m n : ℕ) → v ≡ w → IsCount v m → IsCount w n → m ≡ n
+same_count v w m n e h k = sym h.0.2 ∙ ap (digits_value 10) e ∙ k.0.2
+
 same_job : (o : Options) (j k : Job) → j.query ≡ k.query → FormsAnswer o j → FormsAnswer o k → j ≡ k
 same_job o j k query h i =
     let unit : j.unit ≡ k.unit = h.unit ∙ sym i.unit in
@@ -64,8 +71,14 @@ same_lane o l m h i =
     let most : l.blocks ≡ m.blocks = same_blocks (o.value blocks) l.blocks m.blocks h.blocks i.blocks in
     λ x. record { size = size x; blocks = most x }
 
-same_load : (o : Options) (l m : LoadPlan) → l.folder ≡ m.folder → FormsLane o l.plan → FormsLane o m.plan → l ≡ m
-same_load o l m folder h i = let lane = same_lane o l.plan m.plan h i in λ x. record { folder = folder x; plan = lane x }
+same_load : (o : Options) (l m : LoadPlan) → l.folder ≡ m.folder → FormsLane o l.plan → FormsLane o m.plan → IsPairs (o.value limit) l.limit → IsPairs (o.value limit) m.limit → l ≡ m
+same_load o l m folder h i j k =
+    let lane = same_lane o l.plan m.plan h i in
+    let most = same_pairs (o.value limit) l.limit m.limit j k in
+    λ x. record { folder = folder x; plan = lane x; limit = most x }
+
+same_drill : (d e : DrillPlan) → d.folder ≡ e.folder → d.packets ≡ e.packets → d ≡ e
+same_drill d e folder many = λ x. record { folder = folder x; packets = many x }
 
 same_query : (o : Options) (q r : QueryPlan) → q.folder ≡ r.folder → q.job.query ≡ r.job.query → FormsAnswer o q.job → FormsAnswer o r.job → q ≡ r
 same_query o q r folder query h i = let job = same_job o q.job r.job query h i in λ x. record { folder = folder x; job = job x }
@@ -91,7 +104,7 @@ one_asked o gs (plan.Once s) (plan.Check t) h i = absurd (other_named (codes "on
 one_asked o gs (plan.Load s) (plan.Once t) h i = absurd (other_named (codes "load") (codes "once") _ _ refl (sym h.operands ∙ i.operands))
 one_asked o gs (plan.Load s) (plan.Load t) h i =
     let folder : s.folder ≡ t.folder = one_operand (codes "load") _ _ (sym h.operands ∙ i.operands) in
-    ap plan.Load (same_load o s t folder h.options.1 i.options.1)
+    ap plan.Load (same_load o s t folder h.options.1 i.options.1 h.options.2 i.options.2)
 one_asked o gs (plan.Load s) (plan.Query t) h i = absurd (other_named (codes "load") (codes "query") _ _ refl (sym h.operands ∙ i.operands))
 one_asked o gs (plan.Load s) (plan.List t) h i = absurd (other_named (codes "load") (codes "list") _ _ refl (sym h.operands ∙ i.operands))
 one_asked o gs (plan.Load s) (plan.Check t) h i = absurd (other_named (codes "load") (codes "check") _ _ refl (sym h.operands ∙ i.operands))
@@ -116,6 +129,19 @@ one_asked o gs (plan.Check s) (plan.List t) h i = absurd (other_named (codes "ch
 one_asked o gs (plan.Check s) (plan.Check t) h i =
     let folder : s.folder ≡ t.folder = one_operand (codes "check") _ _ (sym h.operands ∙ i.operands) in
     ap plan.Check (same_spool s t folder)
+one_asked o gs (plan.Once s) (plan.Drill t) h i = absurd (other_named (codes "once") (codes "drill") _ _ refl (sym h.operands ∙ i.operands.1))
+one_asked o gs (plan.Load s) (plan.Drill t) h i = absurd (other_named (codes "load") (codes "drill") _ _ refl (sym h.operands ∙ i.operands.1))
+one_asked o gs (plan.Query s) (plan.Drill t) h i = absurd (other_named (codes "query") (codes "drill") _ _ refl (sym h.operands ∙ i.operands.1))
+one_asked o gs (plan.List s) (plan.Drill t) h i = absurd (other_named (codes "list") (codes "drill") _ _ refl (sym h.operands ∙ i.operands.1))
+one_asked o gs (plan.Check s) (plan.Drill t) h i = absurd (other_named (codes "check") (codes "drill") _ _ refl (sym h.operands ∙ i.operands.1))
+one_asked o gs (plan.Drill s) (plan.Once t) h i = absurd (other_named (codes "drill") (codes "once") _ _ refl (sym h.operands.1 ∙ i.operands))
+one_asked o gs (plan.Drill s) (plan.Load t) h i = absurd (other_named (codes "drill") (codes "load") _ _ refl (sym h.operands.1 ∙ i.operands))
+one_asked o gs (plan.Drill s) (plan.Query t) h i = absurd (other_named (codes "drill") (codes "query") _ _ refl (sym h.operands.1 ∙ i.operands))
+one_asked o gs (plan.Drill s) (plan.List t) h i = absurd (other_named (codes "drill") (codes "list") _ _ refl (sym h.operands.1 ∙ i.operands))
+one_asked o gs (plan.Drill s) (plan.Check t) h i = absurd (other_named (codes "drill") (codes "check") _ _ refl (sym h.operands.1 ∙ i.operands))
+one_asked o gs (plan.Drill s) (plan.Drill t) h i =
+    let (folder, word) = two_operands (codes "drill") _ _ _ _ (sym h.operands.1 ∙ i.operands.1) in
+    ap plan.Drill (same_drill s t folder (same_count h.operands.0 i.operands.0 s.packets t.packets word h.operands.2 i.operands.2))
 
 pub one_plan : (words : List Text) (p q : Plan) → IsPlan words p → IsPlan words q → p ≡ q
 one_plan words p q (o, gs, a, h) (r, hs, b, i) =

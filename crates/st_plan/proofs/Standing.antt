@@ -14,7 +14,7 @@ use Rattle.st_plan.specs.Line as line
 use Rattle.clap.specs.declared.parser.matches.Found.{Found}
 use Rattle.st_plan.specs.Found.{IsTaken, IsNoLine, options_of, operands_of}
 use Rattle.st_plan.specs.Places.{HasOperands, IsSecondAt, IsSecond, IsFolderAt}
-use Rattle.st_plan.specs.Plans.{IsPlan, operands, folder_of}
+use Rattle.st_plan.specs.Plans.{IsPlan, AreOperands, folder_of}
 use Rattle.st_plan.proofs.OnePlan.{one_plan}
 use Rattle.st_plan.specs.declared.jobs.Plan.{Plan}
 use Rattle.st_plan.specs.declared.jobs.Plan.TheVariants as plan
@@ -128,18 +128,20 @@ first_two o p gs us hs more c f (joined {ws = ws} x v first line) none all =
     behind c f (name_and_value x v) o (with_value o x v) gs gs ws (λ q us ks made. joined x v first made) (first_two (with_value o x v) p gs ws hs more c f line none all)
 
 -- the folder of a plan is the second of its operands
-folder_second : (p : Plan) (f : Text) → folder_of p ≡ Some f → (c : Text) × (more : List Text) × (operands p ≡ c ∷ (f ∷ more))
-folder_second (plan.Once job) f h = absurd cc
-folder_second (plan.Load load) f h = let is : load.folder ≡ f = cc in (codes "load", [], ap (λ (t : Text). codes "load" ∷ (t ∷ [])) is)
-folder_second (plan.Query query) f h = let is : query.folder ≡ f = cc in (codes "query", query.job.query ∷ [], ap (λ (t : Text). codes "query" ∷ (t ∷ (query.job.query ∷ []))) is)
-folder_second (plan.List spool) f h = let is : spool.folder ≡ f = cc in (codes "list", [], ap (λ (t : Text). codes "list" ∷ (t ∷ [])) is)
-folder_second (plan.Check spool) f h = let is : spool.folder ≡ f = cc in (codes "check", [], ap (λ (t : Text). codes "check" ∷ (t ∷ [])) is)
+folder_second : (gs : List Text) (p : Plan) (f : Text) → AreOperands gs p → folder_of p ≡ Some f → (c : Text) × (more : List Text) × (gs ≡ c ∷ (f ∷ more))
+folder_second gs (plan.Once job) f a h = absurd cc
+folder_second gs (plan.Load load) f a h = let is : load.folder ≡ f = cc in (codes "load", [], a ∙ ap (λ (t : Text). codes "load" ∷ (t ∷ [])) is)
+folder_second gs (plan.Query query) f a h = let is : query.folder ≡ f = cc in (codes "query", query.job.query ∷ [], a ∙ ap (λ (t : Text). codes "query" ∷ (t ∷ (query.job.query ∷ []))) is)
+folder_second gs (plan.List spool) f a h = let is : spool.folder ≡ f = cc in (codes "list", [], a ∙ ap (λ (t : Text). codes "list" ∷ (t ∷ [])) is)
+folder_second gs (plan.Check spool) f a h = let is : spool.folder ≡ f = cc in (codes "check", [], a ∙ ap (λ (t : Text). codes "check" ∷ (t ∷ [])) is)
+folder_second gs (plan.Drill drill) f (given, a, count) h =
+    let is : drill.folder ≡ f = cc in (codes "drill", given ∷ [], a ∙ ap (λ (t : Text). codes "drill" ∷ (t ∷ (given ∷ []))) is)
 
 -- it stands somewhere
 pub folder_stands : (words : List Text) (p : Plan) (f : Text) → IsPlan words p → folder_of p ≡ Some f → (i : ℕ) × (i < length words) × IsSecondAt words i f
 folder_stands words p f (o, gs, made, asks) named =
-    let (c, more, is) = folder_second p f named in
-    let s = first_two no_options o [] words gs more c f made refl (asks.operands ∙ is) in
+    let (c, more, is) = folder_second gs p f asks.operands named in
+    let s = first_two no_options o [] words gs more c f made refl is in
     let (q, before) = s.before in
     let (r, both) = s.both in
     let next : suc s.place ≡ s.place + 1 = omega arith in (

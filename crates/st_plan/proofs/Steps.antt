@@ -1,5 +1,5 @@
 -- Each step of the walk over the words.
-use Rattle.std.proofs.Common.{◌≡◌, Bool, true, false, ◌&&◌, ◌==◌, arith, List, [], ◌∷◌, ◌++◌, Option, Some, None, refl, codes}
+use Rattle.std.proofs.Common.{◌≡◌, Bool, true, false, ◌&&◌, ◌==◌, arith, List, [], ◌∷◌, Option, Some, None, refl, codes}
 use Rattle.std.specs.Str.{bytes_eq}
 use Rattle.clap.specs.Words.{Row, Rule, Text}
 use Rattle.clap.specs.Walk.{Held, Walk, Waiting, idle, option, positional, walked, settled_rows, used, has_row, is_pending, walk, nothing_held}
@@ -7,7 +7,7 @@ use Rattle.clap.specs.Takes.{turn_passes, settle_passes, walk_passes, takes, ent
 use Rattle.clap.specs.Simple.{Shape, built, filled, with_index}
 use Rattle.clap.proofs.OnLiterals.{clap_on_literals}
 use Rattle.st_plan.specs.Rules.{line_app, flag_rule, value_rule, words_rule}
-use Rattle.st_plan.specs.Line.{Valued, packets, bytes, block, blocks, name_of, long_name, name_and_value, is_plain}
+use Rattle.st_plan.specs.Line.{Valued, packets, bytes, block, blocks, limit, name_of, long_name, name_and_value, is_plain}
 use Rattle.clap.specs.Lexer.{long_of, short_of}
 use Rattle.std.proofs.lemmas.Bool.Decides.{nat_tests}
 
@@ -115,10 +115,12 @@ value_moves packets true rows p = refl
 value_moves bytes true rows p = refl
 value_moves block true rows p = refl
 value_moves blocks true rows p = refl
+value_moves limit true rows p = refl
 value_moves packets false rows p = refl
 value_moves bytes false rows p = refl
 value_moves block false rows p = refl
 value_moves blocks false rows p = refl
+value_moves limit false rows p = refl
 
 pub value_passes : (x : Valued) (m : Bool) (rows : List Row) (p : Option (Text × List Text)) → settle_passes rules false (held rows p) ≡ true
     → turn_passes shape [] (at rows p (wait m) false) (long_name x) ≡ true
@@ -127,10 +129,12 @@ value_passes packets true rows p h = rw h refl
 value_passes bytes true rows p h = rw h refl
 value_passes block true rows p h = rw h refl
 value_passes blocks true rows p h = rw h refl
+value_passes limit true rows p h = rw h refl
 value_passes packets false rows p h = rw h refl
 value_passes bytes false rows p h = rw h refl
 value_passes block false rows p h = rw h refl
 value_passes blocks false rows p h = rw h refl
+value_passes limit false rows p h = rw h refl
 
 -- `--name=`
 pub joined_moves : (x : Valued) (m : Bool) (rows : List Row) (p : Option (Text × List Text)) (v : Text)
@@ -140,10 +144,12 @@ joined_moves packets true rows p v = refl
 joined_moves bytes true rows p v = refl
 joined_moves block true rows p v = refl
 joined_moves blocks true rows p v = refl
+joined_moves limit true rows p v = refl
 joined_moves packets false rows p v = refl
 joined_moves bytes false rows p v = refl
 joined_moves block false rows p v = refl
 joined_moves blocks false rows p v = refl
+joined_moves limit false rows p v = refl
 
 pub joined_passes : (x : Valued) (m : Bool) (rows : List Row) (p : Option (Text × List Text)) (v : Text) → settle_passes rules false (held rows p) ≡ true
     → has_row (name_of x) (settled_rows rules p rows) ≡ false → turn_passes shape [] (at rows p (wait m) false) (name_and_value x v) ≡ true
@@ -152,10 +158,12 @@ joined_passes packets true rows p v h k = rw (h, k) refl
 joined_passes bytes true rows p v h k = rw (h, k) refl
 joined_passes block true rows p v h k = rw (h, k) refl
 joined_passes blocks true rows p v h k = rw (h, k) refl
+joined_passes limit true rows p v h k = rw (h, k) refl
 joined_passes packets false rows p v h k = rw (h, k) refl
 joined_passes bytes false rows p v h k = rw (h, k) refl
 joined_passes block false rows p v h k = rw (h, k) refl
 joined_passes blocks false rows p v h k = rw (h, k) refl
+joined_passes limit false rows p v h k = rw (h, k) refl
 
 -- its value
 pub taken_moves : (x : Valued) (rows : List Row) (v : Text) → is_plain v ≡ true
@@ -165,6 +173,7 @@ taken_moves packets rows v h = rw (plain_stop v h, plain_long v h, plain_short v
 taken_moves bytes rows v h = rw (plain_stop v h, plain_long v h, plain_short v h) refl
 taken_moves block rows v h = rw (plain_stop v h, plain_long v h, plain_short v h) refl
 taken_moves blocks rows v h = rw (plain_stop v h, plain_long v h, plain_short v h) refl
+taken_moves limit rows v h = rw (plain_stop v h, plain_long v h, plain_short v h) refl
 
 pub taken_passes : (x : Valued) (rows : List Row) (v : Text) → is_plain v ≡ true
     → turn_passes shape [] (at rows (Some (name_of x, [])) (option (name_of x)) false) v ≡ true
@@ -173,6 +182,7 @@ taken_passes packets rows v h = rw (plain_stop v h, plain_long v h, plain_short 
 taken_passes bytes rows v h = rw (plain_stop v h, plain_long v h, plain_short v h) refl
 taken_passes block rows v h = rw (plain_stop v h, plain_long v h, plain_short v h) refl
 taken_passes blocks rows v h = rw (plain_stop v h, plain_long v h, plain_short v h) refl
+taken_passes limit rows v h = rw (plain_stop v h, plain_long v h, plain_short v h) refl
 
 pub value_settles : (x : Valued) (rows : List Row) (v : Text) → has_row (name_of x) rows ≡ false → settle_passes rules false (held rows (Some (name_of x, v ∷ []))) ≡ true
 unfolding clap_on_literals
@@ -180,6 +190,7 @@ value_settles packets rows v k = rw k refl
 value_settles bytes rows v k = rw k refl
 value_settles block rows v k = rw k refl
 value_settles blocks rows v k = rw k refl
+value_settles limit rows v k = rw k refl
 
 pub words_settle : (rows : List Row) (w : Text) → settle_passes rules false (held rows (Some (codes "words", w ∷ []))) ≡ true
 unfolding clap_on_literals

@@ -1,5 +1,5 @@
 -- What clap finds in the arguments.
-use Rattle.std.specs.Prelude.{◌≡◌, List, [], ◌∷◌, Option, Some, None, Bool, false, option_map, codes}
+use Rattle.std.specs.Prelude.{◌≡◌, List, [], Option, Some, None, Bool, false, option_map, codes}
 use Rattle.std.specs.Str.{bytes_eq}
 use Rattle.clap.specs.Words.{Text, first_value, matched_of, raw_values}
 use Rattle.clap.specs.declared.parser.matches.Found.{Found}

@@ -9,6 +9,7 @@ pub data Valued : Type 0 where
   bytes : Valued
   block : Valued
   blocks : Valued
+  limit : Valued
 
 -- their names
 abbrev pub name_of : Valued → Text
@@ -16,6 +17,7 @@ name_of packets = codes "packets"
 name_of bytes = codes "bytes"
 name_of block = codes "block"
 name_of blocks = codes "blocks"
+name_of limit = codes "limit"
 
 -- the argument that names an option
 abbrev pub long_name : Valued → Text

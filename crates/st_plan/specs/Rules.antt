@@ -2,7 +2,6 @@
 use Rattle.std.specs.Prelude.{Some, true, codes}
 use Rattle.clap.specs.Words.{App, Rule, Text, new_rule, new_app, with_rule}
 use Rattle.clap.specs.declared.builder.ArgAction.TheVariants.{Set, SetTrue, Append}
-use Rattle.st_plan.specs.Line.{Valued, name_of, packets, bytes, block, blocks}
 
 abbrev pub flag_rule : Text → Rule
 flag_rule name = record (new_rule name) { long = Some name; action = Some SetTrue }
@@ -28,5 +27,5 @@ answer_app =
 
 abbrev pub line_app : App
 line_app =
-    with_rule (with_rule (with_rule answer_app (value_rule (codes "block")))
-    (value_rule (codes "blocks"))) words_rule
+    with_rule (with_rule (with_rule (with_rule answer_app (value_rule (codes "block")))
+    (value_rule (codes "blocks"))) (value_rule (codes "limit"))) words_rule

@@ -63,6 +63,7 @@ fn command<'a>(alloc: Global) -> Result<Command<'a>, AllocError>
     answer(alloc)?
         .arg(value(alloc, "block"))?
         .arg(value(alloc, "blocks"))?
+        .arg(value(alloc, "limit"))?
         .arg(arguments(alloc))
 }
 

@@ -39,6 +39,8 @@ pub struct LoadPlan<'a> {
     pub folder: &'a str,
     /// The layout of the block files.
     pub plan: LanePlan,
+    /// How many pairs the spool keeps at most, from 1 to 65,535.
+    pub limit: u32,
 }
 
 impl<'a> Model for LoadPlan<'a> {
@@ -46,7 +48,7 @@ impl<'a> Model for LoadPlan<'a> {
 
     ghost Value = { LoadView };
 
-    ghost view = { λ l. record { folder = l.folder.now; plan = l.plan } };
+    ghost view = { λ l. record { folder = l.folder.now; plan = l.plan; limit = l.limit } };
 }
 
 /// A query over a spool.
@@ -64,6 +66,23 @@ impl<'a> Model for QueryPlan<'a> {
     ghost Value = { QueryView };
 
     ghost view = { λ q. record { folder = q.folder.now; job = q.job } };
+}
+
+/// A trial of a spool with packets that are made up.
+#[derive(Drop)]
+pub struct DrillPlan<'a> {
+    /// The folder of the spool, as it stands among the operands. It isn't empty.
+    pub folder: &'a str,
+    /// How many packets are made, from 1 to 1,000,000.
+    pub packets: u32,
+}
+
+impl<'a> Model for DrillPlan<'a> {
+    ghost use Rattle.st_plan.specs.Jobs.{DrillPlan as DrillView};
+
+    ghost Value = { DrillView };
+
+    ghost view = { λ d. record { folder = d.folder.now; packets = d.packets } };
 }
 
 /// A spool whose pairs are gone through.
@@ -94,4 +113,6 @@ pub enum Plan<'a> {
     List(SpoolPlan<'a>),
     /// `check FOLDER`: a line for each pair of a spool, which says whether the pair is whole.
     Check(SpoolPlan<'a>),
+    /// `drill FOLDER N`: N packets that are made up as new pairs of a spool, then four queries.
+    Drill(DrillPlan<'a>),
 }

@@ -2,9 +2,9 @@
 //!
 //! # What it promises
 //!
-//! - The arguments have a plan if and only if they are a line of `once`, `load`, `query`, `list` or
-//!   `check` with the operands and options of that command, and the plan is what they ask for
-//!   (`plan_of`).
+//! - The arguments have a plan if and only if they are a line of `once`, `load`, `query`, `list`,
+//!   `check` or `drill` with the operands and options of that command, and the plan is what they
+//!   ask for (`plan_of`).
 //! - Arguments have one plan at most (`one_plan`).
 //! - The place of the plan's folder among the arguments, if the plan has one (`spool_word`).
 //!
@@ -32,8 +32,8 @@ mod plans;
 #[cfg(test)]
 mod tests;
 
-pub use jobs::{Job, LanePlan, LoadPlan, Plan, QueryPlan, SpoolPlan};
+pub use jobs::{DrillPlan, Job, LanePlan, LoadPlan, Plan, QueryPlan, SpoolPlan};
 pub use laws::one_plan;
-pub use limits::{DEFAULT_BLOCKS, DEFAULT_SIZE};
+pub use limits::{DEFAULT_BLOCKS, DEFAULT_PAIRS, DEFAULT_SIZE, MAX_PACKETS, MAX_PAIRS};
 pub use places::spool_word;
 pub use plans::plan_of;

@@ -5,7 +5,7 @@ ghost use Rattle.clap.specs.Words.{found_of};
 ghost use Rattle.st_plan.specs.Found.{is_set, options_of};
 ghost use Rattle.st_plan.specs.Jobs.{Job as JobView};
 ghost use Rattle.st_plan.specs.declared.jobs.LanePlan.{LanePlan as Lane};
-ghost use Rattle.st_plan.specs.Plans.{FormsAnswer, FormsLane, has_answer_option, has_lane_option};
+ghost use Rattle.st_plan.specs.Plans.{FormsAnswer, FormsLane, has_answer_option, has_load_option};
 
 use crate::jobs::{Job, LanePlan};
 use crate::limits::{block_count, block_size, limit};
@@ -32,11 +32,13 @@ pub fn has_answer_option(matches: &ArgMatches<'_>) -> bool
         || matches.get_str("bytes").is_some()
 }
 
-/// Whether an option of a lane was given.
-pub fn has_lane_option(matches: &ArgMatches<'_>) -> bool
-    ensures { result ≡ has_lane_option (options_of (found_of matches.now)) }
+/// Whether an option of `load` was given.
+pub fn has_load_option(matches: &ArgMatches<'_>) -> bool
+    ensures { result ≡ has_load_option (options_of (found_of matches.now)) }
 {
-    matches.get_str("block").is_some() || matches.get_str("blocks").is_some()
+    matches.get_str("block").is_some()
+        || matches.get_str("blocks").is_some()
+        || matches.get_str("limit").is_some()
 }
 
 /// The job of this query with the options of an answer; None if a number is out of range.

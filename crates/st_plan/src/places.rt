@@ -89,6 +89,7 @@ fn folder_in<'a>(plan: &Plan<'a>) -> Option<&'a str>
         Plan::Query(query) => Some(query.folder),
         Plan::List(spool) => Some(spool.folder),
         Plan::Check(spool) => Some(spool.folder),
+        Plan::Drill(drill) => Some(drill.folder),
     }
 }
 

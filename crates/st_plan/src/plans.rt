@@ -7,9 +7,10 @@ ghost use Rattle.st_plan.specs.Found.{options_of, operands_of};
 ghost use Rattle.st_plan.specs.Plans.{Asks, IsPlan};
 
 use crate::command::matches_of;
-use crate::jobs::{LoadPlan, Plan, QueryPlan, SpoolPlan};
+use crate::jobs::{DrillPlan, LoadPlan, Plan, QueryPlan, SpoolPlan};
+use crate::limits::{packet_count, pair_limit};
 use crate::operands::{argument, arguments};
-use crate::options::{has_answer_option, has_lane_option, job, lane};
+use crate::options::{has_answer_option, has_load_option, job, lane};
 use clap::ArgMatches;
 use st_base::NoMemory;
 use std::alloc::Global;
@@ -21,7 +22,7 @@ fn once_of<'a>(matches: &ArgMatches<'a>, query: &'a str) -> Option<Plan<'a>>
         (codes "once" ∷ (query.entry.now ∷ [])) p → ⊥)
         (Asks (options_of (found_of matches.now)) (codes "once" ∷ (query.entry.now ∷ []))) }
 {
-    if has_lane_option(matches) {
+    if has_load_option(matches) {
         return None;
     }
     match job(matches, query) {
@@ -40,10 +41,17 @@ fn load_of<'a>(matches: &ArgMatches<'a>, folder: &'a str) -> Option<Plan<'a>>
     if folder.is_empty() || has_answer_option(matches) {
         return None;
     }
-    match lane(matches) {
-        Some(plan) => Some(Plan::Load(LoadPlan { folder, plan })),
-        None => None,
-    }
+    let Some(plan) = lane(matches) else {
+        return None;
+    };
+    let Some(limit) = pair_limit(matches.get_str("limit")) else {
+        return None;
+    };
+    Some(Plan::Load(LoadPlan {
+        folder,
+        plan,
+        limit,
+    }))
 }
 
 // The plan of `query` over this folder with this query.
@@ -54,7 +62,7 @@ fn query_of<'a>(matches: &ArgMatches<'a>, folder: &'a str, query: &'a str) -> Op
         (Asks (options_of (found_of matches.now))
         (codes "query" ∷ (folder.entry.now ∷ (query.entry.now ∷ [])))) }
 {
-    if folder.is_empty() || has_lane_option(matches) {
+    if folder.is_empty() || has_load_option(matches) {
         return None;
     }
     match job(matches, query) {
@@ -70,7 +78,7 @@ fn list_of<'a>(matches: &ArgMatches<'a>, folder: &'a str) -> Option<Plan<'a>>
         (codes "list" ∷ (folder.entry.now ∷ [])) p → ⊥)
         (Asks (options_of (found_of matches.now)) (codes "list" ∷ (folder.entry.now ∷ []))) }
 {
-    if folder.is_empty() || has_answer_option(matches) || has_lane_option(matches) {
+    if folder.is_empty() || has_answer_option(matches) || has_load_option(matches) {
         return None;
     }
     Some(Plan::List(SpoolPlan { folder }))
@@ -83,10 +91,27 @@ fn check_of<'a>(matches: &ArgMatches<'a>, folder: &'a str) -> Option<Plan<'a>>
         (codes "check" ∷ (folder.entry.now ∷ [])) p → ⊥)
         (Asks (options_of (found_of matches.now)) (codes "check" ∷ (folder.entry.now ∷ []))) }
 {
-    if folder.is_empty() || has_answer_option(matches) || has_lane_option(matches) {
+    if folder.is_empty() || has_answer_option(matches) || has_load_option(matches) {
         return None;
     }
     Some(Plan::Check(SpoolPlan { folder }))
+}
+
+// The plan of `drill` over this folder with this number of packets.
+fn drill_of<'a>(matches: &ArgMatches<'a>, folder: &'a str, packets: &'a str) -> Option<Plan<'a>>
+    ensures { MatchOption result
+        ((p : Planned) → Asks (options_of (found_of matches.now))
+        (codes "drill" ∷ (folder.entry.now ∷ (packets.entry.now ∷ []))) p → ⊥)
+        (Asks (options_of (found_of matches.now))
+        (codes "drill" ∷ (folder.entry.now ∷ (packets.entry.now ∷ [])))) }
+{
+    if folder.is_empty() || has_answer_option(matches) || has_load_option(matches) {
+        return None;
+    }
+    match packet_count(packets) {
+        Some(packets) => Some(Plan::Drill(DrillPlan { folder, packets })),
+        None => None,
+    }
 }
 
 // What the matches ask for.
@@ -113,6 +138,9 @@ fn asked<'a>(matches: &ArgMatches<'a>) -> Option<Plan<'a>>
     }
     if let Some(folder) = argument("check", operands) {
         return check_of(matches, folder);
+    }
+    if let Some((folder, packets)) = arguments("drill", operands) {
+        return drill_of(matches, folder, packets);
     }
     None
 }

@@ -30,7 +30,8 @@ fn text_of(alloc: Global, plan: &Plan<'_>) -> Result<String, AllocError> {
             let folder = load.folder;
             let size = load.plan.size;
             let blocks = load.plan.blocks;
-            format!(in alloc; "load {folder}, {size} {blocks}")
+            let limit = load.limit;
+            format!(in alloc; "load {folder}, {size} {blocks} {limit}")
         }
         Plan::Query(over) => {
             let folder = over.folder;
@@ -47,6 +48,11 @@ fn text_of(alloc: Global, plan: &Plan<'_>) -> Result<String, AllocError> {
         Plan::Check(spool) => {
             let folder = spool.folder;
             format!(in alloc; "check {folder}")
+        }
+        Plan::Drill(drill) => {
+            let folder = drill.folder;
+            let packets = drill.packets;
+            format!(in alloc; "drill {folder} {packets}")
         }
     }
 }
@@ -103,12 +109,12 @@ fn each_command_is_read_with_its_options(rt: HostRuntime) -> Result<(), Fail> {
         "once port53, nano 2 100",
         None,
     )?;
-    has_plan(rt, "load F", "load F, 1048576 64", Some(1))?;
-    has_plan(rt, "--block=8192 load F", "load F, 8192 64", Some(2))?;
+    has_plan(rt, "load F", "load F, 1048576 64 4096", Some(1))?;
+    has_plan(rt, "--block=8192 load F", "load F, 8192 64 4096", Some(2))?;
     has_plan(
         rt,
         "load --blocks 4095 F --block 4096",
-        "load F, 4096 4095",
+        "load F, 4096 4095 4096",
         Some(3),
     )?;
     has_plan(
@@ -129,6 +135,15 @@ fn each_command_is_read_with_its_options(rt: HostRuntime) -> Result<(), Fail> {
         "query F q, micro 0 7",
         Some(1),
     )?;
+    has_plan(
+        rt,
+        "load --limit 65535 F --blocks=1",
+        "load F, 1048576 1 65535",
+        Some(3),
+    )?;
+    has_plan(rt, "load F --limit=1", "load F, 1048576 64 1", Some(1))?;
+    has_plan(rt, "drill F 0001000000", "drill F 1000000", Some(1))?;
+    has_plan(rt, "drill -- 1 1", "drill 1 1", Some(2))?;
     has_plan(rt, "list -", "list -", Some(1))?;
     has_plan(rt, "-- check --ns", "check --ns", Some(2))
 }
@@ -136,7 +151,12 @@ fn each_command_is_read_with_its_options(rt: HostRuntime) -> Result<(), Fail> {
 #[test]
 fn the_place_is_that_of_the_folder_and_not_of_an_equal_value(rt: HostRuntime) -> Result<(), Fail> {
     let rt = &rt;
-    has_plan(rt, "load --blocks 64 64", "load 64, 1048576 64", Some(3))?;
+    has_plan(
+        rt,
+        "load --blocks 64 64",
+        "load 64, 1048576 64 4096",
+        Some(3),
+    )?;
     has_plan(
         rt,
         "query --ns -- --ns q",
@@ -150,7 +170,9 @@ fn the_place_is_that_of_the_folder_and_not_of_an_equal_value(rt: HostRuntime) ->
 fn a_line_of_no_command_has_no_plan(rt: HostRuntime) -> Result<(), Fail> {
     let rt = &rt;
     has_none(rt, "_")?;
-    has_none(rt, "drill F 5")?;
+    has_none(rt, "drill F")?;
+    has_none(rt, "drill _ 5")?;
+    has_none(rt, "drill F 5 6")?;
     has_none(rt, "serve F")?;
     has_none(rt, "load")?;
     has_none(rt, "load F G")?;
@@ -169,7 +191,9 @@ fn an_option_of_another_command_has_no_plan(rt: HostRuntime) -> Result<(), Fail>
     let rt = &rt;
     has_none(rt, "load F --ns")?;
     has_none(rt, "load F --packets 1")?;
-    has_none(rt, "load F --limit 5")?;
+    has_none(rt, "query F q --limit 5")?;
+    has_none(rt, "drill F 5 --limit 5")?;
+    has_none(rt, "drill F 5 --ns")?;
     has_none(rt, "query F q --block 4096")?;
     has_none(rt, "once q --blocks 64")?;
     has_none(rt, "list F --bytes 1")?;
@@ -184,6 +208,11 @@ fn a_value_out_of_range_has_no_plan(rt: HostRuntime) -> Result<(), Fail> {
     has_none(rt, "load F --block 2097152")?;
     has_none(rt, "load F --blocks 0")?;
     has_none(rt, "load F --blocks 4096")?;
+    has_none(rt, "load F --limit 0")?;
+    has_none(rt, "load F --limit 65536")?;
+    has_none(rt, "drill F 0")?;
+    has_none(rt, "drill F 1000001")?;
+    has_none(rt, "drill F +5")?;
     has_none(rt, "load F --block 4096 --block 4096")?;
     has_none(rt, "load F --block")?;
     has_none(rt, "load F --block=")?;

@@ -129,5 +129,6 @@ fn job_of<'a>(plan: Plan<'a>) -> Option<Job<'a>>
         Plan::Query(_) => None,
         Plan::List(_) => None,
         Plan::Check(_) => None,
+        Plan::Drill(_) => None,
     }
 }
