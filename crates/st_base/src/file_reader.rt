@@ -68,6 +68,13 @@ impl<F> FileReader<F> {
         }
     }
 
+    /// The file.
+    pub fn file(&self) -> &F
+        ensures { result.now ≡ self.now.file }
+    {
+        &self.file
+    }
+
     /// The first failure of the file that was counted.
     pub fn failure(&self) -> Option<CallFailure> {
         self.failure

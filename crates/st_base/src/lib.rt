@@ -50,7 +50,7 @@ pub use bytes::Octets;
 pub use clocks::Clock;
 pub use damages::Damage;
 pub use failures::{Call, CallFailure, Failed, NoMemory};
-pub use file_reader::FileReader;
+pub use file_reader::{FileReader, PlacedBytes};
 pub use limits::Limits;
 pub use machine_clock::MachineClock;
 pub use memory::{MemClock, MemReader, MemSink, MemSource, SliceReader, SureSink, SureSource};

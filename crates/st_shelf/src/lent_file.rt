@@ -40,6 +40,13 @@ impl<R> LentFile<R> {
             faults: 0,
         }
     }
+
+    /// The reader.
+    pub fn file(&self) -> &R
+        ensures { result.now ≡ self.now.file }
+    {
+        &self.file
+    }
 }
 
 impl<R: Drop> LentFile<R> {
