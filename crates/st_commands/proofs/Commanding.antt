@@ -11,7 +11,7 @@ use Rattle.st_spool.specs.Standing.{Gives}
 use Rattle.st_spool.specs.States.{SpoolState}
 use Rattle.st_spool.proofs.Clearing.{alone_pairs}
 use Rattle.st_commands.specs.Commands.{KeepsPairs}
-use Rattle.st_commands.specs.Pairs.{IsWholePair}
+use Rattle.st_pairs.specs.Pairs.{IsWholePair}
 use Rattle.st_commands.specs.declared.outcomes.Outcome.{Outcome}
 use Rattle.st_commands.specs.declared.outcomes.Outcome.TheVariants.{Done, WriteFault, DiskFault, Damaged, NoMemory}
 

@@ -9,7 +9,7 @@ use Rattle.st_index.specs.declared.checker.Verdict.{Verdict}
 use Rattle.st_index.specs.declared.checker.Verdict.TheVariants.{Whole, Differs}
 use Rattle.st_index.proofs.PairStands.{pair_stands}
 use Rattle.st_commands.specs.Laws.{DoneIsWhole, DamagedIsHurt}
-use Rattle.st_commands.specs.Pairs.{IsWholePair}
+use Rattle.st_pairs.specs.Pairs.{IsWholePair}
 use Rattle.st_commands.specs.Reports.{LineView, IsLine, HasNoLine, AreLines, outcome_of, first_of_two, verdict_outcome}
 use Rattle.st_commands.specs.declared.outcomes.Outcome.{Outcome}
 use Rattle.st_commands.specs.declared.outcomes.Outcome.TheVariants.{Done, WriteFault, DiskFault, Damaged, NoMemory}

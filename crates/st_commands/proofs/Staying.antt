@@ -14,7 +14,7 @@ use Rattle.st_spool.specs.States.{SpoolState, SpoolView}
 use Rattle.st_spool.specs.declared.state.Doubt.{Doubt}
 use Rattle.st_spool.proofs.Kept.{KeepsRows, keeps_rows}
 use Rattle.st_commands.specs.Commands.{GivesAllBack, KeepsSpool, Stays}
-use Rattle.st_commands.specs.Pairs.{IsWholePair}
+use Rattle.st_pairs.specs.Pairs.{IsWholePair}
 
 same_log : (a : Option Log) → KeepsRows a a
 same_log a = record { known = λ log is. (log, is); ran = λ first rows run. run; hidden = λ t none. none }

@@ -11,7 +11,7 @@ use Rattle.st_spool.specs.Standing.{StandsFor}
 use Rattle.st_spool.specs.States.{SpoolView}
 use Rattle.st_spool.specs.declared.opening.EnterErr.{EnterErr}
 use Rattle.st_spool.specs.declared.opening.EnterErr.TheVariants as enter
-use Rattle.st_commands.specs.Pairs.{IsWholePair}
+use Rattle.st_pairs.specs.Pairs.{IsWholePair}
 use Rattle.st_commands.specs.declared.outcomes.Outcome.{Outcome}
 use Rattle.st_commands.specs.declared.outcomes.Outcome.TheVariants.{WriteFault, DiskFault, NoMemory}
 

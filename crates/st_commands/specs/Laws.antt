@@ -2,7 +2,7 @@
 use Rattle.std.specs.Prelude.{◌≡◌, ℕ, List, All, Contains, Option}
 use Rattle.st_base.specs.declared.damages.Damage.{Damage}
 use Rattle.st_disk.specs.Pairs.{Entry}
-use Rattle.st_commands.specs.Pairs.{IsWholePair}
+use Rattle.st_pairs.specs.Pairs.{IsWholePair}
 use Rattle.st_commands.specs.Reports.{Reports}
 use Rattle.st_commands.specs.declared.outcomes.Outcome.TheVariants.{Done, Damaged}
 use Rattle.st_commands.specs.declared.outcomes.Report.{Report}

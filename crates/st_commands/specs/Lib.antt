@@ -1,6 +1,5 @@
 pub mod Commands
 pub mod Laws
 pub mod Lines
-pub mod Pairs
 pub mod Reports
 pub mod Telling

@@ -13,7 +13,7 @@ use Rattle.st_index.specs.declared.checker.Verdict.TheVariants.{Whole, Differs}
 use Rattle.st_rows.specs.Rows.{IsSummary}
 use Rattle.st_rows.specs.Whole.{IsWhole}
 use Rattle.st_commands.specs.Lines.{summary_line, verdict_line}
-use Rattle.st_commands.specs.Pairs.{IsWholePair}
+use Rattle.st_pairs.specs.Pairs.{IsWholePair}
 use Rattle.st_commands.specs.declared.outcomes.Line.{Line}
 use Rattle.st_commands.specs.declared.outcomes.Outcome.{Outcome}
 use Rattle.st_commands.specs.declared.outcomes.Outcome.TheVariants.{Done, WriteFault, DiskFault, Damaged, NoMemory}

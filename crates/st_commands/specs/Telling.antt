@@ -12,7 +12,7 @@ use Rattle.st_table.specs.Errors.{NoCheckFailed}
 use Rattle.st_table.specs.declared.errors.TableErr.{TableErr}
 use Rattle.st_table.specs.declared.errors.TableErr.TheVariants as table
 use Rattle.st_commands.specs.Lines.{verdict_line}
-use Rattle.st_commands.specs.Pairs.{IsWholePair}
+use Rattle.st_pairs.specs.Pairs.{IsWholePair}
 use Rattle.st_commands.specs.Reports.{LineView, line_view, verdict_outcome}
 use Rattle.st_commands.specs.declared.outcomes.Line.{Line}
 use Rattle.st_commands.specs.declared.outcomes.Outcome.{Outcome}

@@ -8,8 +8,8 @@ ghost use Rattle.st_commands.specs.Reports.{Reports};
 
 use crate::outcomes::{Outcome, Report};
 use crate::reports::report_pairs;
-use crate::rule::WholePairs;
 use st_base::Sink;
+use st_pairs::Indexed;
 use st_shelf::Shelf;
 use st_spool::{EnterErr, NotEntered, Spool};
 use std::alloc::Global;
@@ -51,7 +51,7 @@ fn run<D: Shelf, O: Sink>(report: Report, alloc: Global, shelf: D, out: &mut O) 
     ensures loans { GivesAllBack (D.loans shelf) (D.loans result.shelf) }
     ensures rest { (D.id result.shelf ≡ D.id shelf) × (O.beside out.new ≡ O.beside out.old) }
 {
-    let entered: Result<Spool<D, WholePairs>, NotEntered<D>> = Spool::enter(alloc, shelf, LIMIT);
+    let entered: Result<Spool<D, Indexed>, NotEntered<D>> = Spool::enter(alloc, shelf, LIMIT);
     let mut spool = match entered {
         Ok(spool) => spool,
         Err(NotEntered { cause, shelf }) => {

@@ -39,11 +39,9 @@ mod lines;
 mod outcomes;
 mod pairs;
 mod reports;
-mod rule;
 #[cfg(test)]
 mod tests;
 
 pub use commands::{Ended, check, list};
 pub use laws::{damaged_is_hurt, done_is_whole};
 pub use outcomes::{Outcome, Report};
-pub use rule::WholePairs;

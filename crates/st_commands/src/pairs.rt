@@ -11,16 +11,16 @@ ghost use Rattle.st_spool.specs.Holding.{size_of};
 ghost use Rattle.st_spool.specs.Standing.{StandsFor};
 ghost use Rattle.st_spool.specs.States.{held};
 ghost use Rattle.st_commands.specs.Commands.{Stays};
-ghost use Rattle.st_commands.specs.Pairs.{IsWholePair};
+ghost use Rattle.st_pairs.specs.Pairs.{IsWholePair};
 ghost use Rattle.st_commands.specs.Reports.{TellsPair, IsSaid};
 ghost use Rattle.st_commands.specs.Telling.{TellsSummary, TellsVerdict, MakesLine, RefusesTable, line_result};
 
 use crate::lines::{summary_text, verdict_text};
 use crate::outcomes::{Line, Outcome, PairErr, Report};
-use crate::rule::WholePairs;
 use st_base::{Damage, Reader};
 use st_eval::{EvalErr, Summary, summary};
 use st_index::{CheckErr, Verdict, check};
+use st_pairs::Indexed;
 use st_shelf::Shelf;
 use st_spool::{Hold, Spool};
 use st_table::{Table, TableErr};
@@ -30,7 +30,7 @@ use std::alloc::{AllocError, Global};
 // The verdict on the pair with this index in the hold, counted from 0.
 fn verdict_at<D: Shelf>(
     alloc: Global,
-    spool: &mut Spool<D, WholePairs>,
+    spool: &mut Spool<D, Indexed>,
     hold: &Hold,
     i: usize,
 ) -> Result<Verdict, PairErr>
@@ -109,7 +109,7 @@ fn summary_in<R: Reader>(alloc: Global, index: &mut R) -> Result<Summary, PairEr
 // What the summary row says of the pair with this index in the hold, counted from 0.
 fn summary_at<D: Shelf>(
     alloc: Global,
-    spool: &mut Spool<D, WholePairs>,
+    spool: &mut Spool<D, Indexed>,
     hold: &Hold,
     i: usize,
 ) -> Result<Summary, PairErr>
@@ -164,7 +164,7 @@ fn verdict_of(alloc: Global, stamp: u64, verdict: Verdict) -> Result<Line, PairE
 pub fn line_at<D: Shelf>(
     report: Report,
     alloc: Global,
-    spool: &mut Spool<D, WholePairs>,
+    spool: &mut Spool<D, Indexed>,
     hold: &Hold,
     i: usize,
 ) -> Result<Line, PairErr>

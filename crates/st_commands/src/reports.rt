@@ -8,14 +8,14 @@ ghost use Rattle.st_disk.specs.Pairs.{Files};
 ghost use Rattle.st_spool.specs.Standing.{StandsFor};
 ghost use Rattle.st_spool.specs.States.{held};
 ghost use Rattle.st_commands.specs.Commands.{Stays, HasWriteFault};
-ghost use Rattle.st_commands.specs.Pairs.{IsWholePair};
+ghost use Rattle.st_pairs.specs.Pairs.{IsWholePair};
 ghost use Rattle.st_commands.specs.Reports.{Reports, first_of_two};
 ghost use Rattle.st_commands.specs.Telling.{Stops};
 
 use crate::outcomes::{Outcome, PairErr, Report};
 use crate::pairs::line_at;
-use crate::rule::WholePairs;
 use st_base::{Sink, put};
+use st_pairs::Indexed;
 use st_shelf::Shelf;
 use st_spool::{Hold, Spool};
 use std::alloc::Global;
@@ -47,7 +47,7 @@ fn stopped(stamp: u64, error: PairErr) -> Outcome
 pub fn report_pairs<D: Shelf, O: Sink>(
     report: Report,
     alloc: Global,
-    spool: &mut Spool<D, WholePairs>,
+    spool: &mut Spool<D, Indexed>,
     hold: &Hold,
     out: &mut O,
 ) -> Outcome

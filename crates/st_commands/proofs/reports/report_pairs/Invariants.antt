@@ -5,7 +5,7 @@ use Rattle.st_disk.specs.Pairs.{Files}
 use Rattle.st_spool.specs.Standing.{StandsFor}
 use Rattle.st_spool.specs.States.{held}
 use Rattle.st_commands.specs.Commands.{Stays}
-use Rattle.st_commands.specs.Pairs.{IsWholePair}
+use Rattle.st_pairs.specs.Pairs.{IsWholePair}
 use Rattle.st_commands.specs.Reports.{IsSaid}
 use Rattle.st_commands.proofs.Reporting.{Progress}
 use Rattle.st_commands.proofs.reports.report_pairs.Given as goal

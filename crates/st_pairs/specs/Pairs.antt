@@ -1,4 +1,4 @@
--- The pairs of a spool that are whole.
+-- Which block files and indexes are whole pairs.
 use Rattle.std.specs.Prelude.{List, ℕ}
 use Rattle.st_block.specs.Scan.{PositionedRecord}
 use Rattle.st_rows.specs.Whole.{IsWhole}
