@@ -1,0 +1,2 @@
+//! Turns over a spool that many callers share.
+#![tactic(auto)]
