@@ -2,9 +2,10 @@
 use Rattle.std.specs.Prelude.{◌≡◌, ◌<◌, ℕ, Result, MatchResult}
 use Rattle.st_base.specs.Faults.{next_count}
 use Rattle.st_shelf.specs.Loans.{LoansView}
+use Rattle.st_folder.specs.Failures.{FaultsView}
 
 -- both are as they were
-abbrev pub IsLeftAlone : ℕ → ℕ → LoansView → LoansView → Type 0
+abbrev pub IsLeftAlone : FaultsView → FaultsView → LoansView → LoansView → Type 0
 IsLeftAlone before now loans_before loans_now = (now ≡ before) × (loans_now ≡ loans_before)
 
 -- one fault is counted if the draft had any of its own, and else none

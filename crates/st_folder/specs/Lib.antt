@@ -1,3 +1,5 @@
 pub mod FileNames
 pub mod Counting
 pub mod Numbers
+pub mod Failures
+pub mod FailureLines

@@ -12,6 +12,8 @@
 //! - Drafts are numbered from above all drafts among the names that were read; from 0 if one of
 //!   these has the greatest number (`first_number`).
 //! - A system call that a signal broke off is made again (`again`).
+//! - The first failure is kept if and only if a fault was counted (`RealShelf::failure`), and its
+//!   line names the call and the path (`RealShelf::failure_line`, `failure_line`).
 //!
 //! # What it leaves to others
 //!
@@ -27,4 +29,4 @@ mod real;
 #[cfg(test)]
 mod tests;
 
-pub use real::{RealDraft, RealFile, RealSealed, RealShelf};
+pub use real::{Failure, Place, RealDraft, RealFile, RealSealed, RealShelf, failure_line};

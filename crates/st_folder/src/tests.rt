@@ -41,6 +41,10 @@ fn a_shelf_in_a_folder_keeps_its_files_and_its_lock(rt: HostRuntime) -> Result<(
     shelf.flush(Kind::Block)?;
     let mut second = RealShelf::at(&rt, alloc, FOLDER)?;
     assert!(rt; second.flush(Kind::Block).is_err(), "the folder is locked");
+    let line = second.failure_line(alloc)?.unwrap_or(String::new(alloc));
+    let wanted = "steno: lock st_folder_test: another program has the folder\n";
+    assert_eq!(rt; line.as_str(), wanted);
+    assert!(rt; shelf.failure().is_none());
     let mut file = shelf.reader(Name::Block(10))?;
     let mut part = [0; 2];
     let read = file.read_at(1, &mut part);
@@ -115,7 +119,11 @@ fn a_shelf_fails_where_a_file_stands_in_its_way(rt: HostRuntime) -> Result<(), F
     fs::create_dir_all(&rt, "st_folder_taken/spool")?;
     fs::write(&rt, "st_folder_taken/file", b"".as_slice())?;
     fs::write(&rt, "st_folder_taken/spool/IDX0", b"".as_slice())?;
-    for path in ["file", "file/spool", "spool"] {
+    for (path, call, failed, words) in [
+        ("file", "make folder", "file/PKT0", "Not a directory"),
+        ("file/spool", "make folder", "file/spool", "Not a directory"),
+        ("spool", "list", "spool/IDX0", "Not a directory"),
+    ] {
         let place = format!(in alloc; "{TAKEN}/{path}")?;
         let mut shelf = RealShelf::at(&rt, alloc, place.as_str())?;
         assert!(rt;
@@ -128,6 +136,9 @@ fn a_shelf_fails_where_a_file_stands_in_its_way(rt: HostRuntime) -> Result<(), F
         let listed = shelf.list(alloc).err();
         assert_eq!(rt; listed, Some(ListErr::DiskFault), "list in {path}");
         assert_eq!(rt; shelf.fault_count(), 5, "faults in {path}");
+        let line = shelf.failure_line(alloc)?.unwrap_or(String::new(alloc));
+        let wanted = format!(in alloc; "steno: {call} st_folder_taken/{failed}: {words}\n")?;
+        assert_eq!(rt; line, wanted);
     }
     fs::remove_dir_all(&rt, TAKEN)?;
     Ok(())

@@ -1,6 +1,6 @@
 ghost use Rattle.std.specs.Prelude.{◌≡◌, None};
 
-use st_base::{Failed, Sink, StreamSink};
+use st_base::{Call, CallFailure, Failed, Sink, StreamSink};
 use st_shelf::{Draft, Kind};
 use std::fs::File;
 
@@ -15,7 +15,14 @@ pub struct RealDraft {
 pub struct RealSealed {
     pub(crate) kind: Kind,
     pub(crate) number: u64,
-    pub(crate) faults: u64,
+    pub(crate) own: OwnFaults,
+}
+
+/// How many calls of the system failed for a draft, and the first of them.
+#[derive(Clone, Copy)]
+pub(crate) struct OwnFaults {
+    pub(crate) count: u64,
+    pub(crate) first: Option<CallFailure>,
 }
 
 impl Sink for RealDraft {
@@ -43,20 +50,27 @@ impl Draft for RealDraft {
 
     ghost sealed_bytes = { λ s. None };
 
-    ghost sealed_faults = { λ s. s.faults };
+    ghost sealed_faults = { λ s. s.own.count };
 
     ghost keeps = { λ a b same. same };
 
     fn seal(mut self) -> Result<RealSealed, RealDraft> {
-        if self.sink.writer().sync_data().is_err() {
-            self.sink.count_fault();
+        if let Err(error) = self.sink.writer().sync_data() {
+            self.sink.fail(Call::Sync, error);
             return Err(self);
         }
         let RealDraft { kind, number, sink } = self;
-        Ok(RealSealed {
-            kind,
-            number,
-            faults: sink.fault_count(),
-        })
+        let own = own_faults(&sink);
+        Ok(RealSealed { kind, number, own })
+    }
+}
+
+// What a draft's sink counted and kept.
+pub(crate) fn own_faults(sink: &StreamSink<File>) -> OwnFaults
+    ensures { result.count ≡ sink.now.faults }
+{
+    OwnFaults {
+        count: sink.fault_count(),
+        first: sink.failure(),
     }
 }

@@ -3,8 +3,10 @@ ghost use Rattle.std.specs.Prelude.{◌≡◌, ◌+◌, ◌<◌, ◌⊎◌, ◌�
 ghost use Rattle.st_folder.specs.FileNames.{AreIn, AddsNames};
 ghost use Rattle.st_folder.specs.Numbers.{IsLastDraft, IsBelow, HasLastDraft, IsFirstNumber};
 
+use crate::real::failures::{Failure, Place, at};
 use crate::real::names::{name_of, path_of_folder};
 use crate::real::retries::again;
+use st_base::{Call, CallFailure};
 use st_shelf::{Kind, Name};
 use std::alloc::Global;
 use std::fs::{DirBuilder, DirEntry, File, OpenOptions, TryLockError};
@@ -24,19 +26,20 @@ pub(crate) struct RealFolders {
 }
 
 impl RealFolders {
-    pub(crate) fn open(rt: &HostRuntime, alloc: Global, root: &str) -> io::Result<RealFolders> {
+    pub(crate) fn open(
+        rt: &HostRuntime,
+        alloc: Global,
+        root: &str,
+    ) -> Result<RealFolders, Failure> {
         make_folders(rt, root)?;
-        let lock = File::open(rt, root)?;
-        match lock.try_lock() {
-            Ok(()) => {}
-            Err(TryLockError::WouldBlock) => return Err(io::Error::from(ErrorKind::WouldBlock)),
-            Err(TryLockError::Error(error)) => return Err(error),
-        }
+        let lock = take_lock(rt, root)?;
         let blocks = open_folder(rt, alloc, root, Kind::Block)?;
         let indexes = open_folder(rt, alloc, root, Kind::Index)?;
         let mut names = Vec::new(alloc);
-        read_names(rt, alloc, root, Kind::Block, &mut names)?;
-        read_names(rt, alloc, root, Kind::Index, &mut names)?;
+        for kind in [Kind::Block, Kind::Index] {
+            let read = read_names(rt, alloc, root, kind, &mut names);
+            at(Call::List, Place::Folder(kind), read)?;
+        }
         let next = first_number(names.as_slice(), &blocks, &indexes)?;
         Ok(RealFolders {
             _lock: lock,
@@ -114,14 +117,14 @@ fn add_entry(kind: Kind, entry: &DirEntry, names: &mut Vec<Name>) -> io::Result<
 
 // The number of the first draft: above those of all that were found, or 0 if one of these has the
 // greatest number. A lower one is free once no crash can bring back a draft that was removed.
-fn first_number(names: &[Name], blocks: &File, indexes: &File) -> io::Result<u64>
+fn first_number(names: &[Name], blocks: &File, indexes: &File) -> Result<u64, Failure>
     ensures { IfOk result (IsFirstNumber names.now) }
 {
     match number_above(names) {
         Some(next) => Ok(next),
         None => {
-            blocks.sync_all()?;
-            indexes.sync_all()?;
+            at(Call::Sync, Place::Folder(Kind::Block), blocks.sync_all())?;
+            at(Call::Sync, Place::Folder(Kind::Index), indexes.sync_all())?;
             Ok(0)
         }
     }
@@ -165,47 +168,77 @@ pub(crate) fn create_file(rt: &HostRuntime, path: &str) -> io::Result<File> {
     options.open(rt, path)
 }
 
-fn open_folder(rt: &HostRuntime, alloc: Global, root: &str, kind: Kind) -> io::Result<File> {
-    let path = path_of_folder(alloc, root, kind)?;
-    make_folder(rt, path.as_str())?;
-    File::open(rt, path.as_str())
+// Opens the spool folder and takes its lock, unless another program has it.
+fn take_lock(rt: &HostRuntime, root: &str) -> Result<File, Failure> {
+    let place = Place::Way(root.len());
+    let lock = at(Call::Open, place, File::open(rt, root))?;
+    let taken = match lock.try_lock() {
+        Ok(()) => Ok(()),
+        Err(TryLockError::WouldBlock) => Err(io::Error::from(ErrorKind::WouldBlock)),
+        Err(TryLockError::Error(error)) => Err(error),
+    };
+    at(Call::Lock, place, taken)?;
+    Ok(lock)
+}
+
+fn open_folder(rt: &HostRuntime, alloc: Global, root: &str, kind: Kind) -> Result<File, Failure> {
+    let place = Place::Folder(kind);
+    let path = match path_of_folder(alloc, root, kind) {
+        Ok(path) => path,
+        Err(error) => return at(Call::MakeFolder, place, Err(io::Error::from(error))),
+    };
+    make_folder(rt, path.as_str(), place, Place::Way(root.len()))?;
+    at(Call::Open, place, File::open(rt, path.as_str()))
 }
 
 // Makes the folder, and those that it lies in, where they aren't there.
-fn make_folders(rt: &HostRuntime, path: &str) -> io::Result<()> {
-    match make_folder(rt, path) {
-        Err(error) if error.kind() == ErrorKind::NotFound => {}
+fn make_folders(rt: &HostRuntime, root: &str) -> Result<(), Failure> {
+    match make_way(rt, root) {
+        Err(failure) if failure.failed.error.kind() == ErrorKind::NotFound => {}
         other => return other,
     }
-    for end in 1..path.len() {
-        if let Some((folder, rest)) = path.split_at_checked(end) {
+    for end in 1..root.len() {
+        if let Some((folder, rest)) = root.split_at_checked(end) {
             if rest.starts_with('/') {
-                make_folder(rt, folder)?;
+                make_way(rt, folder)?;
             }
         }
     }
-    make_folder(rt, path)
+    make_way(rt, root)
+}
+
+// Makes the spool folder, or one on the way to it.
+fn make_way(rt: &HostRuntime, folder: &str) -> Result<(), Failure> {
+    let above = Place::Way(way_above(folder));
+    make_folder(rt, folder, Place::Way(folder.len()), above)
 }
 
 // A new folder is its owner's alone, and is on the disk before anything stands in it. One that is
 // there may have been made by a program that was killed before it came so far.
-fn make_folder(rt: &HostRuntime, path: &str) -> io::Result<()> {
+fn make_folder(rt: &HostRuntime, path: &str, place: Place, above: Place) -> Result<(), Failure> {
     let mut builder = DirBuilder::new();
     builder.mode(0o700);
     match again(|| builder.create(rt, path)) {
-        Ok(()) => File::open(rt, parent_of(path))?.sync_all(),
-        Err(error) if error.kind() == ErrorKind::AlreadyExists => sync_parent(rt, path),
-        Err(error) => Err(error),
+        Ok(()) => sync_parent(rt, path, above),
+        Err(error) if error.kind() == ErrorKind::AlreadyExists => {
+            match sync_parent(rt, path, above) {
+                Err(failure) if is_veiled(&failure) => Ok(()),
+                done => done,
+            }
+        }
+        Err(error) => at(Call::MakeFolder, place, Err(error)),
     }
 }
 
+fn sync_parent(rt: &HostRuntime, path: &str, above: Place) -> Result<(), Failure> {
+    let parent = at(Call::Open, above, File::open(rt, parent_of(path)))?;
+    at(Call::Sync, above, parent.sync_all())
+}
+
 // Who may not look into the folder above did not make the one below.
-fn sync_parent(rt: &HostRuntime, path: &str) -> io::Result<()> {
-    match File::open(rt, parent_of(path)) {
-        Ok(parent) => parent.sync_all(),
-        Err(error) if error.kind() == ErrorKind::PermissionDenied => Ok(()),
-        Err(error) => Err(error),
-    }
+fn is_veiled(failure: &Failure) -> bool {
+    let CallFailure { call, error } = failure.failed;
+    call == Call::Open && error.kind() == ErrorKind::PermissionDenied
 }
 
 fn parent_of(path: &str) -> &str {
@@ -213,5 +246,14 @@ fn parent_of(path: &str) -> &str {
         Some((parent, _)) if parent.is_empty() => "/",
         Some((parent, _)) => parent,
         None => ".",
+    }
+}
+
+// How many of a path's first bytes are the path of the folder above; none where that is the working
+// folder.
+fn way_above(path: &str) -> usize {
+    match path.trim_end_matches('/').rsplit_once('/') {
+        Some((parent, _)) => parent.len().max(1),
+        None => 0,
     }
 }
