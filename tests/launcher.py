@@ -26,14 +26,14 @@ BUILDING = b"proving and building first"
 # Writes down what it is asked for. 'run' makes a program that prints the text of its source, its
 # arguments and its input; a source with the word 'wrong' is not proved. TOOLCHAIN_EDITS has it edit
 # that source first, TOOLCHAIN_LINGERS has it stay once the program is made, and TOOLCHAIN_MEETS has
-# each library wait until another one is being proved.
+# each library but the lowest wait until another one is being proved.
 TOOLCHAIN = r"""#!/usr/bin/env bash
 crate=${PWD##*/}
 echo "$1 $crate" >>"$TOOLCHAIN_LOG"
 case $1 in
 version) cat >/dev/null; echo 'pretended toolchain, first edition' ;;
 lib)
-  [ -z "${TOOLCHAIN_MEETS:-}" ] || {
+  [ -z "${TOOLCHAIN_MEETS:-}" ] || [ "$crate" = low ] || {
     : >"$TOOLCHAIN_MEETS/$crate"
     for _ in {1..60}; do
       [ "$(ls "$TOOLCHAIN_MEETS" | wc -l)" -ge 2 ] && break
@@ -279,7 +279,9 @@ def proves_side_by_side(repository):
     meeting.mkdir()
     seen = repository.start(TOOLCHAIN_MEETS=str(meeting))
     alone = [line for line in seen[3] if line.startswith("alone")]
-    yield "two crates are proved at once", built(seen, "first") and not alone, seen
+    yield "two crates that stand beside each other are proved at once", built(seen, "first") and not alone, seen
+    asked = [line for line in seen[3] if line.startswith("lib")]
+    yield "after the one that both use", asked[:1] == ["lib low"], seen
 
 
 def on_terminal(repository, **more):
