@@ -19,6 +19,7 @@ import time
 ROOT = pathlib.Path(__file__).resolve().parent.parent
 sys.path.insert(0, str(ROOT / "samples"))
 from make import file_head, frames, record, samples  # noqa: E402
+import spool_cases  # noqa: E402
 from report import report  # noqa: E402
 
 STENO = str(ROOT / "steno")
@@ -250,17 +251,20 @@ def large_answers(folder):
 
 CUT_SHORT = b"steno: record 2: 10 of 16 bytes\n"
 FULL = "/dev/full"
+# The second line says whether the output failed as the buffer was full or at the end.
+FULL_AT_ONCE = WRITING_FAILED + b"steno: write standard output: No space left on device\n"
+FULL_AT_END = WRITING_FAILED + b"steno: flush standard output: No space left on device\n"
 
 
 def full_disk():
     """Nothing can be written: the status says so, unless there was nothing to write."""
     large = DNS * 20000
     for name, query, stdin, err, status in (
-            ("a whole input", "port 53", MICRO + DNS, WRITING_FAILED, 6),
-            ("a cut input", "port 53", MICRO + DNS + DNS[:10], CUT_SHORT + WRITING_FAILED, 6),
-            ("an answer of no packet", "port 54", MICRO + DNS, WRITING_FAILED, 6),
-            ("a large answer", "port 53", MICRO + large, WRITING_FAILED, 6),
-            ("a large answer over a cut input", "port 53", MICRO + large + DNS[:10], WRITING_FAILED, 6),
+            ("a whole input", "port 53", MICRO + DNS, FULL_AT_END, 6),
+            ("a cut input", "port 53", MICRO + DNS + DNS[:10], CUT_SHORT + FULL_AT_END, 6),
+            ("an answer of no packet", "port 54", MICRO + DNS, FULL_AT_END, 6),
+            ("a large answer", "port 53", MICRO + large, FULL_AT_ONCE, 6),
+            ("a large answer over a cut input", "port 53", MICRO + large + DNS[:10], FULL_AT_ONCE, 6),
             ("a refused input", "port 53", bytes(24), b"steno: input is not a pcap file, it begins with 0x00000000\n", 3),
             ("a refused query", "port", MICRO + DNS, b"steno: query: number at 4\n", 4)):
         with open(FULL, "wb") as full:
@@ -269,15 +273,15 @@ def full_disk():
 
 def closed_streams(folder):
     for name, line, out, err, status in (
-            ("input", 'exec "$0" once "port 53" <&-', b"", READING_FAILED, 5),
-            ("output", 'exec "$0" once "port 53" >&-', b"", WRITING_FAILED, 6),
+            ("input", 'exec "$0" once "port 53" <&-', b"", READING_FAILED + b"steno: read standard input: Bad file descriptor\n", 5),
+            ("output", 'exec "$0" once "port 53" >&-', b"", WRITING_FAILED + b"steno: flush standard output: Bad file descriptor\n", 6),
             ("standard error", 'exec "$0" once "port" 2>&-', b"", b"", 4)):
         done = subprocess.run(["bash", "-c", line, STENO], input=MICRO + DNS, capture_output=True, timeout=SECONDS)
         yield compare(f"a closed {name}", (out, err, status), (done.stdout, done.stderr, done.returncode))
     place = os.open(folder, os.O_RDONLY)
     done = subprocess.run([STENO, "once", "port 53"], stdin=place, capture_output=True, timeout=SECONDS)
     os.close(place)
-    yield compare("a folder as input", (b"", READING_FAILED, 5), (done.stdout, done.stderr, done.returncode))
+    yield compare("a folder as input", (b"", READING_FAILED + b"steno: read standard input: Is a directory\n", 5), (done.stdout, done.stderr, done.returncode))
 
 
 def input_that_breaks_off():
@@ -288,7 +292,8 @@ def input_that_breaks_off():
     ours.close()
     done = subprocess.run([STENO, "once", "port 53"], stdin=theirs, capture_output=True, timeout=SECONDS)
     theirs.close()
-    yield compare("an input that breaks off", (b"", READING_FAILED, 5), (done.stdout, done.stderr, done.returncode))
+    line = READING_FAILED + b"steno: read standard input: Connection reset by peer\n"
+    yield compare("an input that breaks off", (b"", line, 5), (done.stdout, done.stderr, done.returncode))
 
 
 def one_line_alone():
@@ -325,7 +330,7 @@ def reader_that_leaves(folder):
         file.write(MICRO + DNS * 400000)
     line = 'set -o pipefail; "$0" once "port 53" < "$1" | head -c 24'
     done = subprocess.run(["bash", "-c", line, STENO, big], capture_output=True, timeout=SECONDS)
-    good = done.stdout == MICRO and (done.returncode, done.stderr) in ((0, b""), (6, WRITING_FAILED))
+    good = done.stdout == MICRO and (done.returncode, done.stderr) in ((0, b""), (6, WRITING_FAILED + b"steno: write standard output: Broken pipe\n"))
     yield "a reader that leaves early", good, shown((done.stdout, done.stderr, done.returncode))
 
 
@@ -338,6 +343,7 @@ def groups(folder):
     yield from input_that_breaks_off()
     yield from messages_that_fail(folder)
     yield from reader_that_leaves(folder)
+    yield from spool_cases.groups(folder)
 
 
 def main():

@@ -1,22 +1,29 @@
 #!/usr/bin/env python3
 """Has each call of the file system fail that a shelf makes, one at a time, and looks at what is left.
 
-The program is shelf_probe; a library that is preloaded before it (tests/preload/calls.c) writes down
-its calls and fails those that it is told to. It is left out, and that is said, if there is no C
-compiler. The last line is 'N passed, M failed'; the status is 0 if none failed.
+The program is shelf_probe, and then steno with each of its commands on a spool; a library that is
+preloaded before it (tests/preload/calls.c) writes down its calls and fails those that it is told to.
+It is left out, and that is said, if there is no C compiler. The last line is 'N passed, M failed'; the
+status is 0 if none failed.
 """
 import errno
 import os
 import pathlib
+import random
 import shutil
 import subprocess
 import sys
 import tempfile
 
+import spool as spools
+from pairs import records
 from real_shelf import Session, ask, build, files
 from report import report
 
 SOURCE = pathlib.Path(__file__).resolve().parent / "preload" / "calls.c"
+LAUNCHER = pathlib.Path(__file__).resolve().parent.parent / "steno"
+STENO = str(LAUNCHER.parent / "crates" / "steno" / "out" / "steno")
+SECONDS = 120
 
 # One shelf call of each kind, and each once more over what the one before left.
 CALLS = ["put block 10 5", "flush block", "put index 10 9000", "flush index", "list", "read index 10", "read block 10", "hide 10",
@@ -282,6 +289,99 @@ def lists_all_or_nothing(probe):
                 yield f"{kind} {number} of a long list fails with {errno.errorcode[error]}", good, (answers, faults)
 
 
+SMALL = ["--block", "4096", "--blocks", "2"]
+QUERY = "port 53"
+COMMANDS = {"load": SMALL, "load with a limit": [*SMALL, "--limit", "3"], "query": [QUERY], "list": [], "check": []}
+# What the second line may call a call of the system.
+CALL_NAMES = {"open": ["open", "create"], "write": ["write"], "read": ["read"], "fsync": ["sync"], "fdatasync": ["sync"], "rename": ["rename"],
+              "unlink": ["remove"], "flock": ["lock"], "getdents64": ["list"], "mkdir": ["make folder"], "statx": ["list", "open"]}
+
+
+class Commands:
+    """The program's commands over a spool of two pairs and a left draft, with the library before it."""
+
+    def __init__(self, library, folder):
+        self.folder, self.spool, self.library = folder, os.path.join(folder, "spool"), library
+        self.fresh, self.log, self.input = folder + ".fresh", folder + ".log", folder + ".pcap"
+        numbers = random.Random(21)
+        self.old, self.new = list(records(numbers, 130)), list(records(numbers, 130))
+        self.pairs = [spools.cut(packets, 4096, 2) for packets in (self.old, self.new)]
+        pathlib.Path(self.input).write_bytes(spools.write_pcap(self.old))
+        shutil.rmtree(folder)
+        self.run("load", SMALL, spool=self.fresh)
+        pathlib.Path(self.fresh, "IDX0", ".draft-9").write_bytes(b"left")
+        pathlib.Path(self.input).write_bytes(spools.write_pcap(self.new))
+
+    def run(self, command, options, fail="", spool=None):
+        """Output, messages and status of a command on the spool, and the calls that it made there."""
+        pathlib.Path(self.log).write_text("")
+        more = {"LD_PRELOAD": self.library, "CALLS_LOG": self.log, "CALLS_UNDER": self.folder, "CALLS_FAIL": fail}
+        words = [STENO, command.split()[0], spool or self.spool, *options]
+        with open(self.input, "rb") as given:
+            done = subprocess.run(words, stdin=given, capture_output=True, env={**os.environ, **more}, timeout=SECONDS)
+        lines = [line.split(" ") for line in pathlib.Path(self.log).read_text(errors="surrogateescape").splitlines()]
+        return (done.stdout, done.stderr.decode(), done.returncode), [line for line in lines if line[1] != "output"]
+
+    def anew(self):
+        shutil.rmtree(self.folder, ignore_errors=True)
+        os.mkdir(self.folder)
+        shutil.copytree(self.fresh, self.spool)
+
+    def is_sound(self, told, limit=None):
+        """Whether the pairs are the old ones and the new ones that were told of, or one more, and answers are theirs."""
+        there = [spools.packets_of(self.spool, stamp) for stamp in spools.stamps(self.spool)]
+        old, new = self.pairs
+        may_be = [(old + new[:count]) for count in (told, told + 1) if count <= len(new)]
+        if limit is not None:
+            may_be = [pairs[-keep:] for pairs in may_be for keep in (limit, limit + 1)]
+        wanted = spools.answer([packet for pair in there for packet in pair], spools.QUERIES[QUERY])
+        sound = self.run("check", [])[0]
+        return there in may_be and sound[1:] == ("", 0) and self.run("query", [QUERY])[0] == (wanted, "", 0) \
+            and self.run("load", SMALL)[0][1:] == ("", 0)
+
+
+def failing_calls(commands, command, options):
+    """Each call of the system that a command makes on the spool: which of its kind it is, and its line."""
+    commands.anew()
+    counts = {}
+    for line in commands.run(command, options)[1]:
+        counts[line[0]] = counts.get(line[0], 0) + 1
+        yield line, f"{line[0]}:{counts[line[0]]}"
+
+
+def commands_meet_each_fault(commands):
+    for command, options in COMMANDS.items():
+        commands.anew()
+        clean, calls = commands.run(command, options)
+        yield f"{command} works", clean[1:] == ("", 0) and len(calls) > 15, clean
+        limit = 3 if "limit" in command else None
+        for line, which in list(failing_calls(commands, command, options)):
+            commands.anew()
+            said, _ = commands.run(command, options, f"{which}:{errno.EIO}")
+            told = said[0].count(b"\n") if command.startswith("load") else 0
+            lines = [f"steno: the spool failed\nsteno: {name} {line[1]}: Input/output error\n" for name in CALL_NAMES[line[0]]]
+            good = said[2] == 7 and said[1] in lines
+            # A removal that fails as the oldest pair leaves is tried again later.
+            good = good or limit is not None and line[0] == "unlink" and said[1:] == ("", 0)
+            yield f"{command}: {line[0]} {line[1]} fails", good and commands.is_sound(told, limit), said
+            commands.anew()
+            said, _ = commands.run(command, options, f"{which}:{errno.EINTR}")
+            same = said[1:] == ("", 0) and (command.startswith("load") or said[0] == clean[0])
+            yield f"{command}: {line[0]} {line[1]} is broken off", same, said
+
+
+def commands_meet_a_full_disk(commands):
+    """Each write of a load finds no space, alone and from then on: what was told of is there."""
+    for line, which in list(failing_calls(commands, "load", SMALL)):
+        for more in ("", "+"):
+            if line[0] == "write":
+                commands.anew()
+                said, _ = commands.run("load", SMALL, f"{which}{more}:{errno.ENOSPC}")
+                lines = f"steno: the spool failed\nsteno: write {line[1]}: No space left on device\n"
+                good = said[1:] == (lines, 7) and commands.is_sound(said[0].count(b"\n"))
+                yield f"no space at write {which}{more} of {line[1]}", good, said
+
+
 GROUPS = [keeps_the_order, syncs_new_folders, meets_each_fault, meets_each_fault_at_the_next_start, meets_two_faults,
           meets_a_disk_that_is_gone, meets_many_signals, writes_by_halves, lists_all_or_nothing]
 
@@ -298,6 +398,11 @@ def cases(folder):
         place = os.path.join(folder, group.__name__)
         os.mkdir(place)
         yield from group(Probe(program, library, place))
+    subprocess.run([LAUNCHER], stdin=subprocess.DEVNULL, capture_output=True)  # builds the program if need be
+    for group in (commands_meet_each_fault, commands_meet_a_full_disk):
+        place = os.path.join(folder, group.__name__)
+        os.mkdir(place)
+        yield from group(Commands(library, place))
 
 
 def main():

@@ -7,6 +7,8 @@
  * CALLS_FAIL   which calls fail, joined by commas: KIND:N:ERRNO fails the N-th call of a kind,
  *              counted from 1, and KIND:N+:ERRNO that one and all that follow. A call that fails
  *              does nothing else. With ERRNO 0 a write takes half of its bytes
+ * CALLS_KILL   the program is killed before the call of this number, counted over all that are
+ *              written down, from 1
  *
  * A line is 'KIND PATH RESULT', and after that the numbers that the call was given: of an open its
  * flags and its mode, of a write and a read how many bytes, of a read also the place, of a rename
@@ -18,6 +20,7 @@
 #include <errno.h>
 #include <fcntl.h>
 #include <limits.h>
+#include <signal.h>
 #include <stdarg.h>
 #include <stdio.h>
 #include <stdlib.h>
@@ -76,6 +79,14 @@ static const char *path_of(int fd, char *room)
     return room;
 }
 
+/* Counts a call, and kills the program if it is the one that is not to come. */
+static void pass_on(void)
+{
+    static unsigned long count;
+    const char *at = getenv("CALLS_KILL");
+    if (at != NULL && ++count == strtoul(at, NULL, 10)) kill(getpid(), SIGKILL);
+}
+
 /* The errno that this call of a kind is to fail with, 0 for half a write, or -1 where it goes on. */
 static int failure(enum kind kind)
 {
@@ -113,6 +124,7 @@ static void say(enum kind kind, const char *path, long result, int error, const 
         char more[PATH_MAX + 64] = ""; \
         int wanted = failure(kind), error; \
         long result; \
+        pass_on(); \
         snprintf(more, sizeof more, " " __VA_ARGS__); \
         errno = wanted > 0 ? wanted : errno; \
         result = wanted > 0 ? -1 : (long)(call); \
@@ -171,6 +183,7 @@ ssize_t write(int fd, const void *bytes, size_t count)
     if (fd == STDOUT_FILENO) {
         char more[128];
         int length = count > 64 ? 64 : (int)count;
+        pass_on();
         snprintf(more, sizeof more, " %.*s", length, (const char *)bytes);
         more[strcspn(more, "\n")] = 0;
         say(WRITE, "output", (long)count, 0, more);
