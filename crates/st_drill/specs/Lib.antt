@@ -1,0 +1,4 @@
+pub mod Packets
+pub mod Source
+pub mod Laws
+pub mod Questions

@@ -1,0 +1,111 @@
+#!/usr/bin/env python3
+"""Makes the packets of `steno drill` once more, from docs/FORMAT.md alone, and compares.
+
+The packets are made as text in hexadecimal, and read back from their bytes, field by field, by the
+queries. The last line is 'N passed, M failed'; the status is 0 if none failed.
+"""
+import ipaddress
+import struct
+import sys
+
+from report import report
+
+FIRST, MIDDLE = 1000000000, 1000000100
+NEAR = ipaddress.ip_network("10.0.0.0/25")
+
+
+def frame(k):
+    """The 64 bytes of packet k."""
+    protocol = "11" if k % 2 == 0 else "06"
+    source, target = 1024 + k % 5000, 53 if k % 10 == 0 else 443
+    text = (
+        "020000000002 020000000001 0800"
+        f"45000032 00000000 40 {protocol} 0000 0a00{k // 256 % 256:02x}{k % 256:02x} c0a800{k % 7:02x}"
+        f"{source:04x} {target:04x}" + "00" * 26
+    )
+    return bytes.fromhex(text.replace(" ", ""))
+
+
+def time_of(k):
+    """Seconds since 1970, and nanoseconds."""
+    return FIRST + k // 100, k % 100 * 10_000_000
+
+
+def pcap(count):
+    """The input of this many packets, in nanoseconds."""
+    head = struct.pack("<IHHiIII", 0xA1B23C4D, 2, 4, 0, 0, 262144, 1)
+    records = (struct.pack("<IIII", *time_of(k), 64, 64) + frame(k) for k in range(count))
+    return head + b"".join(records)
+
+
+def packets_of(text):
+    """The records of a little-endian pcap in nanoseconds: second, nanosecond, frame."""
+    at = 24
+    while at < len(text):
+        second, nano, captured, original = struct.unpack_from("<IIII", text, at)
+        assert captured == original and nano < 10**9
+        yield second, nano, text[at + 16:at + 16 + captured]
+        at += 16 + captured
+
+
+def ports(packet):
+    assert packet[12:14] == b"\x08\x00" and packet[14] == 0x45 and packet[23] in (6, 17)
+    return struct.unpack_from(">HH", packet, 34)
+
+
+def addresses(packet):
+    return ipaddress.ip_address(packet[26:30]), ipaddress.ip_address(packet[30:34])
+
+
+QUERIES = [
+    ("port 53", lambda second, packet: 53 in ports(packet)),
+    ("ip proto 6 and net 10.0.0.0/25",
+     lambda second, packet: packet[23] == 6 and any(a in NEAR for a in addresses(packet))),
+    ("before 2001-09-09T01:48:20Z", lambda second, packet: second < MIDDLE),
+    ("after 2001-09-09T01:48:20Z", lambda second, packet: second >= MIDDLE),
+]
+
+
+def summary(count, loaded, pairs):
+    """What a drill of this many packets writes, once so many were loaded of each."""
+    lines = [f"drill {count}", f"pairs {pairs}"]
+    made = list(packets_of(pcap(count)))
+    for text, matches in QUERIES:
+        found = loaded * sum(matches(second, packet) for second, _, packet in made)
+        lines.append(f"{text}: {found} packets {24 + 80 * found} bytes")
+    return "\n".join(lines) + "\n"
+
+
+# the summary of 20,000 packets over an empty folder, and over the folder of one such drill
+ONCE = """drill 20000
+pairs 3
+port 53: 2000 packets 160024 bytes
+ip proto 6 and net 10.0.0.0/25: 64 packets 5144 bytes
+before 2001-09-09T01:48:20Z: 10000 packets 800024 bytes
+after 2001-09-09T01:48:20Z: 10000 packets 800024 bytes
+"""
+TWICE = """drill 20000
+pairs 3
+port 53: 4000 packets 320024 bytes
+ip proto 6 and net 10.0.0.0/25: 128 packets 10264 bytes
+before 2001-09-09T01:48:20Z: 20000 packets 1600024 bytes
+after 2001-09-09T01:48:20Z: 20000 packets 1600024 bytes
+"""
+
+
+def pairs_of(count):
+    """How many pairs hold this many packets of 112 bytes in a block: 584 a block, 16 blocks."""
+    block = (65536 - 48) // 112
+    return -(-count // (16 * block))
+
+
+def cases():
+    made = list(packets_of(pcap(20000)))
+    yield "a packet has 64 bytes", all(len(packet) == 64 for _, _, packet in made), "other lengths"
+    once, twice = summary(20000, 1, pairs_of(20000)), summary(20000, 2, pairs_of(20000))
+    yield "the counts of one drill", once == ONCE, once
+    yield "the counts of a second one", twice == TWICE, twice
+
+
+if __name__ == "__main__":
+    sys.exit(report(cases()))
