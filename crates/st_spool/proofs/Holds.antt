@@ -15,14 +15,15 @@ use Rattle.st_disk.specs.Pairs.{Entry, Files, files_of, IsFileSet}
 use Rattle.st_disk.proofs.Images.{leaves_now}
 use Rattle.st_spool.specs.Rows.{Row, Half, Coming, Pair, Going, Held, Past, Fits, Has}
 use Rattle.st_spool.specs.History.{set_of, entries_of}
-use Rattle.st_spool.specs.States.{SpoolState, SpoolView, rows_of, row_at, with_doubt, MayBe, AreUpTo, IsWithin, AreWithin, place_in, Placement, covers, held}
-use Rattle.st_spool.specs.Standing.{StandsFor, IsHidden, stamp_of}
+use Rattle.st_spool.specs.States.{SpoolState, SpoolView, rows_of, row_at, with_doubt, with_read, MayBe, AreUpTo, IsWithin, AreWithin, place_in, Placement, covers, held}
+use Rattle.st_spool.specs.Standing.{StandsFor, stamp_of}
 use Rattle.st_spool.specs.Holding.{is_parked, index_name}
 use Rattle.st_spool.specs.declared.state.Span.{Span}
 use Rattle.st_spool.specs.declared.state.Doubt.{Doubt}
 use Rattle.st_spool.specs.declared.state.Doubt.TheVariants as doubt
 use Rattle.st_spool.proofs.Keeping.{by_test, is_same, has_here, has_other}
 use Rattle.st_spool.proofs.Aged.{at_place, split_at, one_stamp}
+use Rattle.st_spool.proofs.Doubted.{IsRead, is_read_of}
 use Rattle.st_spool.proofs.Histories.{entries_more}
 use Rattle.st_spool.proofs.Places.{drop_more}
 
@@ -64,6 +65,9 @@ pub hold_stands : (W : List ℕ → List ℕ → Type 0) (known : Option Log) (s
     → StandsFor W known (record st { holds = holds; asks = asks; asked = record { from = st.removed; to = to } }) earlier h k
 hold_stands W known st earlier h k holds to asks stands is pushed = record {
   legal = stands.legal;
+  more = stands.more;
+  found = stands.found;
+  counts = stands.counts;
   stamps = stands.stamps;
   set = stands.set;
   within = stands.within;
@@ -82,7 +86,9 @@ hold_stands W known st earlier h k holds to asks stands is pushed = record {
             (sym (ap (λ (sp : List Span). rows_of st.removed sp st.last (entries_of h)) pushed ∙ rows_held st.removed st.last st.holds (record { from = st.removed; to = to }) (entries_of h) refl)) disk.images;
         past = disk.past;
         whole = disk.whole;
-        hidden = disk.hidden;
+        recalls = disk.recalls;
+        read = subst (λ (rows : ℕ → Row). Has (with_read st.doubt k rows) (reads log))
+            (sym (ap (λ (sp : List Span). rows_of st.removed sp st.last (entries_of h)) pushed ∙ rows_held st.removed st.last st.holds (record { from = st.removed; to = to }) (entries_of h) refl)) disk.read;
       };
 }
 
@@ -173,7 +179,7 @@ module _ (g last n : ℕ) (sp : List Span) (all : List Entry) (e : Entry) (rest 
       subst (λ (s : ℕ). c (Block s) ≡ Some e.block) same ((has_here (rows_of g sp last all) t (Going k) c has).0 ∙ ap (λ (f : Files). Some f.block) (same_files t may same).1))
       (λ no z. base_block (has_other (rows_of g sp last all) t (Going k) c has e.stamp no)) refl
 
-  index_by : (d : Doubt) → MayBe d k g last all → Has (with_doubt d k (rows_of g sp last all)) c → IsHidden d c → IndexBy (is_parked d g n) (files_of e) (c (Index e.stamp)) (c (Parked e.stamp))
+  index_by : (d : Doubt) → MayBe d k g last all → Has (with_doubt d k (rows_of g sp last all)) c → IsRead d k c → IndexBy (is_parked d g n) (files_of e) (c (Index e.stamp)) (c (Parked e.stamp))
   index_by doubt.Nothing may has hidden = base_index (has e.stamp)
   index_by (doubt.Unsettled t) may has hidden = base_index (has_other (rows_of g sp last all) t (Half k) c has e.stamp (other_above t may))
   index_by (doubt.Settled t) may has hidden = base_index (has_other (rows_of g sp last all) t (Coming k) c has e.stamp (other_above t may))
@@ -211,7 +217,7 @@ module _ (W : List ℕ → List ℕ → Type 0) (known : Option Log) (st : Spool
 
     pub held_index : reads log (index_name (is_parked st.doubt st.removed (span.from + i)) e.stamp) ≡ Some e.index
     held_index = index_read (is_parked st.doubt st.removed (span.from + i)) (files_of e) (reads log) e.stamp
-        (index_by st.removed st.last (span.from + i) st.holds (entries_of h) e rest k (reads log) is stands.rises stands.last covered st.doubt stands.doubt ((stands.disk log now).images (reads log) (leaves_now log)) (stands.disk log now).hidden)
+        (index_by st.removed st.last (span.from + i) st.holds (entries_of h) e rest k (reads log) is stands.rises stands.last covered st.doubt stands.doubt ((stands.disk log now).images (reads log) (leaves_now log)) (is_read_of st.doubt k (rows_of st.removed st.holds st.last (entries_of h)) (reads log) (stands.disk log now).read))
 
 -- an entry of the hold is one of the list
 pub taken_at : (i m : ℕ) (xs : List Entry) (e : Entry) (rest : List Entry) → drop i (take m xs) ≡ e ∷ rest → (more : List Entry) × (drop i xs ≡ e ∷ more)

@@ -6,6 +6,8 @@ pub mod Histories
 pub mod Places
 pub mod Aged
 pub mod Giving
+pub mod Doubted
+pub mod Recalled
 pub mod Published
 pub mod Entering
 pub mod Gathered
@@ -17,3 +19,5 @@ pub mod Holds
 pub mod Swept
 pub mod Released
 pub mod AgedStates
+pub mod Covering
+pub mod Remembered

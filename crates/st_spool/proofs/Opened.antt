@@ -1,5 +1,5 @@
 -- The spool that an opening makes of what it found.
-use Rattle.std.proofs.Common.{◌≡◌, ◌⊎◌, ◌<◌, ◌≤◌, ◌+◌, ℕ, suc, List, [], ◌∷◌, length, map, get_or, Option, None, Some, IsSome, Bool, true, false, cond, nat_eq, nat_lt, nat_le, Contains, refl, sym, ◌∙◌, ap, subst, inl, inr, ⊎_elim, arith}
+use Rattle.std.proofs.Common.{◌≡◌, ◌⊎◌, ◌<◌, ◌≤◌, ◌+◌, ℕ, suc, List, [], ◌∷◌, ◌++◌, length, take, map, get_or, Option, None, Some, IsSome, Bool, true, false, cond, nat_eq, nat_lt, nat_le, Contains, refl, sym, ◌∙◌, ap, subst, inl, inr, ⊎_elim, arith}
 use Rattle.std.specs.List.{AllPairs}
 use Rattle.std.proofs.lemmas.Bool.Decides.{nat_tests}
 use Rattle.std.proofs.lemmas.List.{append-nil}
@@ -12,12 +12,16 @@ use Rattle.st_disk.specs.Events.{Event, Found, events}
 use Rattle.st_disk.specs.LoggedCalls.{KnownBefore}
 use Rattle.st_disk.specs.Pairs.{Entry, Files, both, IsBelow, IsFileSet, PairsIn}
 use Rattle.st_spool.specs.Rows.{Row, Free, Past, Pair, Held, Fits, Has, pair_before}
+use Rattle.st_disk.specs.Runs.{Each}
+use Rattle.st_disk.proofs.Images.{leaves_now}
+use Rattle.st_spool.specs.Recalling.{entries_in, log_before}
 use Rattle.st_spool.specs.Placing.{files, entry}
 use Rattle.st_spool.specs.States.{SpoolState, place_in, covers, row_at, rows_of, AreUpTo}
 use Rattle.st_spool.specs.Standing.{StandsFor, OnDisk, stamp_of}
 use Rattle.st_spool.specs.Entering.{Is, SamePairs, pairs_alone, beside, ArePaired, IsLastStamp, flushed_log, opened, Opens, Enters}
 use Rattle.st_spool.specs.declared.state.Span.{Span}
 use Rattle.st_spool.proofs.Keeping.{by_test, is_same}
+use Rattle.st_spool.proofs.Recalled.{before_now, recall_by, rows_show, take_long}
 use Rattle.st_spool.proofs.Places.{rows_set}
 use Rattle.st_spool.proofs.Published.{ran_each, ran_past}
 
@@ -169,6 +173,9 @@ module _ (f : Folder) where
       → ((log : Log) → known ≡ Some log → OnDisk W log (opened limit ss last) earlier (Found (pairs_at ss) ∷ []) k) → StandsFor W known (opened limit ss last) earlier (Found (pairs_at ss) ∷ []) k
   stands_at W known limit last ss earlier k rises most disk = record {
     legal = (rises_at ss rises, tt);
+    more = (rises_at ss rises, tt);
+    found = omega arith;
+    counts = omega arith;
     stamps = stamps_at ss;
     set = refl;
     within = omega arith;
@@ -189,13 +196,25 @@ pub enters : (W : List ℕ → List ℕ → Type 0) (log : Log) (known : Option 
 enters W log known limit ss last opens = record {
   pairs = pairs_at (reads log) ss;
   found = pairs_in (reads log) ss opens.paired last;
-  stands = λ k. stands_at (reads log) W known limit last ss (events log) k opens.paired.rises (most_of (λ n. IsSome (reads log n)) ss last opens.paired opens.greatest) (λ now is. record {
-    images = λ c left. alone_has (reads log) ss opens.paired last c (ran_each (flushed_log log) known [] (SamePairs (reads log)) (Is (pairs_alone (reads log))) opens.images.cleared now is c left);
-    past = ran_past (flushed_log log) known [] (SamePairs (reads log)) (Is (pairs_alone (reads log))) opens.images.cleared now is
-        ∙ append-nil (events (flushed_log log)) ∙ ran_past log (Some (flushed_log log)) [] (Leaves log) (Is (reads log)) opens.images.flushed (flushed_log log) refl;
-    whole = tt;
-    hidden = tt;
-  });
+  stands = λ k. stands_at (reads log) W known limit last ss (events log) k opens.paired.rises (most_of (λ n. IsSome (reads log n)) ss last opens.paired opens.greatest) (λ now is.
+      let images_now : Each now (Has (rows_of 0 [] last (pairs_at (reads log) ss))) =
+      λ c left. alone_has (reads log) ss opens.paired last c (ran_each (flushed_log log) known [] (SamePairs (reads log)) (Is (pairs_alone (reads log))) opens.images.cleared now is c left) in
+      let no_events : events now ≡ events log =
+      ran_past (flushed_log log) known [] (SamePairs (reads log)) (Is (pairs_alone (reads log))) opens.images.cleared now is
+      ∙ append-nil (events (flushed_log log)) ∙ ran_past log (Some (flushed_log log)) [] (Leaves log) (Is (reads log)) opens.images.flushed (flushed_log log) refl ∙ append-nil (events log) in
+      let past_now : events now ≡ events log ++ [] = no_events ∙ sym (append-nil (events log)) in
+      let long : length (events now) ≡ length (events log) = ap length no_events in
+      let shown : entries_in (reads (log_before (length (events log)) now)) (take (length ss) ss) ≡ pairs_at (reads log) ss =
+      ap (λ (l : Log). entries_in (reads l) (take (length ss) ss)) (before_now now (length (events log)) (omega arith))
+      ∙ ap (entries_in (reads now)) (take_long (length ss) ss (omega arith) ∙ sym (stamps_at (reads log) ss))
+      ∙ rows_show last [] (pairs_at (reads log) ss) (reads now) (rises_at (reads log) ss opens.paired.rises) (images_now (reads now) (leaves_now now)) in
+      record {
+        images = images_now;
+        past = past_now;
+        whole = tt;
+        recalls = recall_by (opened limit ss last) now (events log) (Found (pairs_at (reads log) ss) ∷ []) k past_now (omega arith) limit (rises_at (reads log) ss opens.paired.rises, tt) shown;
+        read = images_now (reads now) (leaves_now now);
+      });
   last = opens.greatest;
   images = opens.images;
 }
@@ -219,7 +238,7 @@ opened_stands W old known limit ss last before opens sorted = go known refl
 
 -- the state of the new spool, by its parts
 pub opened_at : (P : SpoolState → Type 0) (limit last to : ℕ) (ss : List ℕ) (holds : List Span) → holds ≡ [] → to ≡ length ss → P (opened limit ss last)
-    → P (record (opened limit ss last) { holds = holds; asked = record { from = 0; to = to } })
+    → P (record (opened limit ss last) { found = to; holds = holds; asked = record { from = 0; to = to } })
 opened_at P limit last to ss holds none long has =
-    subst (λ (n : ℕ). P (record (opened limit ss last) { holds = holds; asked = record { from = 0; to = n } })) (sym long)
+    subst (λ (n : ℕ). P (record (opened limit ss last) { found = n; holds = holds; asked = record { from = 0; to = n } })) (sym long)
     (subst (λ (hs : List Span). P (record (opened limit ss last) { holds = hs })) (sym none) has)

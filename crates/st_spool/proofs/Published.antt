@@ -1,6 +1,6 @@
 -- What a publication makes of the state and of the history.
-use Rattle.std.proofs.Common.{◌≡◌, ◌<◌, ◌≤◌, ◌+◌, ℕ, List, [], ◌∷◌, ◌++◌, length, drop, map, Option, None, Some, refl, sym, ◌∙◌, ap, subst, arith, length-append, append_assoc}
-use Rattle.std.proofs.lemmas.List.{append-nil}
+use Rattle.std.proofs.Common.{◌≡◌, ◌<◌, ◌≤◌, ◌+◌, ◌-◌, ℕ, List, [], ◌∷◌, ◌++◌, length, drop, take, map, Option, None, Some, refl, sym, ◌∙◌, ap, subst, arith, length-append, append_assoc}
+use Rattle.std.proofs.lemmas.List.{append-nil, take-append-le}
 use Rattle.st_disk.specs.Folders.{Folder}
 use Rattle.st_disk.specs.declared.naming.Name.TheVariants.{Block, Index, Parked}
 use Rattle.st_disk.specs.Disks.{Log, reads}
@@ -13,14 +13,17 @@ use Rattle.st_disk.specs.Pairs.{Entry, Files, PairsIn, IsFileSet}
 use Rattle.st_disk.proofs.Reading.{known_log}
 use Rattle.st_spool.specs.Rows.{Row, Free, Half, Coming, Pair, Fits, Has, set_row, RanBy}
 use Rattle.st_spool.specs.Placing.{entry}
-use Rattle.st_spool.specs.History.{set_of, entries_of}
+use Rattle.st_spool.specs.History.{set_of, entries_of, Legal}
+use Rattle.st_spool.specs.Recalling.{entries_in}
 use Rattle.st_spool.specs.States.{SpoolState, rows_of, with_doubt, MayBe, AreUpTo, IsWithin}
-use Rattle.st_spool.specs.Standing.{StandsFor, OnDisk, IsCalm, IsHidden, Gives, begun, in_doubt, after_found, PublishWhole, stamp_of}
+use Rattle.st_spool.specs.Standing.{StandsFor, OnDisk, IsCalm, Gives, begun, in_doubt, after_found, PublishWhole, stamp_of}
 use Rattle.st_spool.specs.Publishing.{RanTo, RanInDoubt}
 use Rattle.st_spool.specs.declared.state.Doubt.{Doubt}
 use Rattle.st_spool.specs.declared.state.Doubt.TheVariants as doubt
 use Rattle.st_spool.proofs.Giving.{free as free_row, set_more_is, coming_sets, half_sets}
 use Rattle.st_spool.proofs.Setting.{sure_set}
+use Rattle.st_spool.proofs.Doubted.{IsRead, read_rows_of}
+use Rattle.st_spool.proofs.Recalled.{found_more, above_shows, recalls_on}
 use Rattle.st_spool.proofs.Histories.{entries_more, legal_more, after_more, whole_more, whole_first}
 use Rattle.st_spool.proofs.Places.{rows_published, rows_sure, rows_set, file_set_more, up_to_more, drop_more}
 
@@ -92,11 +95,39 @@ module _ (W : List ℕ → List ℕ → Type 0) (old new : Option Log) (st : Spo
   within_more : (span : _) → IsWithin (length (entries_of h)) span → IsWithin (length (entries_of (h ++ Publish (entry t f) ∷ []))) span
   within_more span is = let long = longer in let to : span.to ≤ length (entries_of h) = is.1 in (is.0, omega arith)
 
+  legal_new : Legal st.limit (h ++ Publish (entry t f) ∷ [])
+  legal_new = legal_more st.limit h (Publish (entry t f)) stands.legal (rises_all, tt)
+
+  events_longer : length (after_found (h ++ Publish (entry t f) ∷ [])) ≡ length (after_found h) + 1
+  events_longer = ap length (after_more st.limit h (Publish (entry t f) ∷ []) stands.legal) ∙ length-append (after_found h) (Publish (entry t f) ∷ [])
+
+  -- meanwhile each folder shows all pairs that were found
+  shows : (r : Row) → st.removed ≡ 0 → begun st.doubt k ≡ [] → (c : Folder) → Has (set_row (rows_of st.removed st.holds st.last (entries_of h)) t r) c → entries_in c (map stamp_of (entries_of h)) ≡ entries_of h
+  shows r zero calm c has =
+      above_shows st.last st.holds (entries_of h) c t r stands.rises stands.last more (subst (λ (g : ℕ). Has (set_row (rows_of g st.holds st.last (entries_of h)) t r) c) zero has)
+
+  stamps_longer : (stamps : List ℕ) → stamps ≡ st.stamps ++ t ∷ [] → length stamps ≡ length st.stamps + 1
+  stamps_longer stamps pushed = ap length pushed ∙ length-append st.stamps (t ∷ [])
+
+  counts_new : (stamps : List ℕ) → stamps ≡ st.stamps ++ t ∷ [] → length (after_found (h ++ Publish (entry t f) ∷ [])) ≡ (length stamps - st.found) + st.removed
+  counts_new stamps pushed =
+      let long = stamps_longer stamps pushed in
+      let longer = events_longer in
+      let few : st.found ≤ length st.stamps = stands.found in
+      let was : length (after_found h) ≡ (length st.stamps - st.found) + st.removed = stands.counts in
+      omega arith
+
+  same_found : (stamps : List ℕ) → stamps ≡ st.stamps ++ t ∷ [] → take st.found stamps ≡ take st.found st.stamps
+  same_found stamps pushed = ap (take st.found) pushed ∙ take-append-le st.found st.stamps (t ∷ []) stands.found
+
   pub published_stands : (stamps : List ℕ) → stamps ≡ st.stamps ++ t ∷ [] → ((l : Log) → old ≡ Some l → W f.block f.index) → KnownBefore old new
       → ((l : Log) (rows : ℕ → Row) → old ≡ Some l → Each l (Has rows) → rows t ≡ Free → RanBy l new (Publish (entry t f) ∷ []) (set_row rows t (Coming f)) (set_row rows t (Pair f)))
       → StandsFor W new (record st { stamps = stamps; last = t }) earlier (h ++ Publish (entry t f) ∷ []) k
   published_stands stamps pushed whole before placed = record {
-    legal = legal_more st.limit h (Publish (entry t f)) stands.legal (rises_all, tt);
+    legal = legal_new;
+    more = subst (λ (d : Doubt). Legal st.limit ((h ++ Publish (entry t f) ∷ []) ++ in_doubt d k)) (sym none) (subst (Legal st.limit) (sym (append-nil (h ++ Publish (entry t f) ∷ []))) legal_new);
+    found = let few : st.found ≤ length st.stamps = stands.found in let long = stamps_longer stamps pushed in omega arith;
+    counts = counts_new stamps pushed;
     stamps = ap (map stamp_of) entries ∙ stamps_more (entries_of h) (entry t f) ∙ ap (λ (xs : List ℕ). xs ++ t ∷ []) stands.stamps ∙ sym pushed;
     set = set_new;
     within = let long = longer in let was : st.removed ≤ length (entries_of h) = stands.within in omega arith;
@@ -109,13 +140,18 @@ module _ (W : List ℕ → List ℕ → Type 0) (old new : Option Log) (st : Spo
     disk = λ m known.
         let was = before m known in
         let run = placed was.0 (rows_of st.removed st.holds st.last (entries_of h)) was.1 (each_row was.0 was.1) free in
+        let past_now : events m ≡ earlier ++ (after_found (h ++ Publish (entry t f) ∷ []) ++ []) =
+        ran_past was.0 new (Publish (entry t f) ∷ []) (Has (set_row (rows_of st.removed st.holds st.last (entries_of h)) t (Coming f))) (Has (set_row (rows_of st.removed st.holds st.last (entries_of h)) t (Pair f))) run m known
+        ∙ past_more (events was.0) earlier (after_found h) (Publish (entry t f) ∷ []) (past_calm was.0 was.1)
+        ∙ ap (λ (xs : List Event). earlier ++ xs) (sym (append-nil (after_found (h ++ Publish (entry t f) ∷ [])) ∙ after_more st.limit h (Publish (entry t f) ∷ []) stands.legal)) in
+        let images_now : Each m (Has (rows_of st.removed st.holds t (entries_of (h ++ Publish (entry t f) ∷ [])))) = λ c left. done_rows c (ran_each was.0 new (Publish (entry t f) ∷ []) (Has (set_row (rows_of st.removed st.holds st.last (entries_of h)) t (Coming f))) (Has (set_row (rows_of st.removed st.holds st.last (entries_of h)) t (Pair f))) run m known c left) in
         subst (λ (d : Doubt). OnDisk W m (record st { stamps = stamps; last = t; doubt = d }) earlier (h ++ Publish (entry t f) ∷ []) k) (sym none) (record {
-          images = λ c left. done_rows c (ran_each was.0 new (Publish (entry t f) ∷ []) (Has (set_row (rows_of st.removed st.holds st.last (entries_of h)) t (Coming f))) (Has (set_row (rows_of st.removed st.holds st.last (entries_of h)) t (Pair f))) run m known c left);
-          past = ran_past was.0 new (Publish (entry t f) ∷ []) (Has (set_row (rows_of st.removed st.holds st.last (entries_of h)) t (Coming f))) (Has (set_row (rows_of st.removed st.holds st.last (entries_of h)) t (Pair f))) run m known
-              ∙ past_more (events was.0) earlier (after_found h) (Publish (entry t f) ∷ []) (past_calm was.0 was.1)
-              ∙ ap (λ (xs : List Event). earlier ++ xs) (sym (append-nil (after_found (h ++ Publish (entry t f) ∷ [])) ∙ after_more st.limit h (Publish (entry t f) ∷ []) stands.legal));
+          images = images_now;
+          past = past_now;
           whole = whole_more W (h ++ Publish (entry t f) ∷ []) [] (whole_more W h (Publish (entry t f) ∷ []) (whole_calm was.0 was.1) (whole was.0 was.1, tt)) tt;
-          hidden = tt;
+          recalls = recalls_on W old new st earlier h k stands (record st { stamps = stamps; last = t; doubt = doubt.Nothing }) (h ++ Publish (entry t f) ∷ []) k was.0 m (Publish (entry t f) ∷ []) (Has (set_row (rows_of st.removed st.holds st.last (entries_of h)) t (Coming f))) (Has (set_row (rows_of st.removed st.holds st.last (entries_of h)) t (Pair f))) was.1 known run
+              (same_found stamps pushed) (found_more st.limit h (Publish (entry t f) ∷ []) stands.legal) legal_new past_now (counts_new stamps pushed) (shows (Coming f));
+          read = images_now (reads m) (leaves_now m);
         });
   }
 
@@ -127,11 +163,14 @@ module _ (W : List ℕ → List ℕ → Type 0) (old new : Option Log) (st : Spo
 
   -- a publication that failed leaves the history
   failed_stands : (d : Doubt) (r : Row) (es : List Event) (since halts : ℕ) → 0 < halts → with_doubt d f (rows_of st.removed st.holds st.last (entries_of h)) ≡ set_row (rows_of st.removed st.holds st.last (entries_of h)) t r → begun d f ≡ es
-      → ((l : Log) → old ≡ Some l → PublishWhole W (in_doubt d f)) → ((c : Folder) → IsHidden d c) → MayBe d f st.removed st.last (entries_of h) → KnownBefore old new
+      → ((l : Log) → old ≡ Some l → PublishWhole W (in_doubt d f)) → ((m : Log) → new ≡ Some m → IsRead d f (reads m)) → Legal st.limit (h ++ in_doubt d f) → MayBe d f st.removed st.last (entries_of h) → KnownBefore old new
       → ((l : Log) (rows : ℕ → Row) → old ≡ Some l → Each l (Has rows) → rows t ≡ Free → RanBy l new es (set_row rows t r) (set_row rows t r))
       → StandsFor W new (record st { doubt = d; halted = Some since; halts = halts }) earlier h f
-  failed_stands d r es since halts some rows_are begun_is whole hidden may before placed = record {
+  failed_stands d r es since halts some rows_are begun_is whole is_read more_legal may before placed = record {
     legal = stands.legal;
+    more = more_legal;
+    found = stands.found;
+    counts = stands.counts;
     stamps = stands.stamps;
     set = stands.set;
     within = stands.within;
@@ -144,33 +183,41 @@ module _ (W : List ℕ → List ℕ → Type 0) (old new : Option Log) (st : Spo
     disk = λ m known.
         let was = before m known in
         let run = placed was.0 (rows_of st.removed st.holds st.last (entries_of h)) was.1 (each_row was.0 was.1) free in
+        let images_now : Each m (Has (with_doubt d f (rows_of st.removed st.holds st.last (entries_of h)))) =
+        subst (λ (q : ℕ → Row). Each m (Has q)) (sym rows_are) (ran_each was.0 new es (Has (set_row (rows_of st.removed st.holds st.last (entries_of h)) t r)) (Has (set_row (rows_of st.removed st.holds st.last (entries_of h)) t r)) run m known) in
+        let past_now : events m ≡ earlier ++ (after_found h ++ begun d f) =
+        ran_past was.0 new es (Has (set_row (rows_of st.removed st.holds st.last (entries_of h)) t r)) (Has (set_row (rows_of st.removed st.holds st.last (entries_of h)) t r)) run m known
+        ∙ past_more (events was.0) earlier (after_found h) es (past_calm was.0 was.1) ∙ ap (λ (xs : List Event). earlier ++ (after_found h ++ xs)) (sym begun_is) in
         record {
-          images = subst (λ (q : ℕ → Row). Each m (Has q)) (sym rows_are) (ran_each was.0 new es (Has (set_row (rows_of st.removed st.holds st.last (entries_of h)) t r)) (Has (set_row (rows_of st.removed st.holds st.last (entries_of h)) t r)) run m known);
-          past = ran_past was.0 new es (Has (set_row (rows_of st.removed st.holds st.last (entries_of h)) t r)) (Has (set_row (rows_of st.removed st.holds st.last (entries_of h)) t r)) run m known
-              ∙ past_more (events was.0) earlier (after_found h) es (past_calm was.0 was.1) ∙ ap (λ (xs : List Event). earlier ++ (after_found h ++ xs)) (sym begun_is);
+          images = images_now;
+          past = past_now;
           whole = whole_more W h (in_doubt d f) (whole_calm was.0 was.1) (whole was.0 was.1);
-          hidden = hidden (reads m);
+          recalls = recalls_on W old new st earlier h k stands (record st { doubt = d; halted = Some since; halts = halts }) h f was.0 m es (Has (set_row (rows_of st.removed st.holds st.last (entries_of h)) t r)) (Has (set_row (rows_of st.removed st.holds st.last (entries_of h)) t r)) was.1 known run
+              refl refl stands.legal past_now stands.counts (shows r);
+          read = read_rows_of d f (rows_of st.removed st.holds st.last (entries_of h)) (reads m) (images_now (reads m) (leaves_now m)) (is_read m known);
         };
   }
 
   pub unsettled_stands : (since halts : ℕ) → 0 < halts → ((l : Log) → old ≡ Some l → W f.block f.index) → KnownBefore old new → ((l : Log) (rows : ℕ → Row) → old ≡ Some l → Each l (Has rows) → rows t ≡ Free → RanBy l new [] (set_row rows t (Half f)) (set_row rows t (Half f)))
       → StandsFor W new (record st { doubt = doubt.Unsettled t; halted = Some since; halts = halts }) earlier h f
-  unsettled_stands since halts some whole before placed = failed_stands (doubt.Unsettled t) (Half f) [] since halts some refl refl (λ l known. (whole l known, tt)) (λ c. tt) more before placed
+  unsettled_stands since halts some whole before placed = failed_stands (doubt.Unsettled t) (Half f) [] since halts some refl refl (λ l known. (whole l known, tt)) (λ m now. tt) legal_new more before placed
 
-  pub settled_stands : (since halts : ℕ) → 0 < halts → ((l : Log) → old ≡ Some l → W f.block f.index) → KnownBefore old new → ((l : Log) (rows : ℕ → Row) → old ≡ Some l → Each l (Has rows) → rows t ≡ Free → RanBy l new (Publish (entry t f) ∷ []) (set_row rows t (Coming f)) (set_row rows t (Coming f)))
+  pub settled_stands : (since halts : ℕ) → 0 < halts → ((l : Log) → old ≡ Some l → W f.block f.index) → KnownBefore old new → ((l : Log) (rows : ℕ → Row) → old ≡ Some l → Each l (Has rows) → rows t ≡ Free → RanBy l new (Publish (entry t f) ∷ []) (set_row rows t (Coming f)) (set_row rows t (Coming f)) × Reads new (Block t) (λ v. v ≡ Some f.block) × Reads new (Index t) (λ v. v ≡ Some f.index))
       → StandsFor W new (record st { doubt = doubt.Settled t; halted = Some since; halts = halts }) earlier h f
-  settled_stands since halts some whole before placed = failed_stands (doubt.Settled t) (Coming f) (Publish (entry t f) ∷ []) since halts some refl refl (λ l known. (whole l known, tt)) (λ c. tt) more before placed
+  settled_stands since halts some whole before placed = failed_stands (doubt.Settled t) (Coming f) (Publish (entry t f) ∷ []) since halts some refl refl (λ l known. (whole l known, tt))
+      (λ m now. let was = before m now in let r = placed was.0 (rows_of st.removed st.holds st.last (entries_of h)) was.1 (each_row was.0 was.1) free in (r.1 m now, r.2 m now))
+      legal_new more before (λ l rows known each none_yet. (placed l rows known each none_yet).0)
 
   pub unsettled_images : (l : Log) → old ≡ Some l → ((l : Log) (rows : ℕ → Row) → old ≡ Some l → Each l (Has rows) → rows t ≡ Free → RanBy l new [] (set_row rows t (Half f)) (set_row rows t (Half f))) → RanInDoubt l new h []
   unsettled_images l known placed =
       ran_widen l new [] (Has (set_row (rows_of st.removed st.holds st.last (entries_of h)) t (Half f))) (Has (set_row (rows_of st.removed st.holds st.last (entries_of h)) t (Half f))) (Gives h []) (Gives h []) (half_sets W old st earlier h k stands t f more) (half_sets W old st earlier h k stands t f more)
       (placed l (rows_of st.removed st.holds st.last (entries_of h)) known (each_row l known) free)
 
-  pub settled_images : (l : Log) → old ≡ Some l → ((l : Log) (rows : ℕ → Row) → old ≡ Some l → Each l (Has rows) → rows t ≡ Free → RanBy l new (Publish (entry t f) ∷ []) (set_row rows t (Coming f)) (set_row rows t (Coming f)))
+  pub settled_images : (l : Log) → old ≡ Some l → ((l : Log) (rows : ℕ → Row) → old ≡ Some l → Each l (Has rows) → rows t ≡ Free → RanBy l new (Publish (entry t f) ∷ []) (set_row rows t (Coming f)) (set_row rows t (Coming f)) × Reads new (Block t) (λ v. v ≡ Some f.block) × Reads new (Index t) (λ v. v ≡ Some f.index))
       → RanInDoubt l new h (Publish (entry t f) ∷ [])
   settled_images l known placed =
       ran_widen l new (Publish (entry t f) ∷ []) (Has (set_row (rows_of st.removed st.holds st.last (entries_of h)) t (Coming f))) (Has (set_row (rows_of st.removed st.holds st.last (entries_of h)) t (Coming f))) (Gives h (Publish (entry t f) ∷ [])) (Gives h (Publish (entry t f) ∷ [])) (coming_sets W old st earlier h k stands t f more) (coming_sets W old st earlier h k stands t f more)
-      (placed l (rows_of st.removed st.holds st.last (entries_of h)) known (each_row l known) free)
+      (placed l (rows_of st.removed st.holds st.last (entries_of h)) known (each_row l known) free).0
 
   free_fits : (l : Log) → old ≡ Some l → Fits Free (reads l (Block t)) (reads l (Index t)) (reads l (Parked t))
   free_fits l known = subst (λ (q : Row). Fits q (reads l (Block t)) (reads l (Index t)) (reads l (Parked t))) free (each_row l known (reads l) (leaves_now l) t)

@@ -16,6 +16,11 @@ pub still_none : {T E : Type 0} (old new : Option Log) (r : Result T E) (m n : N
 still_none {T = T} {E = E} old new (Ok v) m n does none = reads_removing old new m n (λ v. v ≡ None) (λ same. refl) none does
 still_none {T = T} {E = E} old new (Err e) m n does none = reads_looked old new n (λ v. v ≡ None) none does
 
+-- a removal leaves what is read under another name
+pub stays_read : {T E : Type 0} (old new : Option Log) (r : Result T E) (m n : Name) (v : Option (List ℕ)) → Does old new r (λ _. removal old m) → (n ≡ m → ⊥) → Reads old n (λ x. x ≡ v) → Reads new n (λ x. x ≡ v)
+stays_read {T = T} {E = E} old new (Ok x) m n v does other read = reads_removing old new m n (λ x. x ≡ v) (λ same. absurd (other (sym same))) read does
+stays_read {T = T} {E = E} old new (Err e) m n v does other read = reads_looked old new n (λ x. x ≡ v) read does
+
 abbrev pub Still : Option Log → Option Log → Type 0
 Still old new = (n : Name) → Reads old n (λ v. v ≡ None) → Reads new n (λ v. v ≡ None)
 

@@ -1,6 +1,7 @@
 -- What an ageing makes of a spool.
 use Rattle.std.specs.Prelude.{◌≡◌, ◌<◌, ◌+◌, ◌-◌, ◌⊎◌, ℕ, List, [], ◌∷◌, ◌++◌, length, slice_index, Option, None, Some, Bool, true, false, Result, Ok, Err}
 use Rattle.st_disk.specs.Disks.{Log}
+use Rattle.st_disk.specs.LoggedCalls.{KnownBefore}
 use Rattle.st_disk.specs.Pairs.{Entry, Files, files_of}
 use Rattle.st_disk.specs.Events.{Event, Remove}
 use Rattle.st_spool.specs.States.{SpoolState}
@@ -32,6 +33,7 @@ aged st to = record st { removed = st.removed + 1; swept = to }
 -- the spool stands for the history with the removal, and no crash leaves the pair
 pub record Removes (IsWhole : List ℕ → List ℕ → Type 0) (old new : Option Log) (st : SpoolState)
     (earlier h : List Event) (e : Entry) (f : Files) : Type 0 where
+  pub known : KnownBefore old new
   pub stands : StandsFor IsWhole new st earlier (h ++ Remove e.stamp ∷ []) f
   pub images : (first : Log) → old ≡ Some first → RanTo first new h (Remove e.stamp)
 

@@ -14,7 +14,6 @@ use Rattle.st_disk.specs.Events.{Found, events}
 use Rattle.st_spool.specs.Rows.{Row, Past, Lone, Both}
 use Rattle.st_spool.specs.States.{SpoolState}
 use Rattle.st_spool.specs.Standing.{StandsFor}
-use Rattle.st_spool.specs.Recalling.{history}
 use Rattle.st_spool.specs.declared.state.Doubt.TheVariants as doubt
 
 -- the second where the first is there
@@ -132,6 +131,5 @@ pub record Enters (IsWhole : List ℕ → List ℕ → Type 0) (first : Log) (kn
   pub pairs : List Entry
   pub found : PairsIn (reads first) pairs
   pub stands : (f : Files) → StandsFor IsWhole known st (events first) (Found pairs ∷ []) f
-  pub history : (now : Log) → known ≡ Some now → history st now now ≡ Found pairs ∷ []
   pub last : IsLastStamp (λ n. IsSome (reads first n)) st.last
   pub images : Clears first known (Is (pairs_alone (reads first)))

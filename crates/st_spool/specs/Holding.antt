@@ -50,6 +50,16 @@ index_name false s = Index s
 abbrev pub IsGone : Option Log → ℕ → Type 0
 IsGone known s = Reads known (Block s) (λ v. v ≡ None) × Reads known (Parked s) (λ v. v ≡ None)
 
+-- the name is neither of the two files that are left of a removed pair
+abbrev pub IsOther : ℕ → Name → Type 0
+IsOther s n = (n ≡ Block s → ⊥) × (n ≡ Parked s → ⊥)
+
+-- what is read under names that have P is read under them still
+abbrev pub StayRead : Option Log → Option Log → (Name → Type 0) → Type 0
+StayRead old new P =
+    (n : Name) (bytes : Option (List ℕ)) → P n → Reads old n (λ v. v ≡ bytes)
+    → Reads new n (λ v. v ≡ bytes)
+
 -- Of the removed pairs from the first place on, those that no hold has were tried: where no fault
 -- was counted no file of them is left. None is left of those before the place that was reached.
 pub record Sweeps (known : Option Log) (stamps : List ℕ) (holds : List Span)

@@ -2,8 +2,8 @@ pub mod History
 pub mod Rows
 pub mod Placing
 pub mod States
-pub mod Standing
 pub mod Recalling
+pub mod Standing
 pub mod Publishing
 pub mod Aging
 pub mod Refusing

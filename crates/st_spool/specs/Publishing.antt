@@ -2,6 +2,7 @@
 use Rattle.std.specs.Prelude.{◌≡◌, ◌<◌, ◌+◌, ◌-◌, ◌^◌, ◌⊎◌, ℕ, List, [], ◌∷◌, ◌++◌, Option, None, Some, max}
 use Rattle.st_base.specs.Faults.{next_count}
 use Rattle.st_disk.specs.Disks.{Log}
+use Rattle.st_disk.specs.LoggedCalls.{KnownBefore}
 use Rattle.st_disk.specs.Runs.{Ran}
 use Rattle.st_disk.specs.Pairs.{Entry, Files, PairsIn}
 use Rattle.st_disk.specs.Events.{Event, Publish}
@@ -54,18 +55,21 @@ RanAsBefore first known h es = Ran first known [] (Gives h es) (Gives h es)
 -- a publication of this entry: the spool stands for the history with it, and each crash leaves it
 pub record Publishes (IsWhole : List ℕ → List ℕ → Type 0) (old new : Option Log) (st : SpoolState)
     (earlier h : List Event) (e : Entry) (f : Files) : Type 0 where
+  pub known : KnownBefore old new
   pub stands : StandsFor IsWhole new st earlier (h ++ Publish e ∷ []) f
   pub images : (first : Log) → old ≡ Some first → RanTo first new h (Publish e)
 
 -- a call that failed on a pair with these files: the spool stands for the history as before
 pub record Fails (IsWhole : List ℕ → List ℕ → Type 0) (old new : Option Log) (st : SpoolState)
     (earlier h : List Event) (f : Files) : Type 0 where
+  pub known : KnownBefore old new
   pub stands : StandsFor IsWhole new st earlier h f
   pub images : (first : Log) → old ≡ Some first → RanInDoubt first new h (begun st.doubt f)
 
 -- a call with no event: the spool stands for the history as before, with the same event in doubt
 pub record Keeps (IsWhole : List ℕ → List ℕ → Type 0) (old new : Option Log) (st : SpoolState)
     (earlier h : List Event) (f : Files) : Type 0 where
+  pub known : KnownBefore old new
   pub stands : StandsFor IsWhole new st earlier h f
   pub images : (first : Log) → old ≡ Some first → RanAsBefore first new h (begun st.doubt f)
 

@@ -9,6 +9,7 @@ use Rattle.st_spool.specs.Rows.{Has, Either}
 use Rattle.st_spool.specs.History.{set_of, entries_of, Legal}
 use Rattle.st_spool.specs.Placing.{entry}
 use Rattle.st_spool.specs.States.{SpoolState, rows_by, read_rows, MayBe, AreUpTo, IsWithin, AreWithin}
+use Rattle.st_spool.specs.Recalling.{history, event_count}
 use Rattle.st_spool.specs.declared.state.Doubt.{Doubt}
 use Rattle.st_spool.specs.declared.state.Doubt.TheVariants.{Nothing, Unsettled, Settled, Unhidden, Hidden}
 
@@ -62,6 +63,8 @@ pub record OnDisk (IsWhole : List ℕ → List ℕ → Type 0) (log : Log) (st :
   -- doubt just if the failed call settled its block or hid its index
   pub past : events log ≡ earlier ++ (after_found h ++ begun st.doubt f)
   pub whole : PublishWhole IsWhole (h ++ in_doubt st.doubt f)
+  -- the history is the one that the state and the log tell
+  pub recalls : history st log ≡ h
   -- what is read under the names of each stamp, that of the doubt among them
   pub read : Has (read_rows st f (entries_of h)) (reads log)
 
@@ -78,6 +81,8 @@ pub record StandsFor (IsWhole : List ℕ → List ℕ → Type 0) (known : Optio
   pub within : st.removed ≤ length (entries_of h)
   pub rises : IsFileSet (entries_of h)
   pub last : AreUpTo st.last (entries_of h)
+  pub found : st.found ≤ length st.stamps
+  pub counts : length (after_found h) ≡ event_count st
   -- the held sets, and the one that was asked for last
   pub holds : AreWithin (length (entries_of h)) st.holds
   pub asked : IsWithin (length (entries_of h)) st.asked
@@ -86,3 +91,9 @@ pub record StandsFor (IsWhole : List ℕ → List ℕ → Type 0) (known : Optio
   pub doubt : MayBe st.doubt f st.removed st.last (entries_of h)
   -- the shelf
   pub disk : (log : Log) → known ≡ Some log → OnDisk IsWhole log st earlier h f
+
+-- A spool stands for some history. Where the log is known, this is the one that the state and the
+-- log tell (`history`).
+abbrev pub Stands : (List ℕ → List ℕ → Type 0) → Option Log → SpoolState → Type 0
+Stands IsWhole known st =
+    (earlier : List Event) × (h : List Event) × (f : Files) × StandsFor IsWhole known st earlier h f

@@ -28,11 +28,27 @@ pub record SpoolState : Type 0 where
   pub asks : ℕ
   pub asked : Span
 
--- a spool: its shelf, the shelf as the opening left it, what it keeps, and for how many
--- publications it has room
+-- what a spool keeps, by its parts
+abbrev pub state_by :
+    ℕ → List ℕ → ℕ → ℕ → ℕ → ℕ → List Span → Doubt → Option ℕ → ℕ → ℕ → Span → SpoolState
+state_by limit stamps found removed swept last holds doubt halted halts asks asked = record {
+  limit = limit;
+  stamps = stamps;
+  found = found;
+  removed = removed;
+  swept = swept;
+  last = last;
+  holds = holds;
+  doubt = doubt;
+  halted = halted;
+  halts = halts;
+  asks = asks;
+  asked = asked;
+}
+
+-- a spool: its shelf, what it keeps, and for how many publications it has room
 pub record SpoolView (D : Type 0) : Type 0 where
   pub shelf : D
-  pub base : D
   pub state : SpoolState
   pub spare : ℕ
 

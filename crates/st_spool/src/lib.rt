@@ -16,6 +16,9 @@
 //!   from then on `publish` and `age` refuse.
 //! - A hold gives its pairs with their bytes, whatever is published or removed meanwhile
 //!   (`Spool::block_of`, `index_of`, `holds_stay`).
+//! - The history is one, told by what the spool keeps and by its shelf's log (`one_history`). Over
+//!   a whole run of calls a crash leaves the pairs of the history up to some event, and never less
+//!   than was answered Ok (`covers`).
 //! - `DiskFault` comes only if the shelf's count of faults rose in that call.
 //!
 //! # What it leaves to others
@@ -27,7 +30,8 @@
 //!
 //! `specs/History.antt` says which histories there may be, `specs/Rows.antt` and
 //! `specs/States.antt` what a crash may leave under the names of a stamp, `specs/Standing.antt`
-//! which history a spool stands for. Then `spool`.
+//! which history a spool stands for, `specs/Recalling.antt` how state and log tell it,
+//! `specs/Covers.antt` what crashes leave over a run. Then `spool`.
 #![tactic(auto)]
 
 mod held;
@@ -43,7 +47,7 @@ mod sweeping;
 mod tests;
 
 pub use held::Hold;
-pub use laws::holds_stay;
+pub use laws::{covers, holds_stay, one_history};
 pub use opening::EnterErr;
 pub use pair_rule::PairRule;
 pub use refusals::{AgeErr, DiskFault, NotEntered, PublishErr};

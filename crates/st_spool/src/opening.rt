@@ -5,11 +5,11 @@ ghost use Rattle.st_disk.specs.declared.naming.Name.{Name};
 ghost use Rattle.st_disk.specs.declared.naming.Name.TheVariants.{Block, Index};
 ghost use Rattle.st_disk.specs.Folders.{Folder};
 ghost use Rattle.st_disk.specs.Names.{AreSorted, number_of};
-ghost use Rattle.st_disk.specs.Disks.{Log, Leaves};
+ghost use Rattle.st_disk.specs.Disks.{Log};
 ghost use Rattle.st_disk.specs.Runs.{Each, Ran};
 ghost use Rattle.st_disk.specs.LoggedCalls.{Reads, KnownBefore};
 ghost use Rattle.st_spool.specs.Rows.{RanBy};
-ghost use Rattle.st_spool.specs.Entering.{pairs_alone, Is, SamePairs, found_rows, IsPart, AreThere, ReadsCleared, ArePaired, IsLastStamp, IsStamped, flushed_log, FailsToEnter, Opens};
+ghost use Rattle.st_spool.specs.Entering.{pairs_alone, Is, SamePairs, found_rows, IsPart, AreThere, ReadsCleared, ArePaired, IsLastStamp, IsStamped, flushed_log, FailsToFlush, FailsToEnter, Opens};
 
 use st_base::{Failed, NoMemory};
 use st_disk::number_of_name;
@@ -29,7 +29,7 @@ pub enum EnterErr {
 pub(crate) fn flush_both<D: Shelf>(shelf: &mut D) -> Result<(), Failed>
     ensures flushed { (first : Log) → D.log shelf.old ≡ Some first → MatchResult result
         (λ _. D.log shelf.new ≡ Some (flushed_log first))
-        (λ _. Ran first (D.log shelf.new) [] (Leaves first) (Leaves first)) }
+        (λ _. FailsToFlush first (D.log shelf.new)) }
     ensures known { KnownBefore (D.log shelf.old) (D.log shelf.new) }
     ensures cause { HasCause (D.faults shelf.old) (D.faults shelf.new) result }
     ensures rest { (D.id shelf.new ≡ D.id shelf.old) × (D.loans shelf.new ≡ D.loans shelf.old) }

@@ -1,5 +1,5 @@
 // What a publication and a removal do to a shelf, seen by stamps alone.
-ghost use Rattle.std.specs.Prelude.{Option, ◌≡◌, ◌≤◌, ℕ, List, None, OnErr, IsSome, ◌<◌, length, slice_index, false, true, Contains, MatchResult, OnOk, ◌↔◌};
+ghost use Rattle.std.specs.Prelude.{Option, ◌≡◌, ◌≤◌, ℕ, List, None, OnErr, IfErr, IsSome, ◌<◌, length, slice_index, false, true, Contains, MatchResult, OnOk, ◌↔◌};
 ghost use Rattle.st_base.specs.Faults.{Rose, HasCause};
 ghost use Rattle.st_disk.specs.declared.naming.Kind.TheVariants as kind;
 ghost use Rattle.st_disk.specs.declared.naming.Name.TheVariants as name;
@@ -11,7 +11,7 @@ ghost use Rattle.st_disk.specs.Pairs.{Files};
 ghost use Rattle.st_disk.specs.Events.{Event};
 ghost use Rattle.st_spool.specs.Rows.{Row, Free, Past, Pair, Has, RanBy};
 ghost use Rattle.st_spool.specs.Holding.{is_parked, index_name};
-ghost use Rattle.st_spool.specs.Placing.{Placed, Hidden, files};
+ghost use Rattle.st_spool.specs.Placing.{Placed, Hidden, FailsToHide, files};
 
 use crate::state::Doubt;
 use st_shelf::{End, Kind, Name, SealedPair, Shelf};
@@ -71,6 +71,8 @@ pub(crate) fn hide_out<D: Shelf>(shelf: &mut D, stamp: u64) -> Result<(), Stoppe
     ensures hidden { (first : Log) (rows : ℕ → Row) (f : Files) → D.log shelf.old ≡ Some first
         → Each first (Has rows) → rows stamp ≡ Pair f
         → Hidden first (D.log shelf.new) rows stamp f result }
+    ensures stopped { IfErr result (FailsToHide (D.log shelf.old) (D.log shelf.new) stamp) }
+    // the counts
     ensures known { KnownBefore (D.log shelf.old) (D.log shelf.new) }
     ensures cause { HasCause (D.faults shelf.old) (D.faults shelf.new) result }
     ensures rest { (D.id shelf.new ≡ D.id shelf.old) × (D.loans shelf.new ≡ D.loans shelf.old) }

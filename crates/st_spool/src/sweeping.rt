@@ -6,7 +6,7 @@ ghost use Rattle.st_disk.specs.Disks.{Log};
 ghost use Rattle.st_disk.specs.LoggedCalls.{Reads, KnownBefore};
 ghost use Rattle.st_spool.specs.Rows.{Row, Past, RanBy};
 ghost use Rattle.st_spool.specs.States.{covers};
-ghost use Rattle.st_spool.specs.Holding.{IsGone, IsWithout, Sweeps};
+ghost use Rattle.st_spool.specs.Holding.{IsGone, IsOther, IsWithout, StayRead, Sweeps};
 
 use crate::state::Span;
 use st_base::Failed;
@@ -24,9 +24,12 @@ fn forget<D: Shelf>(shelf: &mut D, stamp: u64) -> Result<(), Failed>
     ensures forgotten { (first : Log) (rows : ℕ → Row) → rows stamp ≡ Past
         → RanBy first (D.log shelf.old) [] rows rows
         → RanBy first (D.log shelf.new) [] rows rows }
+    // what is read
     ensures gone { OnOk result (IsGone (D.log shelf.new) stamp) }
     ensures still { (n : Name) → Reads (D.log shelf.old) n (λ v. v ≡ None)
         → Reads (D.log shelf.new) n (λ v. v ≡ None) }
+    ensures spares { StayRead (D.log shelf.old) (D.log shelf.new) (IsOther stamp) }
+    // the counts
     ensures known { KnownBefore (D.log shelf.old) (D.log shelf.new) }
     ensures cause { HasCause (D.faults shelf.old) (D.faults shelf.new) result }
     ensures rest { (D.id shelf.new ≡ D.id shelf.old) × (D.loans shelf.new ≡ D.loans shelf.old) }
@@ -55,10 +58,14 @@ pub(crate) fn sweep<D: Shelf>(
         → rows (slice_index stamps.now n) ≡ Past)
         → RanBy first (D.log shelf.old) [] rows rows
         → RanBy first (D.log shelf.new) [] rows rows }
+    // what is read
     ensures sweeps { Sweeps (D.log shelf.new) stamps.now holds.now from result removed
         (D.faults shelf.old) (D.faults shelf.new) }
     ensures still { (n : Name) → Reads (D.log shelf.old) n (λ v. v ≡ None)
         → Reads (D.log shelf.new) n (λ v. v ≡ None) }
+    ensures spares { StayRead (D.log shelf.old) (D.log shelf.new)
+        (λ n. (i : ℕ) → i < removed → IsOther (slice_index stamps.now i) n) }
+    // the counts
     ensures known { KnownBefore (D.log shelf.old) (D.log shelf.new) }
     ensures cause { D.faults shelf.old ≤ D.faults shelf.new }
     ensures rest { (D.id shelf.new ≡ D.id shelf.old) × (D.loans shelf.new ≡ D.loans shelf.old) }

@@ -1,4 +1,4 @@
-ghost use Rattle.std.specs.Prelude.{Option, ◌≡◌, ◌≤◌, ◌∷◌, [], List, ⊤, IfSome, IfOk};
+ghost use Rattle.std.specs.Prelude.{Option, ◌≡◌, ◌≤◌, ◌∷◌, [], List, ⊤, IfSome, IfOk, MatchOption, Contains};
 ghost use Rattle.st_disk.specs.declared.naming.Kind.TheVariants as kind;
 
 use super::*;
@@ -92,7 +92,7 @@ fn read_pair<D: Shelf>(
     hold: &Hold,
     i: usize,
 ) -> Option<(u64, u8, u8)>
-    requires { spool.old.state.holds ≡ hold.now ∷ [] }
+    requires { Contains spool.old.state.holds hold.now }
     ensures { spool.new.state.holds ≡ spool.old.state.holds }
 {
     if i >= spool.count(hold) {
@@ -103,14 +103,20 @@ fn read_pair<D: Shelf>(
         return None;
     };
     let mut block = [0];
-    let _ = file.read_at(0, &mut block);
+    let read = file.read_at(0, &mut block);
     spool.close_file(file);
+    let Ok(_) = read else {
+        return None;
+    };
     let Ok(mut file) = spool.index_of(hold, i) else {
         return None;
     };
     let mut index = [0];
-    let _ = file.read_at(0, &mut index);
+    let read = file.read_at(0, &mut index);
     spool.close_file(file);
+    let Ok(_) = read else {
+        return None;
+    };
     Some((stamp, block[0], index[0]))
 }
 
@@ -295,5 +301,167 @@ fn a_hold_keeps_its_files_beside_age(rt: HostRuntime) -> Result<(), Fail> {
     assert_eq!(rt; (seen.held, seen.count), (Some((1, 10, 11)), 1));
     let names = two_names(alloc, shelf).ok_or("names are left")?;
     assert_eq!(rt; names, [Name::Block(7), Name::Index(7)]);
+    Ok(())
+}
+
+// What was answered beside two holds, what they read, and what is left at the end.
+#[derive(Clone, Copy, Debug, PartialEq, Eq)]
+struct Two {
+    stamps: [Answer; 5],
+    aged: [Option<bool>; 3],
+    early: [Option<(u64, u8, u8)>; 2],
+    late: [Option<(u64, u8, u8)>; 2],
+    parked: usize,
+    files: usize,
+}
+
+// Ends the first of two holds.
+fn release_first<D: Shelf>(spool: &mut Spool<D, AnyPair>, first: Hold, second: &Hold)
+    requires { spool.old.state.holds ≡ first ∷ second.now ∷ [] }
+    ensures { spool.new.state.holds ≡ second.now ∷ [] }
+{
+    spool.release(first);
+}
+
+// How many names there are on a shelf, and how many of them are parked.
+fn names_left(alloc: Global, shelf: &mut MemShelf) -> Option<(usize, usize)> {
+    let Ok(names) = shelf.list(alloc) else {
+        return None;
+    };
+    let items = names.items();
+    let mut parked = 0_usize;
+    for i in 0..items.len() {
+        if let Name::Parked(_) = items[i] {
+            parked = parked.saturating_add(1);
+        }
+    }
+    Some((items.len(), parked))
+}
+
+// The first two pairs of a hold.
+fn read_two<D: Shelf>(spool: &mut Spool<D, AnyPair>, hold: &Hold) -> [Option<(u64, u8, u8)>; 2]
+    requires { Contains spool.old.state.holds hold.now }
+    ensures { spool.new.state.holds ≡ spool.old.state.holds }
+{
+    let one = read_pair(spool, hold, 0);
+    let two = read_pair(spool, hold, 1);
+    [one, two]
+}
+
+// What was removed and published beside a hold.
+#[derive(Clone, Copy, Debug, PartialEq, Eq)]
+struct Beside {
+    aged: Option<bool>,
+    stamp: Answer,
+}
+
+// Removes a pair and publishes one.
+fn go_on<D: Shelf>(spool: &mut Spool<D, AnyPair>, stamp: u8) -> Beside
+    ensures { spool.new.state.holds ≡ spool.old.state.holds }
+{
+    let aged = spool.age().ok();
+    let stamp = publish(spool, stamp, u64::from(stamp));
+    Beside { aged, stamp }
+}
+
+// Holds what is there beside a hold.
+fn hold_second<D: Shelf>(spool: &mut Spool<D, AnyPair>, first: &Hold) -> Option<Hold>
+    requires { spool.old.state.holds ≡ first.now ∷ [] }
+    ensures { MatchOption result (spool.new.state.holds ≡ first.now ∷ [])
+        (λ second. spool.new.state.holds ≡ first.now ∷ second ∷ []) }
+{
+    spool.hold().ok()
+}
+
+// Reads the first of two holds and ends it; then the second one, and ends that. A further hold and
+// its release try again what failed.
+fn read_and_release<D: Shelf>(
+    spool: &mut Spool<D, AnyPair>,
+    first: Hold,
+    second: Hold,
+) -> [[Option<(u64, u8, u8)>; 2]; 2]
+    requires { spool.old.state.holds ≡ first ∷ second ∷ [] }
+    ensures { spool.new.state.holds ≡ [] }
+{
+    let early = read_two(spool, &first);
+    release_first(spool, first, &second);
+    let late = read_two(spool, &second);
+    spool.release(second);
+    if let Ok(last) = spool.hold() {
+        spool.release(last);
+    }
+    [early, late]
+}
+
+// Publishes four pairs and removes three beside two holds that share a pair. The limit is 1, and a
+// pair's first byte is its stamp.
+fn two_holds(alloc: Global, shelf: MemShelf) -> Option<(Two, MemShelf)> {
+    let mut spool = opened(alloc, shelf, 1)?;
+    let one = publish(&mut spool, 10, 10);
+    let two = publish(&mut spool, 20, 20);
+    let Ok(first) = spool.hold() else {
+        let _shelf = spool.close();
+        return None;
+    };
+    let third = go_on(&mut spool, 30);
+    let Some(second) = hold_second(&mut spool, &first) else {
+        spool.release(first);
+        let _shelf = spool.close();
+        return None;
+    };
+    let fourth = go_on(&mut spool, 40);
+    let last = go_on(&mut spool, 50);
+    let [early, late] = read_and_release(&mut spool, first, second);
+    let mut shelf = spool.close();
+    let (files, parked) = names_left(alloc, &mut shelf)?;
+    let stamps = [one, two, third.stamp, fourth.stamp, last.stamp];
+    let aged = [third.aged, fourth.aged, last.aged];
+    let seen = Two {
+        stamps,
+        aged,
+        early,
+        late,
+        parked,
+        files,
+    };
+    Some((seen, shelf))
+}
+
+fn is_pair(read: Option<(u64, u8, u8)>) -> bool {
+    let Some((stamp, block, index)) = read else {
+        return true;
+    };
+    u64::from(block) == stamp && u64::from(index) == stamp.saturating_add(1)
+}
+
+// Each hold reads its two pairs, the later one too after the earlier one ended. Whatever single
+// call fails, what is read is as it was published; and unless the spool halted, no parked name is
+// left at the end.
+#[test]
+fn two_holds_read_beside_ageing_whatever_call_fails(rt: HostRuntime) -> Result<(), Fail> {
+    let alloc = rt.alloc();
+    let shelf = MemShelf::with(alloc, &[], None)?;
+    let (two, _shelf) = two_holds(alloc, shelf).ok_or("the disk failed")?;
+    assert_eq!(rt; two.aged, [Some(true), Some(true), Some(true)]);
+    assert_eq!(rt; two.early, [Some((10, 10, 11)), Some((20, 20, 21))]);
+    assert_eq!(rt; two.late, [Some((20, 20, 21)), Some((30, 30, 31))]);
+    assert_eq!(rt; (two.files, two.parked), (4, 0));
+    let mut tried = 0_u64;
+    for call in 3..100 {
+        let shelf = MemShelf::with(alloc, &[call], None)?;
+        let Some((two, _shelf)) = two_holds(alloc, shelf) else {
+            continue;
+        };
+        for read in two.early {
+            assert!(rt; is_pair(read), "call {call}");
+        }
+        for read in two.late {
+            assert!(rt; is_pair(read), "call {call}");
+        }
+        let halts = two.stamps.contains(&Answer::DiskFault) || two.aged.contains(&None);
+        assert!(rt; halts || two.parked == 0, "call {call}");
+        tried = tried.saturating_add(1);
+    }
+    assert!(rt; tried > 80, "{tried}");
     Ok(())
 }

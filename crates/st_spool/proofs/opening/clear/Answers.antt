@@ -1,7 +1,7 @@
 use Rattle.std.proofs.Common.{◌<◌, [], IsSome, Contains, length, get_or, arith, ◌∙◌}
 use Rattle.st_disk.specs.declared.naming.Name.TheVariants.{Block}
 use Rattle.st_disk.specs.LoggedCalls.{removal}
-use Rattle.st_disk.proofs.Runs.{known_then, known_adds}
+use Rattle.st_disk.proofs.Runs.{known_then, known_adds, known_looks}
 use Rattle.std.proofs.lemmas.List.Elements.{Contains-get_or}
 use Rattle.st_spool.specs.Entering.{found_rows, IsPart}
 use Rattle.st_spool.proofs.Stages.{removes}
@@ -41,3 +41,8 @@ pub returns-clause-reads : goal.returns-clause-reads
 returns-clause-reads g c =
     let D = g.D.Shelf in
     cleared_reads c.args.names.now (D.log c.args.shelf.now) (D.log c.names.shelf) c.names.i (omega arith) c.names.invariant.left c.names.invariant.gone
+
+pub returns-in-Err-clause-known : goal.returns-in-Err-clause-known
+returns-in-Err-clause-known g c =
+    let D = g.D.Shelf in
+    known_then (D.log c.args.shelf.now) (D.log c.names.shelf) (D.log c.remove.new.self) c.names.invariant.known (known_looks (D.log c.names.shelf) (D.log c.remove.new.self) c.in-Err.ensures.log)

@@ -15,7 +15,7 @@ pub returns-in-Err-flush_both-clause-tidied : goal.returns-in-Err-flush_both-cla
 returns-in-Err-flush_both-clause-tidied g c = λ first f there is each.
     let D = g.D.Shelf in
     let run = c.in_default.ensures.cleared first f there (clearing first (D.log c.args.shelf.now) f c.args.names.now there is each) in
-    flush_failed first (D.log c.flush_both.new.shelf) f c.args.names.now there (D.log c.clear.new.shelf) run (c.in-Err-flush_both.ensures.flushed run.log run.is)
+    flush_failed first (D.log c.flush_both.new.shelf) f c.args.names.now there (D.log c.clear.new.shelf) run (c.in-Err-flush_both.ensures.flushed run.log run.is).images
 
 pub returns-clause-tidied : goal.returns-clause-tidied
 returns-clause-tidied g c = λ first f there is each.

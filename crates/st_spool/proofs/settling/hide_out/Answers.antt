@@ -25,3 +25,6 @@ returns-clause-hidden g c = λ l rows f known each pair.
     let a = hidden l rows c.args.stamp f (D.log c.args.shelf.now) (D.log c.hide.new.self) (going_start l rows c.args.stamp f (D.log c.args.shelf.now) pair known each) c.in_default.ensures.log in
     let gone = hidden_read (D.log c.args.shelf.now) (D.log c.hide.new.self) c.args.stamp l known c.in_default.ensures.parked in
     gone_flushed l rows c.args.stamp f (D.log c.hide.new.self) (D.log c.flush.new.self) a gone c.in_default-flush.ensures.log
+
+pub returns-in-Err-flush-clause-stopped : goal.returns-in-Err-flush-clause-stopped
+returns-in-Err-flush-clause-stopped g c = (g.D.Shelf.log c.hide.new.self, c.in_default.ensures.log, c.in-Err-flush.ensures.log)

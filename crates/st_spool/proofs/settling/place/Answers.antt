@@ -3,7 +3,7 @@ use Rattle.st_disk.specs.declared.naming.Kind.TheVariants as kind
 use Rattle.st_disk.specs.declared.naming.Name.TheVariants as name
 use Rattle.st_disk.specs.declared.changes.Call.TheVariants.{Flush}
 use Rattle.st_disk.specs.Folders.{given}
-use Rattle.st_disk.proofs.Reading.{reads_still, flush_spares}
+use Rattle.st_disk.proofs.Reading.{reads_still, reads_looked, flush_spares}
 use Rattle.st_spool.specs.Rows.{Half, Coming, set_row}
 use Rattle.st_spool.specs.Placing.{files, entry}
 use Rattle.st_disk.specs.Events.{Publish}
@@ -41,7 +41,11 @@ returns-in-Err-flush-clause-placed g c = λ l rows known each free.
     let a = half_start l rows c.args.stamp f (D.log c.args.shelf.now) free known each in
     let b = half_settled l rows c.args.stamp f (D.log c.args.shelf.now) (D.log c.settle.new.self) _ _ c.requires.kinds.1 a c.in_default.ensures.log in
     let q = settled l rows c.args.stamp f (D.log c.settle.new.self) (D.log c.settle-2.new.self) _ _ c.requires.kinds.0 c.in_default.ensures.there b c.in_default-settle.ensures.log in
-    looks l (Publish (entry c.args.stamp f) ∷ []) (set_row rows c.args.stamp (Coming f)) (D.log c.settle-2.new.self) (D.log c.flush.new.self) q c.in-Err-flush.ensures.log
+    let there = reads_still (D.log c.settle.new.self) (D.log c.settle-2.new.self) _ (name.Index c.args.stamp) (λ v. v ≡ Some f.index) (block_spares _ _ c.args.stamp c.args.stamp _ c.requires.kinds.0) c.in_default.ensures.there c.in_default-settle.ensures.log in (
+      looks l (Publish (entry c.args.stamp f) ∷ []) (set_row rows c.args.stamp (Coming f)) (D.log c.settle-2.new.self) (D.log c.flush.new.self) q c.in-Err-flush.ensures.log,
+      reads_looked (D.log c.settle-2.new.self) (D.log c.flush.new.self) (name.Block c.args.stamp) (λ v. v ≡ Some f.block) c.in_default-settle.ensures.there c.in-Err-flush.ensures.log,
+      reads_looked (D.log c.settle-2.new.self) (D.log c.flush.new.self) (name.Index c.args.stamp) (λ v. v ≡ Some f.index) there c.in-Err-flush.ensures.log,
+    )
 
 pub returns-in-Err-flush-2-clause-placed : goal.returns-in-Err-flush-2-clause-placed
 returns-in-Err-flush-2-clause-placed g c = λ l rows known each free.
@@ -52,7 +56,12 @@ returns-in-Err-flush-2-clause-placed g c = λ l rows known each free.
     let q = settled l rows c.args.stamp f (D.log c.settle.new.self) (D.log c.settle-2.new.self) _ _ c.requires.kinds.0 c.in_default.ensures.there b c.in_default-settle.ensures.log in
     let there = reads_still (D.log c.settle.new.self) (D.log c.settle-2.new.self) _ (name.Index c.args.stamp) (λ v. v ≡ Some f.index) (block_spares _ _ c.args.stamp c.args.stamp _ c.requires.kinds.0) c.in_default.ensures.there c.in_default-settle.ensures.log in
     let h = index_flushed l rows c.args.stamp f (D.log c.settle-2.new.self) (D.log c.flush.new.self) q there c.in_default-flush.ensures.log in
-    index_looks l rows c.args.stamp f (D.log c.flush.new.self) (D.log c.flush-2.new.self) h c.in-Err-flush-2.ensures.log
+    let block = reads_still (D.log c.settle-2.new.self) (D.log c.flush.new.self) (Flush kind.Index) (name.Block c.args.stamp) (λ v. v ≡ Some f.block) (flush_spares kind.Index (name.Block c.args.stamp)) c.in_default-settle.ensures.there c.in_default-flush.ensures.log in
+    let index = reads_still (D.log c.settle-2.new.self) (D.log c.flush.new.self) (Flush kind.Index) (name.Index c.args.stamp) (λ v. v ≡ Some f.index) (flush_spares kind.Index (name.Index c.args.stamp)) there c.in_default-flush.ensures.log in (
+      index_looks l rows c.args.stamp f (D.log c.flush.new.self) (D.log c.flush-2.new.self) h c.in-Err-flush-2.ensures.log,
+      reads_looked (D.log c.flush.new.self) (D.log c.flush-2.new.self) (name.Block c.args.stamp) (λ v. v ≡ Some f.block) block c.in-Err-flush-2.ensures.log,
+      reads_looked (D.log c.flush.new.self) (D.log c.flush-2.new.self) (name.Index c.args.stamp) (λ v. v ≡ Some f.index) index c.in-Err-flush-2.ensures.log,
+    )
 
 pub returns-clause-placed : goal.returns-clause-placed
 returns-clause-placed g c = λ l rows known each free.

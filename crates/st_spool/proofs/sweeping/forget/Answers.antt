@@ -3,7 +3,7 @@ use Rattle.st_disk.specs.declared.naming.Name.TheVariants as name
 use Rattle.st_spool.proofs.Keeping.{past_block, past_parked}
 use Rattle.st_spool.proofs.Stages.{removes}
 use Rattle.st_spool.proofs.Clearing.{removed_here}
-use Rattle.st_spool.proofs.Swept.{still_none}
+use Rattle.st_spool.proofs.Swept.{still_none, stays_read}
 use Rattle.st_spool.proofs.sweeping.forget.Goals as goal
 
 pub returns-in-Err-clause-forgotten : goal.returns-in-Err-clause-forgotten
@@ -45,3 +45,20 @@ returns-clause-still g c = λ n none.
     let D = g.D.Shelf in
     still_none (D.log c.remove.new.self) (D.log c.remove-2.new.self) c.remove-2.result (name.Block c.args.stamp) n c.remove-2.ensures.log
     (still_none (D.log c.args.shelf.now) (D.log c.remove.new.self) c.remove.result (name.Parked c.args.stamp) n c.remove.ensures.log none)
+
+pub returns-in-Err-clause-spares : goal.returns-in-Err-clause-spares
+returns-in-Err-clause-spares g c = λ n v others read.
+    let D = g.D.Shelf in
+    stays_read (D.log c.args.shelf.now) (D.log c.remove.new.self) c.remove.result (name.Parked c.args.stamp) n v c.remove.ensures.log others.1 read
+
+pub returns-in-Err-remove-clause-spares : goal.returns-in-Err-remove-clause-spares
+returns-in-Err-remove-clause-spares g c = λ n v others read.
+    let D = g.D.Shelf in
+    stays_read (D.log c.remove.new.self) (D.log c.remove-2.new.self) c.remove-2.result (name.Block c.args.stamp) n v c.remove-2.ensures.log others.0
+    (stays_read (D.log c.args.shelf.now) (D.log c.remove.new.self) c.remove.result (name.Parked c.args.stamp) n v c.remove.ensures.log others.1 read)
+
+pub returns-clause-spares : goal.returns-clause-spares
+returns-clause-spares g c = λ n v others read.
+    let D = g.D.Shelf in
+    stays_read (D.log c.remove.new.self) (D.log c.remove-2.new.self) c.remove-2.result (name.Block c.args.stamp) n v c.remove-2.ensures.log others.0
+    (stays_read (D.log c.args.shelf.now) (D.log c.remove.new.self) c.remove.result (name.Parked c.args.stamp) n v c.remove.ensures.log others.1 read)

@@ -3,6 +3,8 @@ use Rattle.std.specs.Result.{is_ok}
 use Rattle.std.specs.Vec.{vec_capacity}
 use Rattle.st_disk.specs.Disks.{Log}
 use Rattle.st_disk.specs.Folders.{given}
+use Rattle.st_disk.specs.declared.naming.Name.TheVariants.{Block, Index}
+use Rattle.st_disk.specs.LoggedCalls.{KnownBefore, Reads}
 use Rattle.st_disk.specs.Runs.{Each}
 use Rattle.st_disk.specs.Pairs.{Files}
 use Rattle.st_disk.specs.Events.{Publish}
@@ -27,7 +29,7 @@ at_before : (old new : Option Log) (t : ℕ) (f : Files) (x : Stopped) → x ≡
 at_before old new t f x is placed l rows known each free = subst (λ (y : Stopped). Placed l new rows t f (Err y)) is (placed l rows known each free)
 
 at_after : (old new : Option Log) (t : ℕ) (f : Files) (x : Stopped) → x ≡ After → ((l : Log) (rows : ℕ → Row) → old ≡ Some l → Each l (Has rows) → rows t ≡ Free → Placed l new rows t f (Err x))
-    → (l : Log) (rows : ℕ → Row) → old ≡ Some l → Each l (Has rows) → rows t ≡ Free → RanBy l new (Publish (entry t f) ∷ []) (set_row rows t (Coming f)) (set_row rows t (Coming f))
+    → (l : Log) (rows : ℕ → Row) → old ≡ Some l → Each l (Has rows) → rows t ≡ Free → RanBy l new (Publish (entry t f) ∷ []) (set_row rows t (Coming f)) (set_row rows t (Coming f)) × Reads new (Block t) (λ v. v ≡ Some f.block) × Reads new (Index t) (λ v. v ≡ Some f.index)
 at_after old new t f x is placed l rows known each free = subst (λ (y : Stopped). Placed l new rows t f (Err y)) is (placed l rows known each free)
 
 has_room : (cap len : ℕ) → 0 < cap - len → len < cap
@@ -77,6 +79,7 @@ returns-in-Ok-clause-published g c = λ earlier h k may stands.
     let pushed = was_pushed c.push.result c.push.new.self.items (c.self.inside.stamps.items ++ c.max-stamp.result ∷ []) c.self.inside.stamps.items (c.push.ensures.succeeds (has_room _ _ spare)) c.push.ensures.items in
     let here = subst (λ (s : SpoolView g.row.D.Denot). StandsFor g.W.PairRule.is_whole (D.log s.shelf) s.state earlier h k) (sym c.self.view_is) stands in
     record {
+      known = subst (λ (s : SpoolView g.row.D.Denot). KnownBefore (D.log s.shelf) (D.log c.place.new.shelf)) c.self.view_is c.place.ensures.known;
       stands = published_stands g.W.PairRule.is_whole (D.log c.self.inside.shelf) (D.log c.place.new.shelf) _ earlier h k f c.max-stamp.result here c.in_default.is (next_more _ _ _ c.max-stamp.ensures) c.push.new.self.items pushed whole c.place.ensures.known c.in-Ok.ensures.placed;
       images = λ l known. published_images g.W.PairRule.is_whole (D.log c.self.inside.shelf) (D.log c.place.new.shelf) _ earlier h k f c.max-stamp.result here c.in_default.is (next_more _ _ _ c.max-stamp.ensures) l (ap (λ (s : SpoolView g.row.D.Denot). D.log s.shelf) c.self.view_is ∙ known) c.in-Ok.ensures.placed;
     }
@@ -89,6 +92,7 @@ returns-in-Err-Before-clause-published g c = λ earlier h k may stands.
     let whole : (l : Log) → D.log c.self.inside.shelf ≡ Some l → g.W.PairRule.is_whole f.block f.index = λ l known. c.requires.whole l (ap (λ (s : SpoolView g.row.D.Denot). D.log s.shelf) (sym c.self.view_is) ∙ known) in
     let here = subst (λ (s : SpoolView g.row.D.Denot). StandsFor g.W.PairRule.is_whole (D.log s.shelf) s.state earlier h k) (sym c.self.view_is) stands in
     record {
+      known = subst (λ (s : SpoolView g.row.D.Denot). KnownBefore (D.log s.shelf) (D.log c.place.new.shelf)) c.self.view_is c.place.ensures.known;
       stands = unsettled_stands g.W.PairRule.is_whole (D.log c.self.inside.shelf) (D.log c.place.new.shelf) _ earlier h k f c.max-stamp.result here c.in_default.is (next_more _ _ _ c.max-stamp.ensures) c.fault_count.result _ (some_more _ _ c.saturating_add-self-inside.ensures) whole c.place.ensures.known (at_before (D.log c.self.inside.shelf) (D.log c.place.new.shelf) c.max-stamp.result f c.in-Err-Before.field-0 c.in-Err-Before.field-0-is c.in-Err-Before.ensures.placed);
       images = λ l known. unsettled_images g.W.PairRule.is_whole (D.log c.self.inside.shelf) (D.log c.place.new.shelf) _ earlier h k f c.max-stamp.result here c.in_default.is (next_more _ _ _ c.max-stamp.ensures) l (ap (λ (s : SpoolView g.row.D.Denot). D.log s.shelf) c.self.view_is ∙ known) (at_before (D.log c.self.inside.shelf) (D.log c.place.new.shelf) c.max-stamp.result f c.in-Err-Before.field-0 c.in-Err-Before.field-0-is c.in-Err-Before.ensures.placed);
     }
@@ -101,6 +105,7 @@ returns-in-Err-After-clause-published g c = λ earlier h k may stands.
     let whole : (l : Log) → D.log c.self.inside.shelf ≡ Some l → g.W.PairRule.is_whole f.block f.index = λ l known. c.requires.whole l (ap (λ (s : SpoolView g.row.D.Denot). D.log s.shelf) (sym c.self.view_is) ∙ known) in
     let here = subst (λ (s : SpoolView g.row.D.Denot). StandsFor g.W.PairRule.is_whole (D.log s.shelf) s.state earlier h k) (sym c.self.view_is) stands in
     record {
+      known = subst (λ (s : SpoolView g.row.D.Denot). KnownBefore (D.log s.shelf) (D.log c.place.new.shelf)) c.self.view_is c.place.ensures.known;
       stands = settled_stands g.W.PairRule.is_whole (D.log c.self.inside.shelf) (D.log c.place.new.shelf) _ earlier h k f c.max-stamp.result here c.in_default.is (next_more _ _ _ c.max-stamp.ensures) c.fault_count-in-Err-After.result _ (some_more _ _ c.saturating_add-self-inside-in-Err-After.ensures) whole c.place.ensures.known (at_after (D.log c.self.inside.shelf) (D.log c.place.new.shelf) c.max-stamp.result f c.in-Err-After.field-0 c.in-Err-After.field-0-is c.in-Err-After.ensures.placed);
       images = λ l known. settled_images g.W.PairRule.is_whole (D.log c.self.inside.shelf) (D.log c.place.new.shelf) _ earlier h k f c.max-stamp.result here c.in_default.is (next_more _ _ _ c.max-stamp.ensures) l (ap (λ (s : SpoolView g.row.D.Denot). D.log s.shelf) c.self.view_is ∙ known) (at_after (D.log c.self.inside.shelf) (D.log c.place.new.shelf) c.max-stamp.result f c.in-Err-After.field-0 c.in-Err-After.field-0-is c.in-Err-After.ensures.placed);
     }
