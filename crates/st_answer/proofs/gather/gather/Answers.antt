@@ -41,8 +41,12 @@ returns-in-Err-clause-reads g c set told whole =
       reads_more c.args.query.now c.args.now set i _ _ _ _ given one.xs ps (c.count-count.ensures.set set told).1 lt pair one.some places (c.entries.invariant.reads set told whole) one.reads_most one.asked_most,
     )
 
-pub returns-in-Err-clause-loans : goal.returns-in-Err-clause-loans
-returns-in-Err-clause-loans g c = c.gather_one.ensures.loans (g.S.Store.loans c.args.store.now) c.entries.invariant.loans
+pub returns-in-Err-clause-files : goal.returns-in-Err-clause-files
+returns-in-Err-clause-files g c =
+    let e = c.entries.invariant.same.id in (
+      subst (λ n. All (λ f. (g.S.Store.origin f).home ≡ n) c.gather_one.new.files.items) e (c.gather_one.ensures.file.at_home (subst (λ n. All (λ f. (g.S.Store.origin f).home ≡ n) c.entries.files.items) (sym e) c.entries.invariant.home)),
+      c.gather_one.ensures.loans (g.S.Store.loans c.args.store.now) c.entries.invariant.loans,
+    )
 
 pub returns-in-Err-clause-stays : goal.returns-in-Err-clause-stays
 returns-in-Err-clause-stays g c = store_trans (g.met.S.Store.becomes_later _ _ _) c.entries.invariant.same c.gather_one.ensures.stays
@@ -105,10 +109,8 @@ returns-clause-found g c = (
         known = c.entries.invariant.content set told ∙ ap (λ z. map Some (blocks_of z)) all;
         found = c.entries.invariant.found set told;
       },
+  λ set told whole.
+      let size = (c.count-count.ensures.set set told).0 in
+      let all : take c.entries.i set ≡ set = take_all c.entries.i set (omega (arith, size, c.count-count.ensures.count, c.entries-test.false)) in
+      (c.entries.invariant.reads set told whole, subst (λ z. HasAllOf c.args.query.now c.args.now set z c.entries.picked.items) all (c.entries.invariant.whole set told whole)),
 )
-
-pub returns-clause-picks : goal.returns-clause-picks
-returns-clause-picks g c set told whole =
-    let size = (c.count-count.ensures.set set told).0 in
-    let all : take c.entries.i set ≡ set = take_all c.entries.i set (omega (arith, size, c.count-count.ensures.count, c.entries-test.false)) in
-    (c.entries.invariant.reads set told whole, subst (λ z. HasAllOf c.args.query.now c.args.now set z c.entries.picked.items) all (c.entries.invariant.whole set told whole))
