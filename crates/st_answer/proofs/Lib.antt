@@ -15,3 +15,7 @@ pub mod Results
 pub mod Selecting
 pub mod Lending
 pub mod Staying
+pub mod SpoolHolds
+pub mod SpoolSets
+pub mod SpoolCalls
+pub mod SpoolHolding

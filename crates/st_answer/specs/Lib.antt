@@ -13,3 +13,5 @@ pub mod Sending
 pub mod Order
 pub mod Lending
 pub mod Gathering
+pub mod Spools
+pub mod SpoolLaws

@@ -2,7 +2,7 @@
 use Rattle.std.specs.Prelude.{◌≡◌, ◌<◌, ◌≤◌, ◌+◌, ◌⊎◌, ℕ, List, length, Option, Some, option_map, slice_index_or, Result, MatchResult, OnErr}
 use Rattle.st_base.specs.Faults.{CountsOn, Rose}
 use Rattle.st_disk.specs.declared.naming.Kind.{Kind}
-use Rattle.st_disk.specs.Pairs.{Entry}
+use Rattle.st_disk.specs.Pairs.{Entry, IsFileSet}
 use Rattle.st_disk.specs.Events.{Event}
 use Rattle.st_shelf.specs.Origins.{FileOrigin}
 use Rattle.st_shelf.specs.Loans.{LoansView, lend}
@@ -80,6 +80,11 @@ pub record IsSameStore {H : Type 0} (Became : Type 0) (id_before id_after : ℕ)
   pub id : id_after ≡ id_before
   pub holds : KeepsHolds before after
   pub others : StayHeld times_before times_after size_before size_after set_before set_after
+
+-- a set that is known has so many entries, by rising stamps
+abbrev pub IsSetOfSize : Option (List Entry) → ℕ → Type 0
+IsSetOfSize held n =
+    (entries : List Entry) → held ≡ Some entries → (length entries ≡ n) × IsFileSet entries
 
 -- the count never falls, and a failure comes only if it rose
 pub record HasFailed {T E : Type 0} (before now : ℕ) (result : Result T E) : Type 0 where

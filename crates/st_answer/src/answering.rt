@@ -48,10 +48,9 @@ fn reply<F: Reader, O: Outlet>(
         (O.faults outlet.new) result }
     ensures disk { IsErrOf result AnswerErr.DiskFault → 0 < sum_by F.faults files.new }
     // what the files were asked
-    ensures reads { sum_by F.reads files.new
-        ≤ sum_by F.reads files.old + length found.items }
-    ensures asked { sum_by F.asked files.new
-        ≤ sum_by F.asked files.old + sum_by (λ (p : Picked). p.len) found.items }
+    ensures asked { (sum_by F.reads files.new ≤ sum_by F.reads files.old + length found.items)
+        × (sum_by F.asked files.new
+        ≤ sum_by F.asked files.old + sum_by (λ (p : Picked). p.len) found.items) }
     // what stays
     ensures same { map F.beside files.new ≡ map F.beside files.old }
     ensures rest { O.beside outlet.new ≡ O.beside outlet.old }
@@ -82,10 +81,9 @@ fn work<S: Store, O: Outlet>(
     // what is sent, and how it fails
     ensures replies { RepliesFor O.after O.gone (O.state outlet.old) (O.state outlet.new)
         (record { node = query.now; now = now; limits = limits; unit = unit })
-        (S.set store.old hold.now) result }
-    ensures blames { Blames (S.set store.old hold.now) result }
-    ensures write { HasCauseOf AnswerErr.WriteFault (O.faults outlet.old)
-        (O.faults outlet.new) result }
+        (S.set store.old hold.now) result × Blames (S.set store.old hold.now) result }
+    ensures outlet { HasCauseOf AnswerErr.WriteFault (O.faults outlet.old)
+        (O.faults outlet.new) result × (O.beside outlet.new ≡ O.beside outlet.old) }
     ensures cause { HasFaultCause (S.faults store.old) (S.faults store.new)
         (sum_by S.File.faults files.new.items) result }
     // what the files were asked
@@ -97,7 +95,6 @@ fn work<S: Store, O: Outlet>(
     ensures stays { IsSameStore (S.becomes store.old store.new) (S.id store.old) (S.id store.new)
         (S.holds store.old) (S.holds store.new) (S.times_held store.old) (S.times_held store.new)
         (S.size store.old) (S.size store.new) (S.set store.old) (S.set store.new) }
-    ensures rest { O.beside outlet.new ≡ O.beside outlet.old }
 {
     match gather(alloc, store, hold, query, now, files) {
         Ok(found) => reply(alloc, files.as_mut_slice(), found, unit, limits, outlet),

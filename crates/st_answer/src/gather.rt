@@ -85,8 +85,8 @@ pub fn gather<S: Store>(
     // what comes
     ensures found { IfOk result (λ v. All (IsPlaced (length files.new.items)) v.items
         × PicksFound query.now now (S.set store.old hold.now)
-        (map S.File.content files.new.items) v.items) }
-    ensures picks { IfOk result (λ v. PicksSet query.now now (S.set store.old hold.now)
+        (map S.File.content files.new.items) v.items
+        × PicksSet query.now now (S.set store.old hold.now)
         (sum_by S.File.reads files.new.items) (sum_by S.File.asked files.new.items) v.items) }
     ensures fails { IfErr result (FailsIn (S.set store.old hold.now)) }
     ensures cause { HasFaultCause (S.faults store.old) (S.faults store.new)
@@ -94,9 +94,9 @@ pub fn gather<S: Store>(
     // what the files were asked
     ensures reads { ReadsSet query.now now (S.set store.old hold.now)
         (sum_by S.File.reads files.new.items) (sum_by S.File.asked files.new.items) }
-    ensures home { All (λ f. (S.origin f).home ≡ S.id store.old) files.new.items }
     // what stays
-    ensures loans { LendsMore (length files.new.items) (S.loans store.old) (S.loans store.new) }
+    ensures files { All (λ f. (S.origin f).home ≡ S.id store.old) files.new.items
+        × LendsMore (length files.new.items) (S.loans store.old) (S.loans store.new) }
     ensures stays { IsSameStore (S.becomes store.old store.new) (S.id store.old) (S.id store.new)
         (S.holds store.old) (S.holds store.new) (S.times_held store.old) (S.times_held store.new)
         (S.size store.old) (S.size store.new) (S.set store.old) (S.set store.new) }

@@ -18,7 +18,8 @@
 //!   on every path, also after an error.
 //! - Every path closes the files that it lent and gives its hold back.
 //! - A file set has one answer at most (`one_answer`), and one reply within limits (`one_reply`).
-//! - `SlicePair`, a pair over bytes in memory, meets `Store`.
+//! - A `Spool` meets `Store`: what it has seen is its history, and a hold takes the whole of it. So
+//!   does `SlicePair`, a pair over bytes in memory.
 //!
 //! # What it leaves to others
 //!
@@ -30,8 +31,8 @@
 //! `specs/Packets.antt` says which packets a file set has, `specs/Answer.antt` which of them the
 //! answer has and in which order, `specs/Limited.antt` where limits cut it, `specs/Bounds.antt` how
 //! much may be read. `specs/Replies.antt` says how an answer ends, `specs/Stores.antt` what a
-//! store's calls ensure. Then `store`, `answering`, and below it `gather` (with `choosing` and
-//! `heads`), `order`, `sending` and `closing`.
+//! store's calls ensure, `specs/Spools.antt` what a spool is as a store. Then `store`, `answering`,
+//! and below it `gather` (with `choosing` and `heads`), `order`, `sending` and `closing`.
 #![tactic(auto)]
 
 mod answering;
@@ -45,6 +46,7 @@ mod order;
 mod picked;
 mod sending;
 mod slice_pair;
+mod spool_store;
 mod store;
 #[cfg(test)]
 mod tests;

@@ -100,8 +100,8 @@ fn send_one<F: Reader, O: Outlet>(
         (O.faults outlet.new) result }
     ensures disk { HasCauseOf AnswerErr.DiskFault (F.faults file.old) (F.faults file.new) result }
     // what the file was asked
-    ensures reads { F.reads file.new ≤ F.reads file.old + 1 }
-    ensures asked { F.asked file.new ≤ F.asked file.old + pick.len }
+    ensures asked { (F.reads file.new ≤ F.reads file.old + 1)
+        × (F.asked file.new ≤ F.asked file.old + pick.len) }
     // what stays
     ensures same { IsSameFile (F.content file.old) (F.content file.new)
         (F.extent file.old) (F.extent file.new) (F.beside file.old) (F.beside file.new) }
@@ -145,9 +145,9 @@ pub fn send_records<F: Reader, O: Outlet>(
         (O.faults outlet.new) result }
     ensures disk { IsErrOf result AnswerErr.DiskFault → 0 < sum_by F.faults files.new }
     // what the files were asked
-    ensures reads { sum_by F.reads files.new ≤ sum_by F.reads files.old + length picked.now }
-    ensures asked { sum_by F.asked files.new
-        ≤ sum_by F.asked files.old + sum_by (λ (p : Picked). p.len) picked.now }
+    ensures asked { (sum_by F.reads files.new ≤ sum_by F.reads files.old + length picked.now)
+        × (sum_by F.asked files.new
+        ≤ sum_by F.asked files.old + sum_by (λ (p : Picked). p.len) picked.now) }
     // what stays
     ensures same { map F.beside files.new ≡ map F.beside files.old }
     ensures rest { O.beside outlet.new ≡ O.beside outlet.old }
@@ -182,9 +182,9 @@ pub fn send_all<F: Reader, O: Outlet>(
         (O.faults outlet.new) result }
     ensures disk { IsErrOf result AnswerErr.DiskFault → 0 < sum_by F.faults files.new }
     // what the files were asked
-    ensures reads { sum_by F.reads files.new ≤ sum_by F.reads files.old + length picked.now }
-    ensures asked { sum_by F.asked files.new
-        ≤ sum_by F.asked files.old + sum_by (λ (p : Picked). p.len) picked.now }
+    ensures asked { (sum_by F.reads files.new ≤ sum_by F.reads files.old + length picked.now)
+        × (sum_by F.asked files.new
+        ≤ sum_by F.asked files.old + sum_by (λ (p : Picked). p.len) picked.now) }
     // what stays
     ensures same { map F.beside files.new ≡ map F.beside files.old }
     ensures rest { O.beside outlet.new ≡ O.beside outlet.old }

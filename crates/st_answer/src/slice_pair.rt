@@ -84,10 +84,6 @@ impl<'a> Store for SlicePair<'a> {
 
     ghost origin = { λ f. record { kind = f.kind; home = 0 } };
 
-    ghost sized = { λ s h entries out same. Prim.search rules };
-
-    ghost rises = { λ s h entries out same. Prim.search rules };
-
     ghost becomes_same = { λ s. Prim.search rules };
 
     ghost becomes_later = { λ a b c h k. Prim.search rules };

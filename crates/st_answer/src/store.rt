@@ -1,11 +1,11 @@
-ghost use Rattle.std.specs.Prelude.{Option, ◌≡◌, ◌<◌, ◌≤◌, ℕ, List, Some, length, IfOk, OnErr, MatchResult};
-ghost use Rattle.st_disk.specs.Pairs.{Entry, IsFileSet};
+ghost use Rattle.std.specs.Prelude.{Option, ◌≡◌, ◌<◌, ◌≤◌, ℕ, List, Some, IfOk, OnErr, MatchResult};
+ghost use Rattle.st_disk.specs.Pairs.{Entry};
 ghost use Rattle.st_disk.specs.declared.naming.Kind.TheVariants as kind;
 ghost use Rattle.st_shelf.specs.Origins.{FileOrigin};
 ghost use Rattle.st_shelf.specs.Loans.{LoansView, lend, take_back};
 ghost use Rattle.st_shelf.specs.Ends.{TakesFaults};
 ghost use Rattle.st_answer.specs.Sets.{GoesOn};
-ghost use Rattle.st_answer.specs.Stores.{HoldsView, KeepsHolds, TakesHold, GivesBack, StayHeld, HoldsOneMore, HoldsOneLess, IsSameStore, HasFailed, OfEntry, IsFresh, LendsOne};
+ghost use Rattle.st_answer.specs.Stores.{HoldsView, KeepsHolds, TakesHold, GivesBack, StayHeld, HoldsOneMore, HoldsOneLess, IsSameStore, IsSetOfSize, HasFailed, OfEntry, IsFresh, LendsOne};
 
 use st_base::{Failed, NoMemory, Reader};
 
@@ -72,10 +72,11 @@ pub trait Store {
         ensures faults { faults self.old ≤ faults self.new }
         ensures rest { (id self.new ≡ id self.old) × (loans self.new ≡ loans self.old) };
 
-    /// How many entries the held set has.
+    /// How many entries the held set has. Their stamps rise.
     fn count(&mut self, hold: &Self::Held) -> usize
         requires { 0 < times_held self.old hold.now }
         ensures count { result ≡ size self.old hold.now }
+        ensures set { IsSetOfSize (set self.old hold.now) (size self.old hold.now) }
         // what stays
         ensures stays { IsSameStore (becomes self.old self.new) (id self.old) (id self.new)
             (holds self.old) (holds self.new) (times_held self.old) (times_held self.new)
@@ -146,14 +147,6 @@ pub trait Store {
         ensures cause { TakesFaults (Self.File.faults file) (faults self.old) (faults self.new) }
         ensures loans { loans self.new ≡ take_back (origin file).kind
             (Self.File.reads file) (Self.File.asked file) (loans self.old) };
-
-    // a set has as many entries as its hold says
-    ghost sized: { (s : Self) (h : Self.Held) (entries : List Entry) → 0 < times_held s h
-        → set s h ≡ Some entries → length entries ≡ size s h };
-
-    // stamps rise in a set that is held
-    ghost rises: { (s : Self) (h : Self.Held) (entries : List Entry) → 0 < times_held s h
-        → set s h ≡ Some entries → IsFileSet entries };
 
     // a store becomes itself, and what it becomes in two steps
     ghost becomes_same: { (s : Self) → becomes s s };

@@ -3,3 +3,5 @@ pub mod Telling
 pub mod Reporting
 pub mod Commanding
 pub mod Naming
+pub mod Querying
+pub mod Opening

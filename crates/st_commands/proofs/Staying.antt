@@ -6,7 +6,7 @@ use Rattle.st_disk.specs.Events.{Event}
 use Rattle.st_disk.specs.Pairs.{Files}
 use Rattle.st_disk.specs.declared.naming.Kind.{Kind}
 use Rattle.st_disk.specs.declared.naming.Kind.TheVariants as kind
-use Rattle.st_disk.proofs.Runs.{ran_then}
+use Rattle.st_disk.proofs.Runs.{ran_then, grew_none, known_then}
 use Rattle.st_shelf.specs.Loans.{LoansView, lend, take_back}
 use Rattle.st_spool.specs.Publishing.{Keeps, RanAsBefore}
 use Rattle.st_spool.specs.Standing.{Gives, begun}
@@ -17,11 +17,16 @@ use Rattle.st_commands.specs.Commands.{GivesAllBack, KeepsSpool, Stays}
 use Rattle.st_pairs.specs.Pairs.{IsWholePair}
 
 same_log : (a : Option Log) → KeepsRows a a
-same_log a = record { known = λ log is. (log, is); ran = λ first rows run. run; hidden = λ t none. none }
+same_log a = record {
+  known = λ log is. (log, is, grew_none log);
+  ran = λ first rows run. run;
+  reads = λ t v. (λ read. read, λ read. read);
+}
 
 pub keeps_then : (a b c : Option Log) (st next : SpoolState) (earlier h : List Event) (f : Files) → next.doubt ≡ st.doubt
     → Keeps IsWholePair a b st earlier h f → Keeps IsWholePair b c next earlier h f → Keeps IsWholePair a c next earlier h f
 keeps_then a b c st next earlier h f same one two = record {
+  known = known_then a b c one.known two.known;
   stands = two.stands;
   images = λ first known.
       let run : RanAsBefore first b h (begun next.doubt f) = subst (λ (d : Doubt). RanAsBefore first b h (begun d f)) (sym same) (one.images first known) in

@@ -1,16 +1,8 @@
 -- What the summary row says of a whole pair.
-use Rattle.std.proofs.Common.{◌≡◌, ◌≤◌, ◌<◌, ◌+◌, ◌-◌, ◌*◌, ◌^◌, ℕ, zero, suc, List, [], ◌∷◌, length, refl, sym, ◌∙◌, ap, subst, arith, ⊎_elim, Some, None, Result, Ok, Err}
-use Rattle.std.proofs.lemmas.List.{length-map}
-use Rattle.std.proofs.lemmas.Bool.{cases_order}
-use Rattle.st_base.specs.Records.{Rec}
-use Rattle.st_block.specs.BlockText.{HasFile}
-use Rattle.st_block.specs.Position.{PositionOf}
-use Rattle.st_block.specs.Scan.{PositionedRecord, records_in, IsFile}
-use Rattle.st_block.proofs.Rising.{positions_rise, positions_fit, positions_stay}
+use Rattle.std.proofs.Common.{◌≡◌, ℕ, List, sym, ◌∙◌, ap, subst, Some, None, Result, Ok, Err}
 use Rattle.st_base.specs.Damages.{damage_view}
 use Rattle.st_base.specs.declared.damages.Damage.{Damage}
 use Rattle.st_eval.specs.Refusals.{NoDamage, damage_in}
-use Rattle.st_eval.specs.Selection.{IsIndexOf}
 use Rattle.st_eval.specs.declared.errors.EvalErr.{EvalErr}
 use Rattle.st_eval.specs.declared.errors.EvalErr.TheVariants as eval
 use Rattle.st_disk.specs.Pairs.{Entry}
@@ -19,7 +11,6 @@ use Rattle.st_eval.specs.declared.summaries.Summary.{Summary}
 use Rattle.st_index.specs.Verdict.{Judges}
 use Rattle.st_index.specs.declared.checker.Verdict.{Verdict}
 use Rattle.st_index.specs.declared.checker.Verdict.TheVariants.{Whole, Differs}
-use Rattle.st_rows.specs.Whole.{IsWhole}
 use Rattle.std.proofs.Common.{String, string_bytes}
 use Rattle.std.specs.Global.{Global}
 use Rattle.std.specs.Prelude.{IfOk}
@@ -33,48 +24,10 @@ use Rattle.st_commands.specs.declared.outcomes.Outcome.TheVariants.{Done}
 use Rattle.st_commands.specs.declared.outcomes.PairErr.{PairErr}
 use Rattle.st_commands.specs.declared.outcomes.PairErr.TheVariants as pair
 use Rattle.st_commands.specs.declared.outcomes.Report.TheVariants.{Summaries, Verdicts}
-use Rattle.st_rows.proofs.Packets.{file_packets}
-
-first_position : (size : ℕ) (rs : List Rec) → 0 < length rs → 1 ≤ PositionOf size rs 0
-first_position size [] less = absurd (omega arith)
-first_position size (r ∷ rs) less =
-    let alone : PositionOf size (r ∷ []) 0 ≡ size * 0 + 48 = refl in
-    let stays : PositionOf size (r ∷ rs) 0 ≡ PositionOf size (r ∷ []) 0 = positions_stay size 0 (r ∷ []) rs (omega arith) in
-    omega arith
-
--- the position of the i-th record is above i
-low_position : (size i : ℕ) (rs : List Rec) → HasFile size rs → i < length rs → i + 1 ≤ PositionOf size rs i
-low_position size zero rs file less = first_position size rs less
-low_position size (suc i) rs file less =
-    let under : i < length rs = omega arith in
-    let before = low_position size i rs file under in
-    let rise = positions_rise size i (suc i) rs file (omega arith) less in
-    omega arith
-
--- a file has less than 2^32 packets
-pub few_packets : (bytes : List ℕ) (given : List PositionedRecord) → IsFile bytes given → length given < 2 ^ 32
-few_packets bytes given f =
-    let count : length (records_in given) ≡ length given = length-map given (λ (x : PositionedRecord). x.1) in
-    ⊎_elim
-    (λ (none : length given ≡ 0). omega arith)
-    (λ more. ⊎_elim (λ (less : length given < 0). let no : ⊥ = omega arith in absurd no)
-    (λ (some : 0 < length given).
-    let under : length given - 1 < length (records_in given) = omega arith in
-    let low = low_position f.size (length given - 1) (records_in given) f.file under in
-    let fit = positions_fit f.size (length given - 1) (records_in given) f.file under in
-    omega arith)
-    more)
-    (cases_order (length given) 0)
 
 -- an error that says nothing of the file's bytes is no damage
 pub not_damaged : (d : Damage) (e : EvalErr) → e ≡ eval.Damaged d → NoDamage e → ⊥
 not_damaged d e is none = let no : Some (damage_view d) ≡ None = ap damage_in (sym is) ∙ none in absurd (cc)
-
--- the index of a whole pair is that of its packets
-pub index_of_pair : (block bytes : List ℕ) (given : List PositionedRecord) (whole : IsWhole block bytes given) → IsIndexOf given whole.rows
-index_of_pair block bytes given whole =
-    let laws = file_packets block given whole.file in
-    record { are = whole.of_packets; rise = laws.0; fit = laws.1 }
 
 -- the line of a summary
 pub told_summary : (e : Entry) (stamp : ℕ) (said : Summary) (text : Result (String Global) AllocError) (r : Result Line PairErr) → stamp ≡ e.stamp

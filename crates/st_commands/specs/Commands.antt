@@ -13,7 +13,7 @@ use Rattle.st_spool.specs.declared.opening.EnterErr.{EnterErr}
 use Rattle.st_spool.specs.declared.opening.EnterErr.TheVariants as enter
 use Rattle.st_pairs.specs.Pairs.{IsWholePair}
 use Rattle.st_commands.specs.declared.outcomes.Outcome.{Outcome}
-use Rattle.st_commands.specs.declared.outcomes.Outcome.TheVariants.{WriteFault, DiskFault, NoMemory}
+use Rattle.st_commands.specs.declared.outcomes.Outcome.TheVariants.{Done, WriteFault, DiskFault, Damaged, NoMemory}
 
 -- as many files are out as before, unless their number has no room in a u64, and never more than
 -- two more were
@@ -62,3 +62,11 @@ abbrev pub KeepsPairs : Log → Option Log → Outcome → Type 0
 KeepsPairs first known DiskFault = FailsToEnter first known
 KeepsPairs first known NoMemory = FailsToEnter first known
 KeepsPairs first known outcome = Clears first known (SamePairs (reads first))
+
+-- a command ends so that could not open its spool
+abbrev pub IsUnentered : Outcome → Type 0
+IsUnentered Done = ⊥
+IsUnentered WriteFault = ⊥
+IsUnentered DiskFault = Unit {0}
+IsUnentered (Damaged stamp d) = ⊥
+IsUnentered NoMemory = Unit {0}

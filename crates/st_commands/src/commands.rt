@@ -1,9 +1,12 @@
 //! The commands: they open a spool, hold what was found, and give the shelf back.
 
-ghost use Rattle.std.specs.Prelude.{◌≡◌, List, Some};
+ghost use Rattle.std.specs.Prelude.{◌≡◌, List, Some, IfOk, IfErr, MatchResult};
 ghost use Rattle.st_disk.specs.Disks.{Log, reads};
 ghost use Rattle.st_disk.specs.Pairs.{Entry, PairsIn};
-ghost use Rattle.st_commands.specs.Commands.{GivesAllBack, HasDiskFault, HasWriteFault, KeepsPairs, EndsUnentered};
+ghost use Rattle.st_spool.specs.Entering.{opened, Enters};
+ghost use Rattle.st_pairs.specs.Pairs.{IsWholePair};
+ghost use Rattle.st_commands.specs.declared.commands.TheConstants.{LIMIT};
+ghost use Rattle.st_commands.specs.Commands.{GivesAllBack, HasDiskFault, HasWriteFault, KeepsPairs, EndsUnentered, IsUnentered};
 ghost use Rattle.st_commands.specs.Reports.{Reports};
 
 use crate::outcomes::{Outcome, Report};
@@ -25,12 +28,36 @@ pub struct Ended<D> {
 }
 
 // How a command ends that could not open a spool.
-fn unentered(cause: EnterErr) -> Outcome
-    ensures { EndsUnentered cause result }
+fn unentered<D>(refused: NotEntered<D>) -> Ended<D>
+    ensures outcome { EndsUnentered refused.cause result.outcome }
+    ensures shelf { result.shelf ≡ refused.shelf }
 {
-    match cause {
+    let NotEntered { cause, shelf } = refused;
+    let outcome = match cause {
         EnterErr::DiskFault => Outcome::DiskFault,
         EnterErr::NoMemory => Outcome::NoMemory,
+    };
+    Ended { outcome, shelf }
+}
+
+/// Opens the spool of a command, or ends the command.
+pub fn entered<D: Shelf>(alloc: Global, shelf: D) -> Result<Spool<D, Indexed>, Ended<D>>
+    // what is opened
+    ensures opens { (first : Log) → D.log shelf ≡ Some first → MatchResult result
+        (λ s. Enters IsWholePair first (D.log s.shelf) s.state)
+        (λ ended. KeepsPairs first (D.log ended.shelf) ended.outcome) }
+    ensures state { IfOk result (λ s. s.state ≡ opened LIMIT s.state.stamps s.state.last) }
+    // what stays, and when it ends
+    ensures same { IfOk result (λ s. (D.faults s.shelf ≡ D.faults shelf)
+        × (D.id s.shelf ≡ D.id shelf) × (D.loans s.shelf ≡ D.loans shelf)) }
+    ensures ended { IfErr result (λ ended. HasDiskFault (D.faults shelf) (D.faults ended.shelf)
+        ended.outcome × IsUnentered ended.outcome
+        × (D.id ended.shelf ≡ D.id shelf) × (D.loans ended.shelf ≡ D.loans shelf)) }
+{
+    let opened: Result<Spool<D, Indexed>, NotEntered<D>> = Spool::enter(alloc, shelf, LIMIT);
+    match opened {
+        Ok(spool) => Ok(spool),
+        Err(refused) => Err(unentered(refused)),
     }
 }
 
@@ -51,15 +78,9 @@ fn run<D: Shelf, O: Sink>(report: Report, alloc: Global, shelf: D, out: &mut O) 
     ensures loans { GivesAllBack (D.loans shelf) (D.loans result.shelf) }
     ensures rest { (D.id result.shelf ≡ D.id shelf) × (O.beside out.new ≡ O.beside out.old) }
 {
-    let entered: Result<Spool<D, Indexed>, NotEntered<D>> = Spool::enter(alloc, shelf, LIMIT);
-    let mut spool = match entered {
+    let mut spool = match entered(alloc, shelf) {
         Ok(spool) => spool,
-        Err(NotEntered { cause, shelf }) => {
-            return Ended {
-                outcome: unentered(cause),
-                shelf,
-            };
-        }
+        Err(ended) => return ended,
     };
     let hold = match spool.hold() {
         Ok(hold) => hold,

@@ -43,22 +43,14 @@ returns-clause-blames g c q now set are =
     let sent = sent_all (IsFound q now set) c.args.limits c.args.found.items c.in_order-picked.result.items slice c.in_order-picked.ensures c.as_slice-2.ensures.value are.found in
     c.in-Err.ensures.blames q now set (record { known = are.known; found = sent })
 
-pub returns-in-Ok-clause-reads : goal.returns-in-Ok-clause-reads
-returns-in-Ok-clause-reads g c =
-    let count = sent_count c.args.limits c.args.found.items c.in_order-picked.result.items c.as_slice-2.result.now c.in_order-picked.ensures c.as_slice-2.ensures.value in
-    omega (arith, count, c.send_all.ensures.reads)
-
-pub returns-clause-reads : goal.returns-clause-reads
-returns-clause-reads g c =
-    let count = sent_count c.args.limits c.args.found.items c.in_order-picked.result.items c.as_slice-2.result.now c.in_order-picked.ensures c.as_slice-2.ensures.value in
-    omega (arith, count, c.send_all.ensures.reads)
-
 pub returns-in-Ok-clause-asked : goal.returns-in-Ok-clause-asked
 returns-in-Ok-clause-asked g c =
+    let count = sent_count c.args.limits c.args.found.items c.in_order-picked.result.items c.as_slice-2.result.now c.in_order-picked.ensures c.as_slice-2.ensures.value in
     let lens = sent_lens c.args.limits c.args.found.items c.in_order-picked.result.items c.as_slice-2.result.now c.in_order-picked.ensures c.as_slice-2.ensures.value in
-    omega (arith, lens, c.send_all.ensures.asked)
+    (omega (arith, count, c.send_all.ensures.asked.0), omega (arith, lens, c.send_all.ensures.asked.1))
 
 pub returns-clause-asked : goal.returns-clause-asked
 returns-clause-asked g c =
+    let count = sent_count c.args.limits c.args.found.items c.in_order-picked.result.items c.as_slice-2.result.now c.in_order-picked.ensures c.as_slice-2.ensures.value in
     let lens = sent_lens c.args.limits c.args.found.items c.in_order-picked.result.items c.as_slice-2.result.now c.in_order-picked.ensures c.as_slice-2.ensures.value in
-    omega (arith, lens, c.send_all.ensures.asked)
+    (omega (arith, count, c.send_all.ensures.asked.0), omega (arith, lens, c.send_all.ensures.asked.1))

@@ -43,10 +43,12 @@ returns-in-Err-clause-blames g c q now set are =
 
 pub returns-in-Err-clause-asked : goal.returns-in-Err-clause-asked
 returns-in-Err-clause-asked g c =
+    let d = c.index-files-pick.result in
     let p = get_or c.args.picked.now c.records.pick-index no_pick in
     let next = sum_next_le (λ (p : Picked). p.len) c.args.picked.now c.records.pick-index no_pick c.records-test.true in
-    let set = sum_set_le g.F.Reader.asked c.records.files p.place c.index-files-pick.result c.send_one.new.file p.len (search rules) c.send_one.ensures.asked in
-    omega (arith, next, set, c.records.invariant.asked)
+    let reads = sum_set_le g.F.Reader.reads c.records.files p.place d c.send_one.new.file 1 (search rules) c.send_one.ensures.asked.0 in
+    let asked = sum_set_le g.F.Reader.asked c.records.files p.place d c.send_one.new.file p.len (search rules) c.send_one.ensures.asked.1 in
+    (omega (arith, reads, c.records.invariant.reads, c.records-test.true), omega (arith, next, asked, c.records.invariant.asked))
 
 pub returns-in-Err-clause-same : goal.returns-in-Err-clause-same
 returns-in-Err-clause-same g c =
@@ -61,7 +63,7 @@ records-preserved g c =
     let i = c.records.pick-index in
     let p = get_or ps i no_pick in
     let next = sum_by_more (λ (p : Picked). p.len) ps i no_pick c.records-test.true in
-    let set_asked = sum_set_le g.F.Reader.asked c.records.files p.place d c.send_one.new.file p.len (search rules) c.send_one.ensures.asked in
+    let set_asked = sum_set_le g.F.Reader.asked c.records.files p.place d c.send_one.new.file p.len (search rules) c.send_one.ensures.asked.1 in
     record {
       sends = λ q now set are whole.
           let at = entry_of content c.records.files d q now set (map content c.args.files.now) ps i (sym c.records.invariant.content) are c.records-test.true (search rules) in
@@ -75,7 +77,7 @@ records-preserved g c =
       content = map_set_same content c.records.files p.place d c.send_one.new.file (search rules) c.send_one.ensures.same.content ∙ c.records.invariant.content;
       same = map_set_same g.F.Reader.beside c.records.files p.place d c.send_one.new.file (search rules) c.send_one.ensures.same.beside ∙ c.records.invariant.same;
       rest = search rules;
-      reads = let one = sum_set_le g.F.Reader.reads c.records.files p.place d c.send_one.new.file 1 (search rules) c.send_one.ensures.reads in omega (arith, one, c.records.invariant.reads);
+      reads = let one = sum_set_le g.F.Reader.reads c.records.files p.place d c.send_one.new.file 1 (search rules) c.send_one.ensures.asked.0 in omega (arith, one, c.records.invariant.reads);
       asked = omega (arith, next, set_asked, c.records.invariant.asked);
     }
 

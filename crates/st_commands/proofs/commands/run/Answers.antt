@@ -11,19 +11,29 @@ use Rattle.st_spool.specs.declared.state.Doubt.{Doubt}
 use Rattle.st_commands.specs.Commands.{KeepsPairs}
 use Rattle.st_commands.specs.Reports.{Reports}
 use Rattle.st_commands.proofs.Commanding.{entered_clears, stays_clear, keeps_pairs}
+use Rattle.st_commands.proofs.Opening.{no_report, no_write}
 use Rattle.st_commands.proofs.Staying.{keeps_then}
 use Rattle.st_commands.proofs.commands.run.Goals as goal
+
+pub returns-in-Err-clause-lines : goal.returns-in-Err-clause-lines
+returns-in-Err-clause-lines g c = λ first pairs known given. no_report c.args.report pairs (g.O.Sink.written c.args.out.now) c.in-Err.ended.outcome c.in-Err.ensures.ended.1
+
+pub returns-in-Err-clause-images : goal.returns-in-Err-clause-images
+returns-in-Err-clause-images g c = λ first known. c.in-Err.ensures.opens first known
+
+pub returns-in-Err-clause-write : goal.returns-in-Err-clause-write
+returns-in-Err-clause-write g c = no_write (g.O.Sink.faults c.args.out.now) c.in-Err.ended.outcome c.in-Err.ensures.ended.1
 
 pub returns-in-Err-hold-clause-images : goal.returns-in-Err-hold-clause-images
 returns-in-Err-hold-clause-images g c = λ first known.
     let D = g.D.Shelf in
     let back = ap D.log (c.close.ensures ∙ ap (λ (v : SpoolView g.row.D.Denot). v.shelf) c.in-Err-hold.ensures.state) in
-    subst (FailsToEnter first) (sym back) (inr (entered_clears first (D.log c.in-Ok.spool.shelf) c.in-Ok.spool.state (c.in-Ok.ensures.entered first known)))
+    subst (FailsToEnter first) (sym back) (inr (entered_clears first (D.log c.in-Ok.spool.shelf) c.in-Ok.spool.state (c.in-Ok.ensures.opens first known)))
 
 pub returns-clause-lines : goal.returns-clause-lines
 returns-clause-lines g c = λ first pairs known given.
     let D = g.D.Shelf in
-    let entered = c.in-Ok.ensures.entered first known in
+    let entered = c.in-Ok.ensures.opens first known in
     let h : List Event = Found entered.pairs ∷ [] in
     let f : Files = record { block = []; index = [] } in
     let stands = entered.stands f in
@@ -37,7 +47,7 @@ returns-clause-lines g c = λ first pairs known given.
 pub returns-clause-images : goal.returns-clause-images
 returns-clause-images g c = λ first known.
     let D = g.D.Shelf in
-    let entered = c.in-Ok.ensures.entered first known in
+    let entered = c.in-Ok.ensures.opens first known in
     let h : List Event = Found entered.pairs ∷ [] in
     let f : Files = record { block = []; index = [] } in
     let stands = c.hold.ensures.stands (events first) h f (entered.stands f) in
