@@ -1,7 +1,7 @@
 //! Lines over shelves in memory. The pair is that of docs/FORMAT.md; its packet is at second
 //! 1,000,000,000 and microsecond 123,456. The lines were written by hand.
 
-ghost use Rattle.std.specs.Prelude.{◌≡◌, ⊤, [], IfSome};
+ghost use Rattle.std.specs.Prelude.{◌≡◌, ⊤, [], IfSome, IfOk};
 
 use crate::commands::{Ended, check, list};
 use crate::outcomes::Outcome;
@@ -123,43 +123,50 @@ fn publish<D: Shelf>(
     }
 }
 
-// The shelf with a pair of stamp 9, whose files these are, and whole ones of the stamps after it.
-// What fails is given by numbers of calls.
-fn pairs(
-    alloc: Global,
-    block: &[u8],
-    index: &[u8],
-    whole_ones: u64,
-    fails: &[u64],
-) -> Result<MemShelf, Fail> {
+// A spool over an empty shelf. What fails is given by numbers of calls.
+fn opened(alloc: Global, fails: &[u64]) -> Result<Spool<MemShelf, AnyPair>, Fail>
+    ensures { IfOk result (λ spool. spool.state.holds ≡ []) }
+{
     let shelf = MemShelf::with(alloc, fails, None)?;
-    let whole = block_file(alloc, 1)?;
     let entered: Result<Spool<MemShelf, AnyPair>, NotEntered<MemShelf>> = Spool::enter(
         alloc, shelf, 4,
     );
-    let mut spool = match entered {
-        Ok(spool) => spool,
+    match entered {
+        Ok(spool) => Ok(spool),
         Err(
             NotEntered {
                 cause: _cause,
                 shelf: _shelf,
             },
         ) => Err("not opened")?,
-    };
-    let mut last = publish(&mut spool, block, index, 9);
-    'whole_ones: for _ in 0..whole_ones {
-        last = publish(&mut spool, whole.as_slice(), INDEX, 0);
     }
+}
+
+// The shelf with two pairs: one of stamp 9, whose files these are, and the whole one of stamp 10.
+fn two_pairs(alloc: Global, block: &[u8], index: &[u8], fails: &[u64]) -> Result<MemShelf, Fail> {
+    let whole = block_file(alloc, 1)?;
+    let mut spool = opened(alloc, fails)?;
+    let first = publish(&mut spool, block, index, 9);
+    let second = publish(&mut spool, whole.as_slice(), INDEX, 0);
     let shelf = spool.close();
-    if last != Some(9 + whole_ones) {
+    if first != Some(9) || second != Some(10) {
         Err("not published")?;
     }
     Ok(shelf)
 }
 
-// The shelf with two pairs: one of stamp 9, whose files these are, and the whole one of stamp 10.
-fn two_pairs(alloc: Global, block: &[u8], index: &[u8], fails: &[u64]) -> Result<MemShelf, Fail> {
-    pairs(alloc, block, index, 1, fails)
+// The shelf with these and a third pair, of stamp 11, which is whole.
+fn three_pairs(alloc: Global, block: &[u8], index: &[u8], fails: &[u64]) -> Result<MemShelf, Fail> {
+    let whole = block_file(alloc, 1)?;
+    let mut spool = opened(alloc, fails)?;
+    let first = publish(&mut spool, block, index, 9);
+    let second = publish(&mut spool, whole.as_slice(), INDEX, 0);
+    let third = publish(&mut spool, whole.as_slice(), INDEX, 0);
+    let shelf = spool.close();
+    if first != Some(9) || second != Some(10) || third != Some(11) {
+        Err("not published")?;
+    }
+    Ok(shelf)
 }
 
 // How a list ends over this shelf, and what it writes, where these writes of the output fail.
@@ -292,7 +299,7 @@ fn a_fault_of_the_disk_ends_a_command(rt: HostRuntime) -> Result<(), Fail> {
 const HEAD: &[u8] = b"\xd4\xc3\xb2\xa1\x02\x00\x04\x00\x00\x00\x00\x00\x00\x00\x00\x00\
 \x00\x00\x04\x00\x01\x00\x00\x00";
 
-// The packet in it.
+// The packet in it, of 62 bytes.
 const PACKET: &[u8] = b"\x00\xca\x9a\x3b\x40\xe2\x01\x00\x2e\x00\x00\x00\x2e\x00\x00\x00\
 \x02\x00\x00\x00\x00\x02\x02\x00\x00\x00\x00\x01\x08\x00\x45\x00\
 \x00\x20\x00\x00\x00\x00\x40\x11\x00\x00\x0a\x00\x00\x01\x0a\x00\
@@ -342,7 +349,7 @@ fn a_query_of_an_empty_shelf_writes_a_file_head(rt: HostRuntime) -> Result<(), F
 fn a_query_writes_the_packets_of_all_pairs(rt: HostRuntime) -> Result<(), Fail> {
     let alloc = rt.alloc();
     let block = block_file(alloc, 1)?;
-    let shelf = pairs(alloc, block.as_slice(), INDEX, 2, &[])?;
+    let shelf = three_pairs(alloc, block.as_slice(), INDEX, &[])?;
     let (outcome, bytes, shelf) = queried(alloc, shelf, b"port 53", ALL, &[])?;
     assert_eq!(rt; outcome, Outcome::Done);
     assert_eq!(rt; bytes, pcap(alloc, 3)?);
@@ -368,7 +375,7 @@ fn a_query_writes_the_packets_of_all_pairs(rt: HostRuntime) -> Result<(), Fail> 
 fn a_query_names_a_damaged_pair(rt: HostRuntime) -> Result<(), Fail> {
     let alloc = rt.alloc();
     let block = block_file(alloc, 1)?;
-    let shelf = pairs(alloc, block.as_slice(), &INDEX[..47], 2, &[])?;
+    let shelf = three_pairs(alloc, block.as_slice(), &INDEX[..47], &[])?;
     let (outcome, bytes, _shelf) = queried(alloc, shelf, b"port 53", ALL, &[])?;
     let damage = Damage {
         place: 0,
@@ -387,19 +394,19 @@ fn a_query_names_a_damaged_pair(rt: HostRuntime) -> Result<(), Fail> {
 fn a_fault_of_the_disk_ends_a_query(rt: HostRuntime) -> Result<(), Fail> {
     let alloc = rt.alloc();
     let block = block_file(alloc, 1)?;
-    let calls = pairs(alloc, block.as_slice(), INDEX, 2, &[])?.calls();
+    let calls = three_pairs(alloc, block.as_slice(), INDEX, &[])?.calls();
     let whole = pcap(alloc, 3)?;
     let mut broken_off = 0u64;
     for more in 0..60_u64 {
         let fails = [calls.saturating_add(more)];
-        let shelf = pairs(alloc, block.as_slice(), INDEX, 2, &fails)?;
+        let shelf = three_pairs(alloc, block.as_slice(), INDEX, &fails)?;
         let (outcome, bytes, shelf) = queried(alloc, shelf, b"port 53", ALL, &[])?;
         assert!(rt;
             whole.as_slice().starts_with(bytes.as_slice()),
             "a query at {more}"
         );
         if outcome == Outcome::DiskFault {
-            let rest = bytes.len() % PACKET.len();
+            let rest = bytes.len() % 62;
             assert!(rt; bytes.is_empty() || rest == HEAD.len(), "a query at {more}");
             if bytes.len() > HEAD.len() {
                 broken_off = broken_off.saturating_add(1);
