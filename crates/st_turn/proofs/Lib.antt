@@ -1,1 +1,13 @@
 pub mod Turns
+pub mod Totals
+pub mod Moved
+pub mod Joined
+pub mod Ending
+pub mod Telling
+pub mod Stepping
+pub mod Started
+pub mod BothSeen
+pub mod Shut
+pub mod Taken
+pub mod Spooled
+pub mod Ready

@@ -1,1 +1,9 @@
 pub mod Turn
+pub mod Parts
+pub mod Steps
+pub mod Telling
+pub mod Calls
+pub mod Passes
+pub mod Ends
+pub mod Spools
+pub mod SpoolCalls

@@ -1,0 +1,83 @@
+ghost use Rattle.std.specs.Prelude.{◌≡◌};
+ghost use Rattle.st_spool.specs.States.{SpoolView};
+ghost use Rattle.st_spool.specs.Standing.{Stands};
+ghost use Rattle.st_turn.specs.Passes.{IsOf};
+ghost use Rattle.st_turn.specs.Spools.{facts_of};
+ghost use Rattle.st_turn.specs.Calls.{IsTurn};
+ghost use Rattle.st_turn.specs.SpoolCalls.{Holds, AgesBy, age_stopped};
+
+use crate::desk::{end, take};
+use crate::home::Home;
+use crate::pass::Pass;
+use crate::sharing::Shared;
+use st_base::NoMemory;
+use st_shelf::Shelf;
+use st_spool::{AgeErr, Hold, PairRule, Spool};
+use std::sync::Wait;
+
+fn stopped(answer: Result<bool, AgeErr>) -> bool
+    ensures { result ≡ age_stopped answer }
+{
+    match answer {
+        Ok(_) => false,
+        Err(AgeErr::DiskFault) => true,
+        Err(AgeErr::Halted { since: _ }) => false,
+    }
+}
+
+impl<D: Shelf, W: PairRule> Shared<Spool<D, W>> {
+    /// Holds the set of all pairs that are published at home, as the spool's `hold` does, in one
+    /// turn. The hold must be spent, by `release`.
+    pub fn hold<R: Wait>(&self, rt: &R, pass: &mut Pass<Spool<D, W>>) -> Result<Hold, NoMemory>
+        requires { IsOf self.now pass.old }
+        ensures same { (pass.new.table ≡ pass.old.table) × (pass.new.id ≡ pass.old.id) }
+        ensures turn { (v : SpoolView D) × (w : SpoolView D)
+            × Stands W.is_whole (D.log v.shelf) v.state
+            × IsTurn (facts_of D.log D.faults D.id) v w pass.old.state pass.new.state
+            × Holds W.is_whole D.log D.faults D.id D.loans v w result }
+    {
+        let desk = &self.table.shared;
+        let Home { mut spool, lines } = take(rt, desk, &mut pass.place);
+        spool.recall();
+        let before = spool.fault_count();
+        let answer = spool.hold();
+        end(
+            desk,
+            &mut pass.place,
+            pass.number,
+            (spool, lines),
+            before,
+            false,
+        );
+        answer
+    }
+
+    /// Removes the oldest pair if there are more than the limit, as the spool's `age` does, in one
+    /// turn, and answers whether it did.
+    ///
+    /// `DiskFault` comes only if the pass's `failed` rose, and raises its `stops`.
+    pub fn age<R: Wait>(&self, rt: &R, pass: &mut Pass<Spool<D, W>>) -> Result<bool, AgeErr>
+        requires { IsOf self.now pass.old }
+        ensures same { (pass.new.table ≡ pass.old.table) × (pass.new.id ≡ pass.old.id) }
+        ensures turn { (v : SpoolView D) × (w : SpoolView D)
+            × Stands W.is_whole (D.log v.shelf) v.state
+            × IsTurn (facts_of D.log D.faults D.id) v w pass.old.state pass.new.state
+            × AgesBy W.is_whole D.log D.faults D.id D.loans v w result }
+    {
+        let desk = &self.table.shared;
+        let Home { mut spool, lines } = take(rt, desk, &mut pass.place);
+        spool.recall();
+        let before = spool.fault_count();
+        let answer = spool.age();
+        let stop = stopped(answer);
+        end(
+            desk,
+            &mut pass.place,
+            pass.number,
+            (spool, lines),
+            before,
+            stop,
+        );
+        answer
+    }
+}

@@ -1,0 +1,98 @@
+ghost use Rattle.std.specs.Prelude.{◌≡◌, Some};
+ghost use Rattle.st_disk.specs.Disks.{Log};
+ghost use Rattle.st_disk.specs.Folders.{given};
+ghost use Rattle.st_spool.specs.Publishing.{IsPairOf};
+ghost use Rattle.st_spool.specs.States.{SpoolView};
+ghost use Rattle.st_spool.specs.Standing.{Stands};
+ghost use Rattle.st_turn.specs.Passes.{IsOf};
+ghost use Rattle.st_turn.specs.Spools.{facts_of};
+ghost use Rattle.st_turn.specs.Calls.{IsTurn};
+ghost use Rattle.st_turn.specs.SpoolCalls.{told, publish_stopped, SharedPublishes};
+
+use crate::desk::{end, take};
+use crate::home::Home;
+use crate::pass::Pass;
+use crate::refusals::SharedPublishErr;
+use crate::sharing::Shared;
+use st_shelf::{Draft, SealedPair, Shelf};
+use st_spool::{PairRule, PublishErr, Spool};
+use std::sync::Wait;
+
+fn is_stopped<T: Draft>(answer: &Result<u64, PublishErr<T>>) -> bool
+    ensures { result ≡ publish_stopped answer.now }
+{
+    match answer {
+        Ok(_) => false,
+        Err(PublishErr::DiskFault) => true,
+        Err(PublishErr::Halted { .. }) => false,
+        Err(PublishErr::StampsSpent { .. }) => false,
+    }
+}
+
+fn shared_answer<T: Draft>(answer: Result<u64, PublishErr<T>>) -> Result<u64, SharedPublishErr<T>>
+    ensures { result ≡ told answer }
+{
+    match answer {
+        Ok(stamp) => Ok(stamp),
+        Err(PublishErr::DiskFault) => Err(SharedPublishErr::DiskFault),
+        Err(PublishErr::Halted { since, pair }) => Err(SharedPublishErr::Halted { since, pair }),
+        Err(PublishErr::StampsSpent { last, pair }) => {
+            Err(SharedPublishErr::StampsSpent { last, pair })
+        }
+    }
+}
+
+impl<D: Shelf, W: PairRule> Shared<Spool<D, W>> {
+    /// Publishes a pair of sealed files of the shared spool's shelf, as the spool's `publish` does,
+    /// in one turn, which makes room for it first.
+    ///
+    /// `DiskFault` comes only if the pass's `failed` rose, and raises its `stops`. `NoMemory` hands
+    /// the pair back before anything was done.
+    pub fn publish<R: Wait>(
+        &self,
+        rt: &R,
+        pass: &mut Pass<Spool<D, W>>,
+        pair: SealedPair<D::Draft>,
+        floor: u64,
+    ) -> Result<u64, SharedPublishErr<D::Draft>>
+        requires of { IsOf self.now pass.old }
+        requires pair { IsPairOf (D.id self.now.base.shelf)
+            (D.Draft.sealed_origin pair.block) (D.Draft.sealed_origin pair.index) }
+        requires whole { (log : Log) → D.log self.now.base.shelf ≡ Some log
+            → W.is_whole (given (D.Draft.sealed_bytes pair.block))
+            (given (D.Draft.sealed_bytes pair.index)) }
+        ensures same { (pass.new.table ≡ pass.old.table) × (pass.new.id ≡ pass.old.id) }
+        ensures turn { (v : SpoolView D) × (w : SpoolView D)
+            × Stands W.is_whole (D.log v.shelf) v.state
+            × IsTurn (facts_of D.log D.faults D.id) v w pass.old.state pass.new.state
+            × SharedPublishes W.is_whole D.log D.faults D.id D.loans v w
+            D.Draft.sealed_bytes pair floor result }
+    {
+        let desk = &self.table.shared;
+        let Home { mut spool, lines } = take(rt, desk, &mut pass.place);
+        spool.recall();
+        let before = spool.fault_count();
+        if let Err(_) = spool.reserve() {
+            end(
+                desk,
+                &mut pass.place,
+                pass.number,
+                (spool, lines),
+                before,
+                false,
+            );
+            return Err(SharedPublishErr::NoMemory { pair });
+        }
+        let answer = spool.publish(pair, floor);
+        let stop = is_stopped(&answer);
+        end(
+            desk,
+            &mut pass.place,
+            pass.number,
+            (spool, lines),
+            before,
+            stop,
+        );
+        shared_answer(answer)
+    }
+}
