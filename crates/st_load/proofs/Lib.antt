@@ -1,0 +1,15 @@
+mod Reading
+mod Lists
+mod Jobs
+mod Cutting
+mod Covered
+mod Finishing
+mod Ageing
+mod Published
+mod Going
+mod Steps
+mod Rounds
+mod Taking
+mod Starting
+mod Opened
+mod Keeping

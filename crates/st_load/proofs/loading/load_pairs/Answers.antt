@@ -1,0 +1,101 @@
+use Rattle.std.proofs.Common.{rules, ◌≡◌, ◌++◌, ◌∷◌, [], ℕ, List, refl, sym, ap, ◌∙◌, subst, arith}
+use Rattle.st_base.specs.Records.{Rec}
+use Rattle.st_spool.specs.States.{SpoolView}
+use Rattle.st_load.specs.Acts.{events_of}
+use Rattle.st_load.proofs.Going.{failure_fill}
+use Rattle.st_load.proofs.Rounds.{round_none, round_keeps, round_fails, round_long, round_next, round_stops, round_last, round_ends}
+use Rattle.st_load.proofs.loading.load_pairs.Goals as goal
+
+pub pairs-init : goal.pairs-init
+pairs-init g c = record {
+  job = λ log earlier h f known stands. round_none c.args.spool.now.state.limit c.args.layout (g.D.Shelf.log c.args.spool.now.shelf) log c.args.spool.now.state earlier h f _ _ c.args.reader.now _ c.args.first known stands c.requires.running;
+  runs = c.requires.running;
+  state = (refl, refl);
+  going = c.requires.going.0;
+  number = c.requires.going.1;
+  later = omega arith;
+  read = refl;
+  write = refl;
+  id = refl;
+  loans = refl;
+  source = refl;
+  out = refl;
+}
+
+pub returns-in-Err-clause-job : goal.returns-in-Err-clause-job
+returns-in-Err-clause-job g c = λ log earlier h f known stands.
+    let s = round_keeps g.D.Shelf.log c.pairs.spool c.open_lane.new.spool _ _ _ _ earlier h f _ _ _ _ _ _ _ (c.pairs.invariant.job log earlier h f known stands) c.pairs.invariant.runs c.in-Err.ensures.keeps in
+    let runs = ap (λ (v : SpoolView g.row.D.Denot). v.state.halted) c.in-Err.ensures.keeps.state ∙ c.pairs.invariant.runs in
+    round_fails _ _ _ _ earlier h f _ _ _ _ _ _ c.pairs.reader _ _ _ s c.in-Err.end runs c.pairs.invariant.going (failure_fill c.in-Err.end c.in-Err.ensures.failed)
+
+pub pairs-preserved : goal.pairs-preserved
+pairs-preserved g c = record {
+  job = λ log earlier h f known stands.
+      let s = round_keeps g.D.Shelf.log c.pairs.spool c.open_lane.new.spool _ _ _ _ earlier h f _ _ _ _ _ _ _ (c.pairs.invariant.job log earlier h f known stands) c.pairs.invariant.runs c.open_lane.ensures.keeps in
+      let lim = ap (λ (v : SpoolView g.row.D.Denot). v.state.limit) c.open_lane.ensures.keeps.state ∙ c.pairs.invariant.state.0 in
+      let empty = c.in-Ok.ensures.empty s.log s.is in
+      round_next _ c.args.layout _ _ earlier h f _ _ _ c.open_lane.new.spool.state _ _ c.pairs.reader (g.S.Source.left c.pairs.source) c.pairs.first c.pairs.number s g.D.Draft.Sink.written c.fill.new.lane
+      (c.fill.ensures.lane.2 ∙ c.in-Ok.ensures.new.size) (c.fill.ensures.lane.3 ∙ c.in-Ok.ensures.new.most) c.pairs.invariant.going lim
+      _ c.finish.new.spool.state _ _ c.fill.new.reader (g.S.Source.left c.fill.new.source) c.in-Ready.next c.records-number.result c.records-number.ensures (c.in-Ready.ensures.fills empty)
+      (λ rs has. c.in-Ok-finish.ensures.finishes s.log earlier (h ++ events_of s.acts) f rs s.is s.stands has);
+  runs = search rules;
+  state = search rules;
+  going = search rules;
+  number = search rules;
+  later = search rules;
+  read = search rules;
+  write = search rules;
+  id = search rules;
+  loans = search rules;
+  source = search rules;
+  out = search rules;
+}
+
+pub returns-in-Err-finish-clause-job : goal.returns-in-Err-finish-clause-job
+returns-in-Err-finish-clause-job g c = λ log earlier h f known stands.
+    let s = round_keeps g.D.Shelf.log c.pairs.spool c.open_lane.new.spool _ _ _ _ earlier h f _ _ _ _ _ _ _ (c.pairs.invariant.job log earlier h f known stands) c.pairs.invariant.runs c.open_lane.ensures.keeps in
+    let lim = ap (λ (v : SpoolView g.row.D.Denot). v.state.limit) c.open_lane.ensures.keeps.state ∙ c.pairs.invariant.state.0 in
+    let empty = c.in-Ok.ensures.empty s.log s.is in
+    round_stops _ c.args.layout _ _ earlier h f _ _ _ c.open_lane.new.spool.state _ _ c.pairs.reader (g.S.Source.left c.pairs.source) c.pairs.first c.pairs.number s g.D.Draft.Sink.written c.fill.new.lane
+    (c.fill.ensures.lane.2 ∙ c.in-Ok.ensures.new.size) (c.fill.ensures.lane.3 ∙ c.in-Ok.ensures.new.most) c.pairs.invariant.going lim
+    _ c.finish.new.spool.state _ _ c.fill.new.reader (g.S.Source.left c.fill.new.source) c.in-Ready.next c.in-Err-finish.end c.in-Ready.ensures.leaves.2 (c.in-Ready.ensures.fills empty)
+    (λ rs has. c.in-Err-finish.ensures.finishes s.log earlier (h ++ events_of s.acts) f rs s.is s.stands has)
+
+pub returns-then-records-eq0-clause-job : goal.returns-then-records-eq0-clause-job
+returns-then-records-eq0-clause-job g c = λ log earlier h f known stands.
+    let one = round_keeps g.D.Shelf.log c.pairs.spool c.open_lane.new.spool _ _ _ _ earlier h f _ _ _ _ _ _ _ (c.pairs.invariant.job log earlier h f known stands) c.pairs.invariant.runs c.open_lane.ensures.keeps in
+    let runs = ap (λ (v : SpoolView g.row.D.Denot). v.state.halted) c.open_lane.ensures.keeps.state ∙ c.pairs.invariant.runs in
+    let now = ap (λ (v : SpoolView g.row.D.Denot). v.state.halted) c.give_up.ensures.keeps.state ∙ runs in
+    let s = round_keeps g.D.Shelf.log c.open_lane.new.spool c.give_up.new.spool _ _ _ _ earlier h f _ _ _ _ _ _ _ one runs c.give_up.ensures.keeps in
+    let empty = c.in-Ok.ensures.empty one.log one.is in
+    round_long _ c.args.layout _ _ earlier h f _ _ _ c.give_up.new.spool.state _ _ c.pairs.reader (g.S.Source.left c.pairs.source) c.pairs.first c.pairs.number s g.D.Draft.Sink.written c.fill.new.lane
+    (c.fill.ensures.lane.2 ∙ c.in-Ok.ensures.new.size) (c.fill.ensures.lane.3 ∙ c.in-Ok.ensures.new.most) c.pairs.invariant.going
+    c.fill.new.reader (g.S.Source.left c.fill.new.source) c.in-Ended.end now (sym c.records.ensures ∙ c.if-records-eq0.true) c.in-Ended.ensures.leaves.1 (c.in-Ended.ensures.fills empty)
+
+pub returns-in-Ok-finish-2-clause-job : goal.returns-in-Ok-finish-2-clause-job
+returns-in-Ok-finish-2-clause-job g c = λ log earlier h f known stands.
+    let s = round_keeps g.D.Shelf.log c.pairs.spool c.open_lane.new.spool _ _ _ _ earlier h f _ _ _ _ _ _ _ (c.pairs.invariant.job log earlier h f known stands) c.pairs.invariant.runs c.open_lane.ensures.keeps in
+    let lim = ap (λ (v : SpoolView g.row.D.Denot). v.state.limit) c.open_lane.ensures.keeps.state ∙ c.pairs.invariant.state.0 in
+    let empty = c.in-Ok.ensures.empty s.log s.is in
+    round_last _ c.args.layout _ _ earlier h f _ _ _ c.open_lane.new.spool.state _ _ c.pairs.reader (g.S.Source.left c.pairs.source) c.pairs.first c.pairs.number s g.D.Draft.Sink.written c.fill.new.lane
+    (c.fill.ensures.lane.2 ∙ c.in-Ok.ensures.new.size) (c.fill.ensures.lane.3 ∙ c.in-Ok.ensures.new.most) c.pairs.invariant.going lim
+    _ c.finish-in-Ended.new.spool.state _ _ c.fill.new.reader (g.S.Source.left c.fill.new.source) c.in-Ended.end (c.in-Ok-finish-2.ensures.runs (λ is. cc)) (λ none. c.if-records-eq0.false (c.records.ensures ∙ none)) c.in-Ended.ensures.leaves.1 (c.in-Ended.ensures.fills empty)
+    (λ rs has. c.in-Ok-finish-2.ensures.finishes s.log earlier (h ++ events_of s.acts) f rs s.is s.stands has)
+
+pub returns-in-Err-finish-2-clause-job : goal.returns-in-Err-finish-2-clause-job
+returns-in-Err-finish-2-clause-job g c = λ log earlier h f known stands.
+    let s = round_keeps g.D.Shelf.log c.pairs.spool c.open_lane.new.spool _ _ _ _ earlier h f _ _ _ _ _ _ _ (c.pairs.invariant.job log earlier h f known stands) c.pairs.invariant.runs c.open_lane.ensures.keeps in
+    let lim = ap (λ (v : SpoolView g.row.D.Denot). v.state.limit) c.open_lane.ensures.keeps.state ∙ c.pairs.invariant.state.0 in
+    let empty = c.in-Ok.ensures.empty s.log s.is in
+    round_ends _ c.args.layout _ _ earlier h f _ _ _ c.open_lane.new.spool.state _ _ c.pairs.reader (g.S.Source.left c.pairs.source) c.pairs.first c.pairs.number s g.D.Draft.Sink.written c.fill.new.lane
+    (c.fill.ensures.lane.2 ∙ c.in-Ok.ensures.new.size) (c.fill.ensures.lane.3 ∙ c.in-Ok.ensures.new.most) c.pairs.invariant.going lim
+    _ c.finish-in-Ended.new.spool.state _ _ c.fill.new.reader (g.S.Source.left c.fill.new.source) c.in-Ended.end c.in-Err-finish-2.failed (λ none. c.if-records-eq0.false (c.records.ensures ∙ none)) (c.in-Ended.ensures.fills empty)
+    (λ rs has. c.in-Err-finish-2.ensures.finishes s.log earlier (h ++ events_of s.acts) f rs s.is s.stands has)
+
+pub returns-in-Failed-clause-job : goal.returns-in-Failed-clause-job
+returns-in-Failed-clause-job g c = λ log earlier h f known stands.
+    let one = round_keeps g.D.Shelf.log c.pairs.spool c.open_lane.new.spool _ _ _ _ earlier h f _ _ _ _ _ _ _ (c.pairs.invariant.job log earlier h f known stands) c.pairs.invariant.runs c.open_lane.ensures.keeps in
+    let runs = ap (λ (v : SpoolView g.row.D.Denot). v.state.halted) c.open_lane.ensures.keeps.state ∙ c.pairs.invariant.runs in
+    let now = ap (λ (v : SpoolView g.row.D.Denot). v.state.halted) c.give_up-in-Failed.ensures.keeps.state ∙ runs in
+    let s = round_keeps g.D.Shelf.log c.open_lane.new.spool c.give_up-in-Failed.new.spool _ _ _ _ earlier h f _ _ _ _ _ _ _ one runs c.give_up-in-Failed.ensures.keeps in
+    round_fails _ _ _ _ earlier h f _ _ _ _ _ _ c.pairs.reader _ _ _ s c.in-Failed.end now c.pairs.invariant.going c.in-Failed.ensures.leaves

@@ -1,0 +1,103 @@
+-- What a lane takes of an input.
+use Rattle.std.specs.Prelude.{◌≡◌, ◌<◌, ◌≤◌, ◌+◌, ◌*◌, ◌⊎◌, ℕ, List, [], ◌∷◌, ◌++◌, length, Option, Some, false, ⊤}
+use Rattle.st_base.specs.Records.{Rec}
+use Rattle.st_block.specs.BlockText.{IsShort}
+use Rattle.st_block.specs.declared.format.TheConstants.{BLOCK_HEAD, RECORD_HEAD}
+use Rattle.st_lane.specs.Cut.{EndsList}
+use Rattle.st_lane.specs.Lane.{LaneView, Represents}
+use Rattle.st_pcap.specs.Input.{End, Whole, Refused, Input}
+use Rattle.st_pcap.specs.Reading.{PcapReaderView, HasRead, IsGoing, IsOutside}
+use Rattle.st_pcap.specs.declared.errors.PcapErr.{PcapErr}
+use Rattle.st_pcap.specs.declared.errors.PcapErr.TheVariants.{ReadFault, NoMemory}
+use Rattle.st_pcap.specs.declared.numbers.TheConstants.{RECORD_HEAD_SIZE, MAX_BODY, MAX_INPUT}
+use Rattle.st_load.specs.Causes.{Says}
+use Rattle.st_load.specs.declared.ends.LoadEnd.{LoadEnd}
+use Rattle.st_load.specs.declared.ends.LoadEnd.TheVariants as end
+use Rattle.st_load.specs.declared.filling.Filled.{Filled}
+use Rattle.st_load.specs.declared.filling.Filled.TheVariants as filled
+
+-- of these bytes the reader gave these records, and what is left is to come
+abbrev pub HasReadTo : PcapReaderView → List ℕ → List Rec → Option (List ℕ) → Type 0
+HasReadTo p bytes rs left = (rest : List ℕ) × (left ≡ Some rest) × HasRead p bytes rs rest
+
+-- After these records the input ends, or goes on with one that is too long for a block of this
+-- size, whose number this is.
+abbrev pub StopsAfter : ℕ → List ℕ → List Rec → LoadEnd → Type 0
+StopsAfter size bytes given end.Done = Input bytes given Whole
+StopsAfter size bytes given (end.BadInput e) = Input bytes given (Refused e)
+StopsAfter size bytes given (end.TooLong number len) =
+    (r : Rec) × (later : List Rec) × (e : End) × Input bytes (given ++ r ∷ later) e
+    × (IsShort size r → ⊥) × (len ≡ length r.body) × (number ≡ length given + 1)
+StopsAfter size bytes given end.ReadFault = ⊥
+StopsAfter size bytes given end.WriteFault = ⊥
+StopsAfter size bytes given end.DiskFault = ⊥
+StopsAfter size bytes given (end.StampsSpent last) = ⊥
+StopsAfter size bytes given end.NoMemory = ⊥
+
+-- what a lane took, from this record on: nothing only if the record is too long for a block
+abbrev pub Begins : ℕ → Rec → List Rec → Type 0
+Begins size first rs =
+    ((rs ≡ []) × (IsShort size first → ⊥)) ⊎ ((more : List Rec) × (rs ≡ first ∷ more))
+
+-- What a lane took of an input, from a record on that has this number, of which `Before bytes
+-- given` says that it follows these records of these bytes. The lane represents what it took, and
+-- then either a record came that begins the next list, or the input stopped.
+abbrev pub Fills :
+    {T : Type 0} → (T → Option (List ℕ)) → (List ℕ → List Rec → Type 0) → Rec → ℕ → LaneView T
+    → PcapReaderView → Option (List ℕ) → Filled → Type 0
+Fills {T} written Before first number lane reader left (filled.Ready r) =
+    (more : List Rec) × Represents written lane (first ∷ more) × IsShort lane.filling.size r
+    × EndsList lane.filling.size lane.filling.most (first ∷ more) r
+    × ((bytes : List ℕ) (given : List Rec) → Before bytes given
+    → HasReadTo reader bytes (given ++ (first ∷ more ++ r ∷ [])) left)
+Fills {T} written Before first number lane reader left (filled.Ended e) =
+    (rs : List Rec) × Represents written lane rs × Begins lane.filling.size first rs
+    × ((bytes : List ℕ) (given : List Rec) → Before bytes given → number ≡ length given + 1
+    → StopsAfter lane.filling.size bytes (given ++ rs) e)
+Fills {T} written Before first number lane reader left (filled.Failed e) = ⊤
+
+-- the end of an input, or a record that no block takes
+abbrev pub IsInputEnd : LoadEnd → Type 0
+IsInputEnd end.Done = ⊤
+IsInputEnd (end.BadInput e) = ⊤
+IsInputEnd (end.TooLong number len) = ⊤
+IsInputEnd end.ReadFault = ⊥
+IsInputEnd end.WriteFault = ⊥
+IsInputEnd end.DiskFault = ⊥
+IsInputEnd (end.StampsSpent last) = ⊥
+IsInputEnd end.NoMemory = ⊥
+
+-- a fault, or out of memory
+abbrev pub IsFillFault : LoadEnd → Type 0
+IsFillFault end.Done = ⊥
+IsFillFault (end.BadInput e) = ⊥
+IsFillFault (end.TooLong number len) = ⊥
+IsFillFault end.ReadFault = ⊤
+IsFillFault end.WriteFault = ⊥
+IsFillFault end.DiskFault = ⊤
+IsFillFault (end.StampsSpent last) = ⊥
+IsFillFault end.NoMemory = ⊤
+
+-- a reader gave this many records, each of 16 bytes at least
+abbrev pub HasCounted : ℕ → PcapReaderView → Type 0
+HasCounted number p =
+    (RECORD_HEAD_SIZE * number ≤ p.taken) × (p.taken ≤ MAX_INPUT + RECORD_HEAD_SIZE + MAX_BODY)
+
+-- Whatever is known: a lane that is to be published isn't broken, and one that is ready has
+-- records. Then the reader goes on, and read a record at least; the record that came has the number
+-- of the first one and of those in the lane together.
+abbrev pub Leaves :
+    {T : Type 0} → ℕ → LaneView T → PcapReaderView → PcapReaderView → Filled → Type 0
+Leaves {T} number lane old new (filled.Ready r) =
+    (lane.broken ≡ false) × (1 ≤ lane.filling.records) × IsGoing new.phase
+    × (old.taken < new.taken) × HasCounted (number + lane.filling.records) new
+Leaves {T} number lane old new (filled.Ended e) =
+    (lane.broken ≡ false) × IsInputEnd e × Says lane.filling.size e
+Leaves {T} number lane old new (filled.Failed e) = IsFillFault e
+
+-- a refused input ends, a fault or want of memory doesn't let the lane be published
+abbrev pub EndsReading : PcapErr → Filled → Type 0
+EndsReading error (filled.Ready r) = ⊥
+EndsReading error (filled.Ended e) = (e ≡ end.BadInput error) × (IsOutside error → ⊥)
+EndsReading error (filled.Failed e) =
+    ((error ≡ ReadFault) × (e ≡ end.ReadFault)) ⊎ ((error ≡ NoMemory) × (e ≡ end.NoMemory))

@@ -1,0 +1,42 @@
+//! Loading: the packets of a pcap become pairs of a spool.
+//!
+//! A load removes the oldest pairs of its spool while more than the limit are published, and reads
+//! the input record by record. It fills one pair after the other, each as far as the layout of its
+//! block files lets it, publishes it, writes the line `STAMP PACKETS`, and removes the oldest pairs
+//! again. A stamp is in microseconds since 1970, or greater. The line is ours: docs/FORMAT.md,
+//! "Command line".
+//!
+//! # What it promises
+//!
+//! - What was published, written and removed are the first acts of one job, in its order, and all
+//!   of them unless a fault ended the load: for each list of the cut of the input's packets a whole
+//!   pair under the next stamp, then its line, then the removals (`load`, `load_into`, clause
+//!   `job`).
+//! - At every moment a crash leaves the pairs after some of the job's events, the first ones; at
+//!   the return those after all, but for an event in doubt if the shelf failed (clause `job`).
+//! - A fault comes only if that object's count rose (`disk`, `read`, `write`). An input is refused
+//!   only for its bytes, and a packet is too long only if no block takes it (`job`, `says`).
+//! - The shelf comes back on every path, with as many files lent as before (`rest`).
+//!
+//! # What it leaves to others
+//!
+//! The text of messages, and what follows an end. What happened is said where the shelf's log is
+//! known, and which packets the pairs have where the input's bytes are.
+//!
+//! # Where to read
+//!
+//! `specs/Acts.antt` has what a load does and the text of a line, `specs/Job.antt` the job,
+//! `specs/Loading.antt` what a load did by how it ended, `specs/Opening.antt` the same of a shelf.
+//! Then `loading`, `filling`, `publishing`, `lanes`.
+#![tactic(auto)]
+
+mod ends;
+mod filling;
+mod lanes;
+mod loading;
+mod publishing;
+#[cfg(test)]
+mod tests;
+
+pub use ends::LoadEnd;
+pub use loading::{Loaded, load, load_into};
