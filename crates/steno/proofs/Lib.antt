@@ -1,10 +1,15 @@
 pub mod Answering
+pub mod Asked
 pub mod Asking
 pub mod AtEnd
 pub mod Buffers
 pub mod Limits
+pub mod Loaded
+pub mod Planning
 pub mod Replying
 pub mod Selecting
 pub mod Sorting
+pub mod Sound
+pub mod Spooled
 pub mod TimeOrder
 pub mod Writing

@@ -23,7 +23,7 @@ use Rattle.steno.specs.Jobs.{IsReply, IsAsked, Leaves}
 use Rattle.steno.specs.Limited.{Limited}
 use Rattle.steno.specs.Messages.{line_of, input_line}
 use Rattle.steno.specs.Reports.{plain_of, IsRefusal, ReportsInput, ReportsQuery}
-use Rattle.steno.specs.Running.{EndsInput, IsJobMessage, IsAnswerMessage, HasQueryCause, IsSilent, IsUnread}
+use Rattle.steno.specs.Once.{EndsInput, IsJobMessage, IsAnswerMessage, HasQueryCause, IsSilent, IsUnread}
 
 -- what the report of a query leaves
 abbrev pub LeavesReply : Job → Node → ℕ → List ℕ → Option (List ℕ) → Option (List ℕ) → Report → Type 0

@@ -1,4 +1,4 @@
--- What a run of `once` is asked for, and what it leaves.
+-- What a query over one input is asked for, and what it leaves.
 use Rattle.std.specs.Prelude.{◌≡◌, ◌⊎◌, ℕ, List, [], Option}
 use Rattle.std.specs.Io.KnownBytes.{Keeps, Appends}
 use Rattle.st_base.specs.Pieces.{AppendsPrefix}
@@ -13,10 +13,9 @@ use Rattle.st_query.specs.declared.nodes.Node.{Node}
 use Rattle.st_query.specs.Answer.{AnswerOf}
 use Rattle.st_query.specs.Spelling.{Spells, Refuses}
 use Rattle.steno.specs.declared.status.Status.{Status}
-use Rattle.steno.specs.declared.status.Status.TheVariants.{Done, Usage, BadInput, BadQuery, ReadFault, WriteFault, NoMemory}
+use Rattle.steno.specs.declared.status.Status.TheVariants.{Done, BadInput, BadQuery, ReadFault, WriteFault, NoMemory}
 use Rattle.steno.specs.Limited.{Limited}
 use Rattle.steno.specs.Messages.{status_line, query_line, input_line}
-use Rattle.steno.specs.Plans.{IsOnce}
 
 -- the output is the pcap text of the answer over these records, cut to the job's limits and in its
 -- unit
@@ -48,16 +47,8 @@ IsAsked job now bytes output BadQuery message =
 IsAsked job now bytes output status message =
     (q : Node) × Spells job.query q × IsReply job q now bytes output status message
 
--- what these arguments ask for over these bytes ends so, with this output and this message, where
--- no fault ends it
-abbrev pub IsJob : List (List ℕ) → ℕ → List ℕ → List ℕ → Status → List ℕ → Type 0
-IsJob words now bytes output Usage message =
-    ((job : Job) → IsOnce words job → ⊥) × (output ≡ []) × (message ≡ status_line Usage)
-IsJob words now bytes output status message =
-    (job : Job) × IsOnce words job × IsAsked job now bytes output status message
-
--- What a run leaves at the output, of the jobs that it may be asked for: all of one's output; after
--- a fault of the output a prefix of it; and nothing where the input failed or memory ran out.
+-- What a query leaves at the output, of the ways in which its job may end: all of one's output;
+-- after a fault of the output a prefix of it; and nothing where the input failed or memory ran out.
 abbrev pub Leaves :
     (List ℕ → Status → List ℕ → Type 0) → Status → List ℕ → Option (List ℕ) → Option (List ℕ)
     → Type 0

@@ -1,10 +1,17 @@
+pub mod Asking
+pub mod Causes
 pub mod Gathering
 pub mod Jobs
 pub mod Limited
+pub mod Loading
 pub mod Messages
+pub mod Once
 pub mod Packets
 pub mod PacketsView
 pub mod Plans
 pub mod Reports
 pub mod Running
+pub mod Scenes
+pub mod Spooling
 pub mod Statuses
+pub mod Staying

@@ -2,6 +2,7 @@
 use Rattle.std.specs.Prelude.{ℕ, ◌/◌, ◌%◌, false, List, [], ◌∷◌, ◌++◌, codes, Option, Some, None, String, string_bytes}
 use Rattle.std.specs.Global.{Global}
 use Rattle.std.specs.Fmt.{decimal, digit_glyph}
+use Rattle.st_base.specs.declared.damages.Damage.{Damage}
 use Rattle.st_pcap.specs.declared.errors.PcapErr.{PcapErr}
 use Rattle.st_pcap.specs.declared.errors.PcapErr.TheVariants as pcap
 use Rattle.st_query.specs.declared.errors.QueryErr.{QueryErr}
@@ -76,6 +77,24 @@ input_line (pcap.Truncated number have want) =
 input_line (pcap.TooMuch taken) =
     codes "steno: input stopped after " ++ (decimal taken ++ codes " bytes\n")
 input_line pcap.NoMemory = status_line NoMemory
+
+-- a record that no block of this size takes
+abbrev pub unfit_line : ℕ → ℕ → ℕ → List ℕ
+unfit_line number len size =
+    record_line number
+    (codes "captured length "
+    ++ (decimal len ++ (codes " does not fit a block of " ++ (decimal size ++ end_line))))
+
+-- a pair is damaged, by its stamp: the check that fails, by its place
+abbrev pub damaged_line : ℕ → Damage → List ℕ
+damaged_line stamp d =
+    codes "steno: pair "
+    ++ (decimal stamp ++ (codes " is damaged at " ++ (decimal d.place ++ (codes ": "
+    ++ (decimal d.found ++ (codes " for " ++ (decimal d.want ++ end_line)))))))
+
+-- there is no stamp after this one
+abbrev pub spent_line : ℕ → List ℕ
+spent_line last = codes "steno: no stamp follows " ++ (decimal last ++ end_line)
 
 -- the line of a report: its own, or its status's
 abbrev pub made_line : Status → Option (String Global) → List ℕ

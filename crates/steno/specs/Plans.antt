@@ -1,9 +1,27 @@
 -- What the arguments after the program's name ask for.
-use Rattle.std.specs.Prelude.{ℕ, List}
-use Rattle.st_plan.specs.Jobs.{Job}
-use Rattle.st_plan.specs.Plans as words
-use Rattle.st_plan.specs.declared.jobs.Plan.TheVariants.{Once}
+use Rattle.std.specs.Prelude.{ℕ, List, Option, Some, None, ⊤}
+use Rattle.st_plan.specs.Plans.{IsPlan}
+use Rattle.st_plan.specs.declared.jobs.Plan.{Plan}
+use Rattle.st_plan.specs.declared.jobs.Plan.TheVariants as plan
 
--- The arguments ask for `once` with this query, unit and limits. No other command is built.
-abbrev pub IsOnce : List (List ℕ) → Job → Type 0
-IsOnce asked job = words.IsPlan asked (Once job)
+-- the program does what this plan asks for
+abbrev pub IsBuilt : Plan → Type 0
+IsBuilt (plan.Once job) = ⊤
+IsBuilt (plan.Load load) = ⊤
+IsBuilt (plan.Query query) = ⊤
+IsBuilt (plan.List spool) = ⊤
+IsBuilt (plan.Check spool) = ⊤
+IsBuilt (plan.Drill drill) = ⊥
+
+-- the arguments have no plan, or one that isn't built
+abbrev pub AskNothing : List (List ℕ) → Type 0
+AskNothing words = (p : Plan) → IsPlan words p → IsBuilt p → ⊥
+
+-- the text of the query that a plan asks
+abbrev pub query_of : Plan → Option (List ℕ)
+query_of (plan.Once job) = Some job.query
+query_of (plan.Load load) = None
+query_of (plan.Query query) = Some query.job.query
+query_of (plan.List spool) = None
+query_of (plan.Check spool) = None
+query_of (plan.Drill drill) = None

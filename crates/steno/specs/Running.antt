@@ -1,149 +1,91 @@
 -- What the calls of a run ensure.
-use Rattle.std.specs.Prelude.{◌≡◌, ◌≢◌, ◌≤◌, ◌⊎◌, ℕ, List, [], Option, Some}
-use Rattle.st_base.specs.Faults.{Rose}
-use Rattle.st_base.specs.Ticks.{Ticks}
-use Rattle.st_pcap.specs.declared.errors.PcapErr.{PcapErr}
-use Rattle.st_pcap.specs.Input.{End, Whole, Refused}
-use Rattle.st_pcap.specs.Reading.{IsOutside}
-use Rattle.st_plan.specs.Jobs.{Job}
+use Rattle.std.specs.Prelude.{◌≡◌, ◌⊎◌, ℕ, List, Some, ⊤}
+use Rattle.st_base.specs.Records.{Rec}
+use Rattle.st_pcap.specs.Input.{Input, End, Whole, Refused}
+use Rattle.st_plan.specs.Plans.{IsPlan}
+use Rattle.st_plan.specs.declared.jobs.Plan.{Plan}
+use Rattle.st_plan.specs.declared.jobs.Plan.TheVariants as plan
 use Rattle.st_query.specs.declared.errors.QueryErr.{QueryErr}
-use Rattle.st_query.specs.Spelling.{Refuses}
-use Rattle.steno.specs.declared.report.Report.{Report}
+use Rattle.st_query.specs.declared.nodes.Node.{Node}
+use Rattle.st_query.specs.Spelling.{Spells, Refuses}
+use Rattle.st_commands.specs.declared.outcomes.Report.TheVariants.{Summaries, Verdicts}
 use Rattle.steno.specs.declared.status.Status.{Status}
-use Rattle.steno.specs.declared.status.Status.TheVariants.{Done, Usage, BadInput, BadQuery, ReadFault, WriteFault, NoMemory}
-use Rattle.steno.specs.Gathering.{StopsAt}
-use Rattle.steno.specs.Jobs.{IsAsked, IsJob, Leaves}
-use Rattle.steno.specs.Messages.{line_of, status_line, query_line, input_line}
-use Rattle.steno.specs.Plans.{IsOnce}
-use Rattle.steno.specs.Reports.{Tells}
+use Rattle.steno.specs.declared.status.Status.TheVariants.{Done, Usage, BadInput, BadQuery, NoMemory}
+use Rattle.steno.specs.Asking.{AnswersShelf, QueriesUnfailed}
+use Rattle.steno.specs.Loading.{LoadsPairs, LoadsUnfailed, IsSound}
+use Rattle.steno.specs.Messages.{status_line}
+use Rattle.steno.specs.Once.{AnswersInput}
+use Rattle.steno.specs.Plans.{IsBuilt, AskNothing, query_of}
+use Rattle.steno.specs.Scenes.{Scene}
+use Rattle.steno.specs.Spooling.{ReportsPairs, ListsUnfailed, ChecksUnfailed}
+use Rattle.steno.specs.Statuses.{Ends}
 
--- the clock was asked once, but not at all where the arguments ask for nothing, or there was no
--- memory for their plan
-abbrev pub AsksClock : Option (List ℕ) → Option (List ℕ) → Status → ℕ → Type 0
-AsksClock old new Usage now = new ≡ old
-AsksClock old new NoMemory now = (new ≡ old) ⊎ Ticks old new now
-AsksClock old new status now = Ticks old new now
+-- the run did nothing, and ended with this status and its line
+pub record DoesNothing (which : Status) (old new : Scene) (status : Status) (message : List ℕ)
+    : Type 0 where
+  pub ended : status ≡ which
+  pub line : message ≡ status_line which
+  pub same : new ≡ old
 
--- a run of these arguments over these bytes ended so, with this line: the clock and the output
-abbrev pub EndsRun :
-    List (List ℕ) → Option (List ℕ) → Option (List ℕ) → List ℕ → Option (List ℕ) → Option (List ℕ)
-    → Status → List ℕ → Type 0
-EndsRun words clock ticked bytes old new status line =
-    (now : ℕ) × AsksClock clock ticked status now
-    × Leaves (IsJob words now bytes) status line old new
+-- what a run of this plan does, that ends so and with this message; one that isn't built does
+-- nothing
+abbrev pub Does : Plan → Scene → Scene → Status → List ℕ → Type 0
+Does (plan.Once job) old new status message = AnswersInput job old new status message
+Does (plan.Load load) old new status message = LoadsPairs load old new status message
+Does (plan.Query query) old new status message =
+    AnswersShelf query.job old new status message
+Does (plan.List spool) old new status message = ReportsPairs Summaries old new status message
+Does (plan.Check spool) old new status message = ReportsPairs Verdicts old new status message
+Does p old new status message = DoesNothing Usage old new status message
 
--- the job over these bytes ended with this report: the clock and the output
-abbrev pub EndsJob :
-    Job → Option (List ℕ) → Option (List ℕ) → List ℕ → Option (List ℕ) → Option (List ℕ) → Report
-    → Type 0
-EndsJob job clock ticked bytes old new report =
-    (now : ℕ) × Ticks clock ticked now
-    × Leaves (IsAsked job now bytes) report.status (line_of report) old new
+-- the layout and the limit of a load's plan are ones that a load may have
+abbrev pub IsSoundPlan : Plan → Type 0
+IsSoundPlan (plan.Load load) = IsSound load
+IsSoundPlan p = ⊤
 
--- a run of these arguments over these bytes ended so: the clock, the output and the message
-abbrev pub EndsAndTells :
-    List (List ℕ) → Option (List ℕ) → Option (List ℕ) → List ℕ → Option (List ℕ) → Option (List ℕ)
-    → Option (List ℕ) → Option (List ℕ) → ℕ → ℕ → Status → Type 0
-EndsAndTells words clock ticked bytes old new err told before after status =
-    (message : List ℕ) × EndsRun words clock ticked bytes old new status message
-    × Tells err told before after message
+-- A run of these arguments does what their plan asks for. One without a plan does nothing, nor does
+-- one that had no memory to read its arguments.
+abbrev pub EndsRun : List (List ℕ) → Scene → Scene → Status → List ℕ → Type 0
+EndsRun words old new status message =
+    (((p : Plan) → IsPlan words p → ⊥) × DoesNothing Usage old new status message)
+    ⊎ (DoesNothing NoMemory old new status message
+    ⊎ ((p : Plan) × IsPlan words p × Does p old new status message))
 
--- the message of an answer that ended so, over any input
-abbrev pub IsAnswerMessage : Status → List ℕ → Type 0
-IsAnswerMessage Done message = message ≡ []
-IsAnswerMessage BadInput message =
-    (cause : PcapErr) × (IsOutside cause → ⊥) × (message ≡ input_line cause)
-IsAnswerMessage ReadFault message = message ≡ status_line ReadFault
-IsAnswerMessage WriteFault message = message ≡ status_line WriteFault
-IsAnswerMessage NoMemory message = message ≡ status_line NoMemory
-IsAnswerMessage status message = ⊥
+-- A plan that isn't built ends so, and no other. A query is refused only if the plan asks one that
+-- is, and if it does, the run ends in no other way unless memory runs out.
+pub record HasPlanCause (p : Plan) (status : Status) : Type 0 where
+  pub usage : status ≡ Usage → IsBuilt p → ⊥
+  pub unbuilt : (IsBuilt p → ⊥) → status ≡ Usage
+  pub refused : status ≡ BadQuery
+      → (text : List ℕ) × (e : QueryErr) × (query_of p ≡ Some text) × Refuses text e
+  pub exact : (text : List ℕ) (e : QueryErr) → query_of p ≡ Some text → Refuses text e → IsBuilt p
+      → Ends BadQuery status
 
--- the message of a run of these arguments that ended so, over any input; it ends in no other way
-abbrev pub IsRunMessage : List (List ℕ) → Status → List ℕ → Type 0
-IsRunMessage words Usage message = message ≡ status_line Usage
-IsRunMessage words BadQuery message =
-    (job : Job) × (e : QueryErr) × IsOnce words job × Refuses job.query e × (message ≡ query_line e)
-IsRunMessage words status message = IsAnswerMessage status message
-
--- the message of a job that ended so, over any input
-abbrev pub IsJobMessage : Job → Status → List ℕ → Type 0
-IsJobMessage job BadQuery message = (e : QueryErr) × Refuses job.query e × (message ≡ query_line e)
-IsJobMessage job status message = IsAnswerMessage status message
-
--- the run told its message, and asked the clock
-abbrev pub TellsRun :
-    List (List ℕ) → Option (List ℕ) → Option (List ℕ) → Option (List ℕ) → Option (List ℕ) → ℕ → ℕ
-    → Status → Type 0
-TellsRun words clock ticked err told before after status =
-    (message : List ℕ) × IsRunMessage words status message × Tells err told before after message
-    × ((now : ℕ) × AsksClock clock ticked status now)
-
--- Arguments without a plan of `once`, and only these, end so, unless memory runs out. A query is
--- refused only if the arguments ask one that is, and if they do, the run ends in no other way
+-- Arguments without a plan that is built, and only these, end so, unless memory runs out. A query
+-- is refused only if the arguments ask one that is, and if they do, the run ends in no other way
 -- unless memory runs out.
 pub record HasWordCause (words : List (List ℕ)) (status : Status) : Type 0 where
-  pub usage : status ≡ Usage → (job : Job) → IsOnce words job → ⊥
-  pub unplanned : ((job : Job) → IsOnce words job → ⊥) → (status ≡ Usage) ⊎ (status ≡ NoMemory)
+  pub usage : status ≡ Usage → AskNothing words
+  pub unplanned : AskNothing words → Ends Usage status
   pub refused : status ≡ BadQuery
-      → (job : Job) × (e : QueryErr) × IsOnce words job × Refuses job.query e
-  pub exact : (job : Job) (e : QueryErr) → IsOnce words job → Refuses job.query e
-      → (status ≡ BadQuery) ⊎ (status ≡ NoMemory)
-
--- the query of a plan is refused if and only if it is one that is, unless memory runs out
-pub record HasQueryCause (job : Job) (status : Status) : Type 0 where
-  pub planned : status ≢ Usage
-  pub refused : status ≡ BadQuery → (e : QueryErr) × Refuses job.query e
-  pub exact : (e : QueryErr) → Refuses job.query e → (status ≡ BadQuery) ⊎ (status ≡ NoMemory)
-
--- A fault of the input or of the output comes only if its count rose. No count falls, and each
--- stays as it was unless the run ends with that fault.
-pub record HasFaultCause (before after old new : ℕ) (status : Status) : Type 0 where
-  pub read : status ≡ ReadFault → Rose before after
-  pub write : status ≡ WriteFault → Rose old new
-  pub reads : before ≤ after
-  pub writes : old ≤ new
-  pub unread : status ≢ ReadFault → after ≡ before
-  pub unwritten : status ≢ WriteFault → new ≡ old
-
--- neither count rose
-pub record NoneRose (before after old new : ℕ) : Type 0 where
-  pub read : Rose before after → ⊥
-  pub write : Rose old new → ⊥
+      → (p : Plan) × (text : List ℕ) × (e : QueryErr) × IsPlan words p
+      × (query_of p ≡ Some text) × Refuses text e
+  pub exact : (p : Plan) (text : List ℕ) (e : QueryErr) → IsPlan words p
+      → query_of p ≡ Some text → Refuses text e → IsBuilt p
+      → Ends BadQuery status
 
 -- over an input with this end all is done, or the input is refused, unless memory runs out
 abbrev pub EndsBy : End → Status → Type 0
-EndsBy Whole status = (status ≡ Done) ⊎ (status ≡ NoMemory)
-EndsBy (Refused cause) status = (status ≡ BadInput) ⊎ (status ≡ NoMemory)
+EndsBy Whole status = Ends Done status
+EndsBy (Refused cause) status = Ends BadInput status
 
--- how far a run that ended so read its input: to its end where all is done, and where the input is
--- refused as far as that takes
-abbrev pub EndsInput : List ℕ → Status → Option (List ℕ) → Type 0
-EndsInput bytes Done left = left ≡ Some []
-EndsInput bytes BadInput left = (cause : PcapErr) × StopsAt bytes cause left
-EndsInput bytes status left = Unit {0}
-
--- ways to end in which nothing is written
-abbrev pub IsSilent : Status → Type 0
-IsSilent Done = ⊥
-IsSilent BadInput = ⊥
-IsSilent WriteFault = ⊥
-IsSilent status = Unit {0}
-
--- ways to end in which the input is not touched
-abbrev pub IsUnread : Status → Type 0
-IsUnread Usage = Unit {0}
-IsUnread BadQuery = Unit {0}
-IsUnread status = ⊥
-
--- the streams that a run doesn't touch: the input where the arguments or the query are refused, and
--- the output where nothing is written
-pub record LeavesStreams {I O : Type 0} (status : Status) (input input' : I)
-    (out out' : O) : Type 0 where
-  pub unread : IsUnread status → input' ≡ input
-  pub unwritten : IsSilent status → out' ≡ out
-
--- what a run doesn't touch: these streams, and the message's sink where all is done
-pub record LeavesAlone {I O E : Type 0} (status : Status) (input input' : I) (out out' : O)
-    (err err' : E) : Type 0 where
-  pub streams : LeavesStreams status input input' out out'
-  pub unsaid : status ≡ Done → err' ≡ err
+-- how a run of this plan ends if no count rises
+abbrev pub EndsUnfailed : Plan → Scene → Status → Type 0
+EndsUnfailed (plan.Once job) old status =
+    (bytes : List ℕ) (q : Node) (rs : List Rec) (end : End) → old.input ≡ Some bytes
+    → Spells job.query q → Input bytes rs end → EndsBy end status
+EndsUnfailed (plan.Load load) old status = LoadsUnfailed load old status
+EndsUnfailed (plan.Query query) old status = QueriesUnfailed query.job old status
+EndsUnfailed (plan.List spool) old status = ListsUnfailed old status
+EndsUnfailed (plan.Check spool) old status = ChecksUnfailed old status
+EndsUnfailed p old status = Ends Usage status

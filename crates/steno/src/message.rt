@@ -1,10 +1,11 @@
 //! The line that says why a run is not done. Source: docs/FORMAT.md, "Messages".
 
 ghost use Rattle.std.specs.Prelude.{◌≡◌, ◌+◌, ◌/◌, ◌%◌, IfOk, string_bytes};
-ghost use Rattle.steno.specs.Messages.{status_line, query_line, input_line, line_of, hex_byte};
+ghost use Rattle.steno.specs.Messages.{status_line, query_line, input_line, unfit_line, damaged_line, spent_line, line_of, hex_byte};
 
 use crate::report::Report;
 use crate::status::Status;
+use st_base::Damage;
 use st_pcap::PcapErr;
 use st_query::QueryErr;
 use std::alloc::{AllocError, Global};
@@ -79,6 +80,32 @@ pub fn input_text(alloc: Global, error: PcapErr) -> Result<String, AllocError>
         }
         PcapErr::NoMemory => String::from_str(alloc, "steno: out of memory\n"),
     }
+}
+
+/// Why a record of this number and captured length is refused that no block of `size` bytes takes.
+pub fn unfit_text(alloc: Global, number: u64, len: u32, size: u32) -> Result<String, AllocError>
+    ensures { IfOk result (λ t. string_bytes t ≡ unfit_line number len size) }
+{
+    format!(in alloc;
+        "steno: record {number}: captured length {len} does not fit a block of {size}\n"
+    )
+}
+
+/// Which check of the pair of this stamp fails.
+pub fn damaged_text(alloc: Global, stamp: u64, damage: Damage) -> Result<String, AllocError>
+    ensures { IfOk result (λ t. string_bytes t ≡ damaged_line stamp damage) }
+{
+    let place = damage.place;
+    let found = damage.found;
+    let want = damage.want;
+    format!(in alloc; "steno: pair {stamp} is damaged at {place}: {found} for {want}\n")
+}
+
+/// That no stamp is left after this one.
+pub fn spent_text(alloc: Global, last: u64) -> Result<String, AllocError>
+    ensures { IfOk result (λ t. string_bytes t ≡ spent_line last) }
+{
+    format!(in alloc; "steno: no stamp follows {last}\n")
 }
 
 fn not_pcap_text(alloc: Global, found: u32) -> Result<String, AllocError>

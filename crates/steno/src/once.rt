@@ -3,7 +3,7 @@
 ghost use Rattle.std.specs.Prelude.{◌≡◌, ℕ, List, Some};
 ghost use Rattle.st_base.specs.Ticks.{Ticks};
 ghost use Rattle.steno.specs.Messages.{line_of};
-ghost use Rattle.steno.specs.Running.{EndsInput, EndsJob, IsJobMessage, HasQueryCause, HasFaultCause, LeavesStreams};
+ghost use Rattle.steno.specs.Once.{EndsInput, EndsJob, IsJobMessage, HasQueryCause, HasStreamCause, LeavesStreams};
 
 use crate::gather::gather;
 use crate::report::{Report, input_ended, plain, query_refused};
@@ -29,7 +29,7 @@ pub fn once<I: Source, O: Sink, C: Clock>(
     // What it was asked for, over an input whose bytes are known, and what is left of that.
     ensures job { (bytes : List ℕ) → I.left input.old ≡ Some bytes
         → EndsJob plan.now (C.to_come clock.old) (C.to_come clock.new) bytes
-        (O.written out.old) (O.written out.new) result }
+        (O.written out.old) (O.written out.new) result.status (line_of result) }
     ensures ended { (bytes : List ℕ) → I.left input.old ≡ Some bytes
         → EndsInput bytes result.status (I.left input.new) }
 
@@ -37,7 +37,7 @@ pub fn once<I: Source, O: Sink, C: Clock>(
     ensures says { IsJobMessage plan.now result.status (line_of result) }
     ensures clock { (now : ℕ) × Ticks (C.to_come clock.old) (C.to_come clock.new) now }
     ensures asked { HasQueryCause plan.now result.status }
-    ensures fault { HasFaultCause (I.faults input.old) (I.faults input.new)
+    ensures fault { HasStreamCause (I.faults input.old) (I.faults input.new)
         (O.faults out.old) (O.faults out.new) result.status }
 
     // What stays as it was.

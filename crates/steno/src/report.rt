@@ -19,6 +19,12 @@ pub struct Report {
     pub line: Option<String>,
 }
 
+/// How a run ended that has not told it yet, and its shelf.
+pub struct Reported<D> {
+    pub report: Report,
+    pub shelf: D,
+}
+
 /// A report whose line is the one that its status always has.
 pub fn plain(status: Status) -> Report
     ensures { result ≡ plain_of status }

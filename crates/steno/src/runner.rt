@@ -1,134 +1,189 @@
-//! A run of the program, over whatever its streams and clock are.
+//! A run of the program, over whatever its streams, its clock and its shelf are.
 
-ghost use Rattle.std.specs.Prelude.{◌≡◌, ℕ, List, Some, IfOk, MatchOption, map, string_bytes};
-ghost use Rattle.st_base.specs.Records.{Rec};
-ghost use Rattle.st_pcap.specs.Input.{Input, End};
-ghost use Rattle.st_plan.specs.Jobs.{Job as JobView};
-ghost use Rattle.st_query.specs.declared.nodes.Node.{Node};
-ghost use Rattle.st_query.specs.Spelling.{Spells};
+ghost use Rattle.std.specs.Prelude.{◌≡◌, ℕ, List, [], map, string_bytes};
+ghost use Rattle.st_plan.specs.Plans.{IsPlan};
+ghost use Rattle.st_plan.specs.declared.jobs.Plan.{Plan as Planned};
+ghost use Rattle.steno.specs.Causes.{HasFaultCause, HasPlanFaults, NoneRose, counts};
 ghost use Rattle.steno.specs.Messages.{line_of};
-ghost use Rattle.steno.specs.Plans.{IsOnce};
-ghost use Rattle.steno.specs.Running.{EndsInput, EndsAndTells, EndsRun, TellsRun, IsRunMessage, AsksClock, HasWordCause, HasFaultCause, NoneRose, EndsBy, LeavesAlone, LeavesStreams};
+ghost use Rattle.steno.specs.Reports.{Tells};
+ghost use Rattle.steno.specs.Running.{Does, EndsRun, EndsUnfailed, HasPlanCause, HasWordCause, IsSoundPlan};
+ghost use Rattle.steno.specs.Scenes.{scene};
+ghost use Rattle.steno.specs.Staying.{IsUnsaid, LeavesAlone, Spares};
 
+use crate::loads::load;
 use crate::once::once;
-use crate::report::{Report, plain, tell};
+use crate::query::query;
+use crate::report::{Reported, plain, tell};
+use crate::spooling::{check_ended, outcome_ended};
 use crate::status::{Ended, Status};
 use st_base::{Clock, NoMemory, Sink, Source};
-use st_plan::{Job, Plan, plan_of};
+use st_commands::{check, list};
+use st_plan::{Plan, plan_of};
+use st_shelf::Shelf;
 use std::alloc::Global;
 
-/// Does what the arguments in `words` ask for: `once QUERY` writes to `out` the packets of the pcap
-/// in `input` that match, by second, nanosecond and place, as a pcap in the unit and within the
-/// limits that the options say.
+/// Does what the arguments in `words` ask for, and gives the shelf back.
 ///
-/// The clock is read once, in microseconds since 1970, before the query is. A refused record ends
-/// the input, and what came before it is answered; nothing is written where the file head is
-/// refused, the input fails, or memory runs out. Every status but `Done` puts its line to `err` at
-/// once; that this fails changes nothing.
+/// `once QUERY` writes to `out` the packets of the pcap in `input` that match, by second, nanosecond
+/// and place, as a pcap in the unit and within the limits that the options say. The clock is read
+/// once, in microseconds since 1970, before the query is. A refused record ends the input, and what
+/// came before it is answered; nothing is written where the file head is refused, the input fails,
+/// or memory runs out. `load FOLDER` makes the packets of the pcap in `input` pairs of the shelf, and
+/// writes a line `STAMP PACKETS` to `out` for each pair. `list FOLDER` and `check FOLDER` write to `out` a line for each pair of the
+/// shelf, by stamp; the folder is the caller's to open.
+///
+/// Every status but `Done`, and but `Damaged` of a check, puts its line to `err` at once; that this
+/// fails changes nothing.
 /// Source: docs/FORMAT.md, "Command line", "Statuses" and "Messages".
-pub fn run<I: Source, O: Sink, E: Sink, C: Clock>(
+pub fn run<D: Shelf, I: Source, O: Sink, E: Sink, C: Clock>(
     alloc: Global,
     words: &[String],
+    shelf: D,
     input: &mut I,
     out: &mut O,
     err: &mut E,
     clock: &mut C,
-) -> Ended
-    // What it was asked for, over an input whose bytes are known.
-    ensures job { (bytes : List ℕ) → I.left input.old ≡ Some bytes
-        → EndsAndTells (map string_bytes words.now)
-        (C.to_come clock.old) (C.to_come clock.new) bytes
-        (O.written out.old) (O.written out.new) (E.written err.old) (E.written err.new)
-        (E.faults err.old) (E.faults err.new) result.status }
+) -> Ended<D>
+    // What it does and says.
+    ensures ends { (message : List ℕ)
+        × Tells (E.written err.old) (E.written err.new)
+        (E.faults err.old) (E.faults err.new) message
+        × EndsRun (map string_bytes words.now)
+        (scene (I.left input.old) (O.written out.old) (C.to_come clock.old)
+        (D.log shelf) (D.loans shelf))
+        (scene (I.left input.new) (O.written out.new) (C.to_come clock.new)
+        (D.log result.shelf) (D.loans result.shelf))
+        result.status message }
 
-    // What it says and when each way to end comes, over any input.
-    ensures says { TellsRun (map string_bytes words.now)
-        (C.to_come clock.old) (C.to_come clock.new) (E.written err.old) (E.written err.new)
-        (E.faults err.old) (E.faults err.new) result.status }
+    // When each way to end comes.
     ensures asked { HasWordCause (map string_bytes words.now) result.status }
-    ensures fault { HasFaultCause (I.faults input.old) (I.faults input.new)
-        (O.faults out.old) (O.faults out.new) result.status }
-
-    // Where nothing failed, the input's end decides; it was read to its end, or to its refusal.
-    ensures complete { (asked : JobView) (bytes : List ℕ) (q : Node) (rs : List Rec) (end : End)
-        → IsOnce (map string_bytes words.now) asked → Spells asked.query q
-        → I.left input.old ≡ Some bytes → Input bytes rs end
-        → NoneRose (I.faults input.old) (I.faults input.new) (O.faults out.old) (O.faults out.new)
-        → EndsBy end result.status }
-    ensures ended { (bytes : List ℕ) → I.left input.old ≡ Some bytes
-        → EndsInput bytes result.status (I.left input.new) }
+    ensures fault { HasFaultCause (map string_bytes words.now)
+        (counts (I.faults input.old) (O.faults out.old) (D.faults shelf))
+        (counts (I.faults input.new) (O.faults out.new) (D.faults result.shelf)) result.status }
+    ensures complete { (p : Planned) → IsPlan (map string_bytes words.now) p
+        → NoneRose (counts (I.faults input.old) (O.faults out.old) (D.faults shelf))
+        (counts (I.faults input.new) (O.faults out.new) (D.faults result.shelf))
+        → EndsUnfailed p
+        (scene (I.left input.old) (O.written out.old) (C.to_come clock.old)
+        (D.log shelf) (D.loans shelf))
+        result.status }
 
     // What stays as it was.
-    ensures alone { LeavesAlone result.status input.old input.new out.old out.new err.old err.new }
+    ensures alone { LeavesAlone (map string_bytes words.now) result.status input.old input.new
+        out.old out.new clock.old clock.new shelf result.shelf }
+    ensures unsaid { IsUnsaid (map string_bytes words.now) result.status → err.new ≡ err.old }
     ensures rest { (I.beside input.new ≡ I.beside input.old)
-        × (O.beside out.new ≡ O.beside out.old) × (E.beside err.new ≡ E.beside err.old) }
+        × (O.beside out.new ≡ O.beside out.old) × (E.beside err.new ≡ E.beside err.old)
+        × (D.id result.shelf ≡ D.id shelf) }
 {
-    let report = obey(alloc, words, input, out, clock);
+    let Reported { report, shelf } = obey(alloc, words, shelf, input, out, clock);
     tell(err, &report);
     Ended {
         status: report.status,
+        shelf,
     }
 }
 
 // Does what the arguments ask for, and reports how that ended.
-fn obey<I: Source, O: Sink, C: Clock>(
+fn obey<D: Shelf, I: Source, O: Sink, C: Clock>(
     alloc: Global,
     words: &[String],
+    shelf: D,
     input: &mut I,
     out: &mut O,
     clock: &mut C,
-) -> Report
-    // What it was asked for, over an input whose bytes are known, and what is left of that.
-    ensures job { (bytes : List ℕ) → I.left input.old ≡ Some bytes
-        → EndsRun (map string_bytes words.now) (C.to_come clock.old) (C.to_come clock.new) bytes
-        (O.written out.old) (O.written out.new) result.status (line_of result) }
-    ensures ended { (bytes : List ℕ) → I.left input.old ≡ Some bytes
-        → EndsInput bytes result.status (I.left input.new) }
+) -> Reported<D>
+    // What it does and has to say.
+    ensures ends { EndsRun (map string_bytes words.now)
+        (scene (I.left input.old) (O.written out.old) (C.to_come clock.old)
+        (D.log shelf) (D.loans shelf))
+        (scene (I.left input.new) (O.written out.new) (C.to_come clock.new)
+        (D.log result.shelf) (D.loans result.shelf))
+        result.report.status (line_of result.report) }
 
-    // What it says and when each way to end comes, over any input.
-    ensures says { IsRunMessage (map string_bytes words.now) result.status (line_of result) }
-    ensures clock { (now : ℕ)
-        × AsksClock (C.to_come clock.old) (C.to_come clock.new) result.status now }
-    ensures asked { HasWordCause (map string_bytes words.now) result.status }
-    ensures fault { HasFaultCause (I.faults input.old) (I.faults input.new)
-        (O.faults out.old) (O.faults out.new) result.status }
+    // When each way to end comes.
+    ensures asked { HasWordCause (map string_bytes words.now) result.report.status }
+    ensures fault { HasFaultCause (map string_bytes words.now)
+        (counts (I.faults input.old) (O.faults out.old) (D.faults shelf))
+        (counts (I.faults input.new) (O.faults out.new) (D.faults result.shelf))
+        result.report.status }
 
     // What stays as it was.
-    ensures alone { LeavesStreams result.status input.old input.new out.old out.new }
+    ensures alone { LeavesAlone (map string_bytes words.now) result.report.status
+        input.old input.new out.old out.new clock.old clock.new shelf result.shelf }
+    ensures unsaid { IsUnsaid (map string_bytes words.now) result.report.status
+        → line_of result.report ≡ [] }
     ensures rest { (I.beside input.new ≡ I.beside input.old)
-        × (O.beside out.new ≡ O.beside out.old) }
-{
-    match once_of(alloc, words) {
-        Ok(Some(job)) => once(alloc, &job, input, out, clock),
-        Ok(None) => plain(Status::Usage),
-        Err(NoMemory) => plain(Status::NoMemory),
-    }
-}
-
-// The job of the arguments, if their plan is one of `once`; no other command is built.
-fn once_of<'a>(alloc: Global, words: &'a [String]) -> Result<Option<Job<'a>>, NoMemory>
-    ensures { IfOk result (λ found. MatchOption found
-        ((job : JobView) → IsOnce (map string_bytes words.entry.now) job → ⊥)
-        (λ job. IsOnce (map string_bytes words.entry.now) job)) }
+        × (O.beside out.new ≡ O.beside out.old) × (D.id result.shelf ≡ D.id shelf) }
 {
     match plan_of(alloc, words) {
-        Ok(Some(plan)) => Ok(job_of(plan)),
-        Ok(None) => Ok(None),
-        Err(error) => Err(error),
+        Ok(Some(plan)) => follow(alloc, &plan, shelf, input, out, clock),
+        Ok(None) => Reported {
+            report: plain(Status::Usage),
+            shelf,
+        },
+        Err(NoMemory) => Reported {
+            report: plain(Status::NoMemory),
+            shelf,
+        },
     }
 }
 
-// The job of a plan, if it is one of `once`.
-fn job_of<'a>(plan: Plan<'a>) -> Option<Job<'a>>
-    ensures { MatchOption result ((job : JobView) → Plan.Once job ≡ plan.entry → ⊥)
-        (λ job. Plan.Once job ≡ plan.entry) }
+// Does what the plan asks for.
+fn follow<D: Shelf, I: Source, O: Sink, C: Clock>(
+    alloc: Global,
+    plan: &Plan<'_>,
+    shelf: D,
+    input: &mut I,
+    out: &mut O,
+    clock: &mut C,
+) -> Reported<D>
+    requires { IsSoundPlan plan.now }
+    // What it does and has to say.
+    ensures does { Does plan.now
+        (scene (I.left input.old) (O.written out.old) (C.to_come clock.old)
+        (D.log shelf) (D.loans shelf))
+        (scene (I.left input.new) (O.written out.new) (C.to_come clock.new)
+        (D.log result.shelf) (D.loans result.shelf))
+        result.report.status (line_of result.report) }
+
+    // When each way to end comes.
+    ensures asked { HasPlanCause plan.now result.report.status }
+    ensures fault { HasPlanFaults plan.now
+        (counts (I.faults input.old) (O.faults out.old) (D.faults shelf))
+        (counts (I.faults input.new) (O.faults out.new) (D.faults result.shelf))
+        result.report.status }
+
+    // What stays as it was.
+    ensures alone { Spares plan.now result.report.status input.old input.new
+        out.old out.new clock.old clock.new shelf result.shelf }
+    ensures rest { (I.beside input.new ≡ I.beside input.old)
+        × (O.beside out.new ≡ O.beside out.old) × (D.id result.shelf ≡ D.id shelf) }
 {
     match plan {
-        Plan::Once(job) => Some(job),
-        Plan::Load(_) => None,
-        Plan::Query(_) => None,
-        Plan::List(_) => None,
-        Plan::Check(_) => None,
-        Plan::Drill(_) => None,
+        Plan::Once(job) => Reported {
+            report: once(alloc, job, input, out, clock),
+            shelf,
+        },
+        Plan::Load(plan) => load(alloc, plan, shelf, input, out, clock),
+        Plan::Query(plan) => query(alloc, &plan.job, shelf, out, clock),
+        Plan::List(_) => {
+            let st_commands::Ended { outcome, shelf } = list(alloc, shelf, out);
+            Reported {
+                report: outcome_ended(alloc, outcome),
+                shelf,
+            }
+        }
+        Plan::Check(_) => {
+            let st_commands::Ended { outcome, shelf } = check(alloc, shelf, out);
+            Reported {
+                report: check_ended(outcome),
+                shelf,
+            }
+        }
+        Plan::Drill(_) => Reported {
+            report: plain(Status::Usage),
+            shelf,
+        },
     }
 }

@@ -28,10 +28,11 @@ pub enum Status {
     StampsSpent,
 }
 
-/// What a run returns.
-#[derive(Clone, Copy, Debug, PartialEq, Eq)]
-pub struct Ended {
+/// What a run returns: how it ended, and its shelf.
+#[derive(Drop)]
+pub struct Ended<D> {
     pub status: Status,
+    pub shelf: D,
 }
 
 /// The number that a process ends with. Source: docs/FORMAT.md, "Statuses".

@@ -4,6 +4,7 @@
 use crate::runner::run;
 use crate::status::{Status, code};
 use st_base::{MemClock, MemSink, MemSource};
+use st_shelf::MemShelf;
 use std::alloc::Global;
 use std::process::Abort;
 use std::test::Fail;
@@ -44,6 +45,7 @@ struct Outcome {
     status: Status,
     output: Vec<u8>,
     message: Vec<u8>,
+    shelf: MemShelf,
 }
 
 // The numbers of the calls that fail, counted from 0: reads of the input, writes of the output, and
@@ -68,24 +70,49 @@ fn tried(
     input: &[u8],
     fails: &Fails<'_>,
 ) -> Result<Outcome, Fail> {
+    tried_over(alloc, words, MemShelf::empty(alloc), input, fails)
+}
+
+// A run of these words over this shelf and input.
+fn tried_over(
+    alloc: Global,
+    words: Vec<String>,
+    shelf: MemShelf,
+    input: &[u8],
+    fails: &Fails<'_>,
+) -> Result<Outcome, Fail> {
     let mut source = MemSource::over(alloc, input, 4_096, fails.reads)?;
     let mut out = MemSink::new(alloc, fails.writes)?;
     let mut err = MemSink::new(alloc, fails.messages)?;
     let mut clock = MemClock::over(alloc, &[])?;
     let words = words.as_slice();
-    let ended = run(alloc, words, &mut source, &mut out, &mut err, &mut clock);
+    let ended = run(
+        alloc,
+        words,
+        shelf,
+        &mut source,
+        &mut out,
+        &mut err,
+        &mut clock,
+    );
     Ok(Outcome {
         status: ended.status,
         output: out.bytes().to_vec(alloc)?,
         message: err.bytes().to_vec(alloc)?,
+        shelf: ended.shelf,
     })
 }
 
+fn words_of(alloc: Global, words: &[&str]) -> Result<Vec<String>, Fail> {
+    let mut owned = Vec::new(alloc);
+    for word in words {
+        owned.push(String::from_str(alloc, word)?)?;
+    }
+    Ok(owned)
+}
+
 fn once(alloc: Global, query: &str) -> Result<Vec<String>, Fail> {
-    let mut words = Vec::new(alloc);
-    words.push(String::from_str(alloc, "once")?)?;
-    words.push(String::from_str(alloc, query)?)?;
-    Ok(words)
+    words_of(alloc, &["once", query])
 }
 
 fn joined(alloc: Global, pieces: &[&[u8]]) -> Result<Vec<u8>, Fail> {
@@ -288,5 +315,65 @@ fn many_words_are_read(rt: HostRuntime) -> Result<(), Fail> {
     }
     let got = tried(alloc, words, HEAD, &NONE)?;
     assert_eq!(rt; got.status, Status::Usage);
+    Ok(())
+}
+
+// A spool without pairs has no lines, and the answer over it is empty.
+#[test]
+fn a_spool_without_pairs_is_empty(rt: HostRuntime) -> Result<(), Fail> {
+    let alloc = rt.alloc();
+    let cases: [(&[&str], &[u8]); 3] = [
+        (&["list", "S"], &[]),
+        (&["check", "S"], &[]),
+        (&["query", "S", "port 80"], HEAD),
+    ];
+    for (words, output) in cases {
+        let got = tried(alloc, words_of(alloc, words)?, &[], &NONE)?;
+        assert_eq!(rt; got.status, Status::Done);
+        assert_eq!(rt; got.output.as_slice(), output);
+        assert!(rt; got.message.is_empty());
+    }
+    Ok(())
+}
+
+// A shelf of which every call fails ends each command that asks it, but not one whose query is
+// refused, nor one without a plan.
+#[test]
+fn a_shelf_that_fails_ends_the_run(rt: HostRuntime) -> Result<(), Fail> {
+    let alloc = rt.alloc();
+    let failed = "steno: the spool failed\n";
+    let refused = "steno: query: number at 5\n";
+    let usage = "steno: usage: steno COMMAND [ARGUMENTS] [OPTIONS]\n";
+    let cases: [(&[&str], u8, &str); 5] = [
+        (&["list", "S"], 7, failed),
+        (&["check", "S"], 7, failed),
+        (&["query", "S", "port 80"], 7, failed),
+        (&["query", "S", "port x"], 4, refused),
+        (&["list", "S", "--ns"], 2, usage),
+    ];
+    for (words, status, message) in cases {
+        let shelf = MemShelf::with(alloc, &[], Some(0))?;
+        let got = tried_over(alloc, words_of(alloc, words)?, shelf, &[], &NONE)?;
+        assert_eq!(rt; code(got.status), status);
+        assert!(rt; got.output.is_empty());
+        assert_eq!(rt; got.message.as_slice(), message.as_bytes());
+    }
+    Ok(())
+}
+
+// A packet is loaded under the first stamp, and a query over the spool finds it again.
+#[test]
+fn what_is_loaded_is_found(rt: HostRuntime) -> Result<(), Fail> {
+    let alloc = rt.alloc();
+    let whole = joined(alloc, &[HEAD, DNS_HEAD, DNS])?;
+    let load = words_of(alloc, &["load", "S"])?;
+    let loaded = tried(alloc, load, whole.as_slice(), &NONE)?;
+    assert_eq!(rt; loaded.status, Status::Done);
+    assert_eq!(rt; loaded.output.as_slice(), b"1 1\n".as_slice());
+    assert!(rt; loaded.message.is_empty());
+    let query = words_of(alloc, &["query", "S", "port 53"])?;
+    let got = tried_over(alloc, query, loaded.shelf, &[], &NONE)?;
+    assert_eq!(rt; got.status, Status::Done);
+    assert_eq!(rt; got.output.as_slice(), whole.as_slice());
     Ok(())
 }
