@@ -293,8 +293,14 @@ SMALL = ["--block", "4096", "--blocks", "2"]
 QUERY = "port 53"
 COMMANDS = {"load": SMALL, "load with a limit": [*SMALL, "--limit", "3"], "query": [QUERY], "list": [], "check": []}
 # What the second line may call a call of the system.
-CALL_NAMES = {"open": ["open", "create"], "write": ["write"], "read": ["read"], "fsync": ["sync"], "fdatasync": ["sync"], "rename": ["rename"],
+CALL_NAMES = {"open": ["open", "create", "list"], "write": ["write"], "read": ["read"], "fsync": ["sync"], "fdatasync": ["sync"], "rename": ["rename"],
               "unlink": ["remove"], "flock": ["lock"], "getdents64": ["list"], "mkdir": ["make folder"], "statx": ["list", "open"]}
+
+
+def place_of(name, path):
+    """The path that the second line names: of a list that of the folder, and of no folder with a slash at its end."""
+    path = path.rstrip("/")
+    return path if name != "list" or os.path.basename(path) in ("PKT0", "IDX0") else os.path.dirname(path)
 
 
 class Commands:
@@ -359,7 +365,7 @@ def commands_meet_each_fault(commands):
             commands.anew()
             said, _ = commands.run(command, options, f"{which}:{errno.EIO}")
             told = said[0].count(b"\n") if command.startswith("load") else 0
-            lines = [f"steno: the spool failed\nsteno: {name} {line[1]}: Input/output error\n" for name in CALL_NAMES[line[0]]]
+            lines = [f"steno: the spool failed\nsteno: {name} {place_of(name, line[1])}: Input/output error\n" for name in CALL_NAMES[line[0]]]
             good = said[2] == 7 and said[1] in lines
             # A removal that fails as the oldest pair leaves is tried again later.
             good = good or limit is not None and line[0] == "unlink" and said[1:] == ("", 0)
