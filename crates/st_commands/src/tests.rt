@@ -1,14 +1,11 @@
 //! Lines over shelves in memory. The pair is that of docs/FORMAT.md; its packet is at second
 //! 1,000,000,000 and microsecond 123,456. The lines were written by hand.
 
-ghost use Rattle.std.specs.Prelude.{◌≡◌, ⊤, [], IfSome, IfOk};
+ghost use Rattle.std.specs.Prelude.{◌≡◌, ⊤, [], IfSome};
 
 use crate::commands::{Ended, check, list};
 use crate::outcomes::Outcome;
-use crate::queries::query;
-use st_base::{Damage, Limits, MemSink, put};
-use st_pcap::Unit;
-use st_query::parse;
+use st_base::{Damage, MemSink, put};
 use st_shelf::{Draft, End, Kind, MemShelf, SealedPair, Shelf};
 use st_spool::{NotEntered, PairRule, PublishErr, Spool};
 use std::alloc::Global;
@@ -123,47 +120,27 @@ fn publish<D: Shelf>(
     }
 }
 
-// A spool over an empty shelf. What fails is given by numbers of calls.
-fn opened(alloc: Global, fails: &[u64]) -> Result<Spool<MemShelf, AnyPair>, Fail>
-    ensures { IfOk result (λ spool. spool.state.holds ≡ []) }
-{
+// The shelf with two pairs: one of stamp 9, whose files these are, and the whole one of stamp 10.
+// What fails is given by numbers of calls.
+fn two_pairs(alloc: Global, block: &[u8], index: &[u8], fails: &[u64]) -> Result<MemShelf, Fail> {
     let shelf = MemShelf::with(alloc, fails, None)?;
+    let whole = block_file(alloc, 1)?;
     let entered: Result<Spool<MemShelf, AnyPair>, NotEntered<MemShelf>> = Spool::enter(
         alloc, shelf, 4,
     );
-    match entered {
-        Ok(spool) => Ok(spool),
+    let mut spool = match entered {
+        Ok(spool) => spool,
         Err(
             NotEntered {
                 cause: _cause,
                 shelf: _shelf,
             },
         ) => Err("not opened")?,
-    }
-}
-
-// The shelf with two pairs: one of stamp 9, whose files these are, and the whole one of stamp 10.
-fn two_pairs(alloc: Global, block: &[u8], index: &[u8], fails: &[u64]) -> Result<MemShelf, Fail> {
-    let whole = block_file(alloc, 1)?;
-    let mut spool = opened(alloc, fails)?;
+    };
     let first = publish(&mut spool, block, index, 9);
     let second = publish(&mut spool, whole.as_slice(), INDEX, 0);
     let shelf = spool.close();
     if first != Some(9) || second != Some(10) {
-        Err("not published")?;
-    }
-    Ok(shelf)
-}
-
-// The shelf with these and a third pair, of stamp 11, which is whole.
-fn three_pairs(alloc: Global, block: &[u8], index: &[u8], fails: &[u64]) -> Result<MemShelf, Fail> {
-    let whole = block_file(alloc, 1)?;
-    let mut spool = opened(alloc, fails)?;
-    let first = publish(&mut spool, block, index, 9);
-    let second = publish(&mut spool, whole.as_slice(), INDEX, 0);
-    let third = publish(&mut spool, whole.as_slice(), INDEX, 0);
-    let shelf = spool.close();
-    if first != Some(9) || second != Some(10) || third != Some(11) {
         Err("not published")?;
     }
     Ok(shelf)
@@ -292,132 +269,5 @@ fn a_fault_of_the_disk_ends_a_command(rt: HostRuntime) -> Result<(), Fail> {
         assert_eq!(rt; outcome, Outcome::DiskFault, "a check at {more}");
         assert!(rt; lines.is_empty(), "a check at {more}");
     }
-    Ok(())
-}
-
-// The head of a pcap file in microseconds: docs/FORMAT.md, "pcap".
-const HEAD: &[u8] = b"\xd4\xc3\xb2\xa1\x02\x00\x04\x00\x00\x00\x00\x00\x00\x00\x00\x00\
-\x00\x00\x04\x00\x01\x00\x00\x00";
-
-// The packet in it, of 62 bytes.
-const PACKET: &[u8] = b"\x00\xca\x9a\x3b\x40\xe2\x01\x00\x2e\x00\x00\x00\x2e\x00\x00\x00\
-\x02\x00\x00\x00\x00\x02\x02\x00\x00\x00\x00\x01\x08\x00\x45\x00\
-\x00\x20\x00\x00\x00\x00\x40\x11\x00\x00\x0a\x00\x00\x01\x0a\x00\
-\x00\x02\x30\x39\x00\x35\x00\x0c\x00\x00\x64\x6e\x73\x21";
-
-// All packets.
-const ALL: Limits = Limits {
-    packets: u64::MAX,
-    bytes: u64::MAX,
-};
-
-// The pcap of this many times the packet.
-fn pcap(alloc: Global, packets: u64) -> Result<Vec<u8>, Fail> {
-    let mut bytes = HEAD.to_vec(alloc)?;
-    for _ in 0..packets {
-        bytes.extend_from_slice(PACKET)?;
-    }
-    Ok(bytes)
-}
-
-// How a query ends over this shelf, and what it writes, where these writes of the output fail.
-fn queried(
-    alloc: Global,
-    shelf: MemShelf,
-    text: &[u8],
-    limits: Limits,
-    fails: &[u32],
-) -> Result<(Outcome, Vec<u8>, MemShelf), Fail> {
-    let what = parse(alloc, text)?;
-    let mut out = MemSink::new(alloc, fails)?;
-    let Ended { outcome, shelf } = query(alloc, shelf, &what, 0, Unit::Micro, limits, &mut out);
-    let bytes = out.bytes().to_vec(alloc)?;
-    Ok((outcome, bytes, shelf))
-}
-
-#[test]
-fn a_query_of_an_empty_shelf_writes_a_file_head(rt: HostRuntime) -> Result<(), Fail> {
-    let alloc = rt.alloc();
-    let shelf = MemShelf::empty(alloc);
-    let (outcome, bytes, _shelf) = queried(alloc, shelf, b"port 53", ALL, &[])?;
-    assert_eq!(rt; outcome, Outcome::Done);
-    assert_eq!(rt; bytes.as_slice(), HEAD);
-    Ok(())
-}
-
-#[test]
-fn a_query_writes_the_packets_of_all_pairs(rt: HostRuntime) -> Result<(), Fail> {
-    let alloc = rt.alloc();
-    let block = block_file(alloc, 1)?;
-    let shelf = three_pairs(alloc, block.as_slice(), INDEX, &[])?;
-    let (outcome, bytes, shelf) = queried(alloc, shelf, b"port 53", ALL, &[])?;
-    assert_eq!(rt; outcome, Outcome::Done);
-    assert_eq!(rt; bytes, pcap(alloc, 3)?);
-    let (outcome, bytes, shelf) = queried(alloc, shelf, b"port 54", ALL, &[])?;
-    assert_eq!(rt; outcome, Outcome::Done);
-    assert_eq!(rt; bytes.as_slice(), HEAD);
-    let two = Limits {
-        packets: u64::MAX,
-        bytes: 100,
-    };
-    let (outcome, bytes, shelf) = queried(alloc, shelf, b"ip proto 17", two, &[])?;
-    assert_eq!(rt; outcome, Outcome::Done);
-    assert_eq!(rt; bytes, pcap(alloc, 2)?);
-    let (outcome, bytes, _shelf) = queried(alloc, shelf, b"port 53", ALL, &[4])?;
-    assert_eq!(rt; outcome, Outcome::WriteFault);
-    assert!(rt; pcap(alloc, 3)?.as_slice().starts_with(bytes.as_slice()));
-    assert_eq!(rt; bytes.len(), 102);
-    Ok(())
-}
-
-// An index of 47 bytes has no room for a footer of 48.
-#[test]
-fn a_query_names_a_damaged_pair(rt: HostRuntime) -> Result<(), Fail> {
-    let alloc = rt.alloc();
-    let block = block_file(alloc, 1)?;
-    let shelf = three_pairs(alloc, block.as_slice(), &INDEX[..47], &[])?;
-    let (outcome, bytes, _shelf) = queried(alloc, shelf, b"port 53", ALL, &[])?;
-    let damage = Damage {
-        place: 0,
-        found: 47,
-        want: 48,
-    };
-    assert_eq!(rt; outcome, Outcome::Damaged { stamp: 9, damage });
-    assert!(rt; bytes.is_empty());
-    Ok(())
-}
-
-// Each call after three publications fails in turn: those of the opening, then those that read
-// indexes and heads, before a byte is written, and then those that read bodies, each after whole
-// packets. A call that gives a file back doesn't fail.
-#[test]
-fn a_fault_of_the_disk_ends_a_query(rt: HostRuntime) -> Result<(), Fail> {
-    let alloc = rt.alloc();
-    let block = block_file(alloc, 1)?;
-    let calls = three_pairs(alloc, block.as_slice(), INDEX, &[])?.calls();
-    let whole = pcap(alloc, 3)?;
-    let mut broken_off = 0u64;
-    for more in 0..60_u64 {
-        let fails = [calls.saturating_add(more)];
-        let shelf = three_pairs(alloc, block.as_slice(), INDEX, &fails)?;
-        let (outcome, bytes, shelf) = queried(alloc, shelf, b"port 53", ALL, &[])?;
-        assert!(rt;
-            whole.as_slice().starts_with(bytes.as_slice()),
-            "a query at {more}"
-        );
-        if outcome == Outcome::DiskFault {
-            let rest = bytes.len() % 62;
-            assert!(rt; bytes.is_empty() || rest == HEAD.len(), "a query at {more}");
-            if bytes.len() > HEAD.len() {
-                broken_off = broken_off.saturating_add(1);
-            }
-            let (outcome, _lines, _shelf) = listed(alloc, shelf, &[])?;
-            assert_eq!(rt; outcome, Outcome::Done, "a list after {more}");
-        } else {
-            assert_eq!(rt; outcome, Outcome::Done, "a query at {more}");
-            assert_eq!(rt; bytes, whole, "a query at {more}");
-        }
-    }
-    assert_eq!(rt; broken_off, 2, "after one packet, and after two");
     Ok(())
 }

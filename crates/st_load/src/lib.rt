@@ -35,8 +35,6 @@ mod filling;
 mod lanes;
 mod loading;
 mod publishing;
-#[cfg(test)]
-mod tests;
 
 pub use ends::LoadEnd;
 pub use loading::{Loaded, load, load_into};
