@@ -26,8 +26,8 @@ module _ {D : Type 0} (log : D → Option Log) (faults home : D → ℕ) where
   }
 
   -- The later spool has the same shelf and limit; its shelf's count never falls, its history begins
-  -- with that of the earlier one, and the calls of its shelf's log with those of the earlier log, so
-  -- that up to then the images of both are the same.
+  -- with that of the earlier one, and the calls of its shelf's log with those of the earlier log.
+  -- So up to then the images of both are the same.
   pub record KeepsOf (b x : SpoolView D) : Type 0 where
     pub shelf : home x.shelf ≡ home b.shelf
     pub limit : x.state.limit ≡ b.state.limit

@@ -2,9 +2,11 @@
 //!
 //! `once QUERY` answers a query over the pcap on standard input, `query FOLDER QUERY` one over the
 //! packets of the spool in a folder. `load FOLDER` makes the packets of the pcap on standard input
-//! pairs of that spool; `list FOLDER` and `check FOLDER` write a line for each pair. A run ends with a status, whose number is the exit status of the process, and with a
-//! line on standard error that says why it isn't done; where a call of the system failed, a second
-//! line names it. docs/FORMAT.md has them all: "Command line", "Statuses" and "Messages".
+//! pairs of that spool; `list FOLDER` and `check FOLDER` write a line for each pair.
+//!
+//! A run ends with a status, whose number is the exit status of the process, and with a line on
+//! standard error that says why it isn't done; where a call of the system failed, a second line
+//! names it. docs/FORMAT.md has them all: "Command line", "Statuses" and "Messages".
 //!
 //! # What it promises
 //!
@@ -12,8 +14,8 @@
 //!
 //! - What is done, written and said, and what a crash at any moment leaves of the shelf (`ends`).
 //!   Of bytes that are known it says which, as those of an object in memory are.
-//! - When each way to end comes (`asked`, `fault`), and that nothing but a cause keeps it from being
-//!   done (`complete`). Only running out of memory may come at any time.
+//! - When each way to end comes (`asked`, `fault`), and that nothing but a cause keeps it from
+//!   being done (`complete`). Only running out of memory may come at any time.
 //! - What it leaves as it was (`alone`, `unsaid`, `rest`).
 //!
 //! A flush that fails after the run makes its status `WriteFault` (`flushed`).
@@ -26,8 +28,9 @@
 //! # Where to read
 //!
 //! `specs/Running.antt` says what a run ensures, for each plan by what stands in `specs/Once.antt`,
-//! `specs/Asking.antt`, `specs/Loading.antt` and `specs/Spooling.antt`, and `specs/Staying.antt` what it leaves alone. Then
-//! `runner`, `once`, `query`, `loads` and `spooling`, and below them `gather`, `packets`, `report`.
+//! `specs/Asking.antt`, `specs/Loading.antt` and `specs/Spooling.antt`, and `specs/Staying.antt`
+//! what it leaves alone. Then `runner`, `once`, `query`, `loads` and `spooling`, and below them
+//! `gather`, `packets`, `report`.
 #![tactic(auto)]
 
 ghost use Rattle.std.specs.Prelude.{◌≡◌, MatchResult};

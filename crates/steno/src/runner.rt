@@ -24,13 +24,17 @@ use std::alloc::Global;
 
 /// Does what the arguments in `words` ask for, and gives the shelf back.
 ///
-/// `once QUERY` writes to `out` the packets of the pcap in `input` that match, by second, nanosecond
-/// and place, as a pcap in the unit and within the limits that the options say. The clock is read
-/// once, in microseconds since 1970, before the query is. A refused record ends the input, and what
-/// came before it is answered; nothing is written where the file head is refused, the input fails,
-/// or memory runs out. `load FOLDER` makes the packets of the pcap in `input` pairs of the shelf, and
-/// writes a line `STAMP PACKETS` to `out` for each pair. `list FOLDER` and `check FOLDER` write to `out` a line for each pair of the
-/// shelf, by stamp; the folder is the caller's to open.
+/// - `once QUERY` writes to `out` the packets of the pcap in `input` that match, by second,
+///   nanosecond and place, as a pcap in the unit and within the limits that the options say. A
+///   refused record ends the input, and what came before it is answered; nothing is written if the
+///   file head is refused, the input fails, or memory runs out.
+/// - `query FOLDER QUERY` does the same with the packets of the shelf's pairs.
+/// - `load FOLDER` makes the packets of the pcap in `input` pairs of the shelf, and writes a line
+///   `STAMP PACKETS` to `out` for each pair that it published.
+/// - `list FOLDER` and `check FOLDER` write a line to `out` for each pair of the shelf, by stamp.
+///
+/// The folder is the caller's to open. A query asks the clock once, in microseconds since 1970,
+/// before it is parsed.
 ///
 /// Every status but `Done`, and but `Damaged` of a check, puts its line to `err` at once; that this
 /// fails changes nothing.
