@@ -11,7 +11,7 @@ use Rattle.st_pcap.specs.declared.numbers.TheConstants.{RECORD_HEAD_SIZE}
 use Rattle.st_pcap.specs.Text.{record_head, record_text}
 use Rattle.st_pcap.proofs.Writing.{length-record_head, length-record_text}
 use Rattle.steno.specs.declared.packets.Packet.{Packet}
-use Rattle.steno.specs.Limited.{captured}
+use Rattle.st_answer.specs.Limited.{captured}
 use Rattle.steno.specs.Packets.{stretch, end_of, text_of, record_of, Lies, AllLie, AllWithin}
 
 -- a stretch, cut in two

@@ -8,7 +8,7 @@ use Rattle.st_base.specs.Records.{Rec}
 use Rattle.st_base.specs.declared.limits.Limits.{Limits}
 use Rattle.st_pcap.specs.declared.forms.Unit as unit
 use Rattle.steno.specs.declared.packets.Packet.{Packet}
-use Rattle.steno.specs.Limited.{captured, IsWithin, Limited}
+use Rattle.st_answer.specs.Limited.{captured, IsWithin, Limited}
 use Rattle.steno.specs.Packets.{record_of, Lies, AllLie}
 use Rattle.steno.proofs.Buffers.{length-body, captured-lens}
 

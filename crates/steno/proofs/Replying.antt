@@ -20,7 +20,7 @@ use Rattle.steno.specs.declared.status.Status.{Status}
 use Rattle.steno.specs.declared.status.Status.TheVariants.{Done, Usage, BadInput, BadQuery, ReadFault, WriteFault, DiskFault, Damaged, NoMemory, StampsSpent}
 use Rattle.steno.specs.Gathering.{IsGathered, Selects, StopsAt, ReadsUpTo}
 use Rattle.steno.specs.Jobs.{IsReply, IsAsked, Leaves}
-use Rattle.steno.specs.Limited.{Limited}
+use Rattle.st_answer.specs.Limited.{Limited}
 use Rattle.steno.specs.Messages.{line_of, input_line}
 use Rattle.steno.specs.Reports.{plain_of, IsRefusal, ReportsInput, ReportsQuery}
 use Rattle.steno.specs.Once.{EndsInput, IsJobMessage, IsAnswerMessage, HasQueryCause, IsSilent, IsUnread}

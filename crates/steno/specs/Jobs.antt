@@ -14,7 +14,7 @@ use Rattle.st_query.specs.Answer.{AnswerOf}
 use Rattle.st_query.specs.Spelling.{Spells, Refuses}
 use Rattle.steno.specs.declared.status.Status.{Status}
 use Rattle.steno.specs.declared.status.Status.TheVariants.{Done, BadInput, BadQuery, ReadFault, WriteFault, NoMemory}
-use Rattle.steno.specs.Limited.{Limited}
+use Rattle.st_answer.specs.Limited.{Limited}
 use Rattle.steno.specs.Messages.{status_line, query_line, input_line}
 
 -- the output is the pcap text of the answer over these records, cut to the job's limits and in its

@@ -2,7 +2,6 @@ pub mod Asking
 pub mod Causes
 pub mod Gathering
 pub mod Jobs
-pub mod Limited
 pub mod Loading
 pub mod Messages
 pub mod Once

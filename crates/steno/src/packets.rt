@@ -6,7 +6,7 @@ ghost use Rattle.std.specs.List.Sorted.{IsPermutation, IsSortedBy, IsStableBy};
 ghost use Rattle.st_base.specs.Faults.{HasCause};
 ghost use Rattle.st_base.specs.Pieces.{Puts};
 ghost use Rattle.st_pcap.specs.declared.forms.Unit as unit;
-ghost use Rattle.steno.specs.Limited.{Limited};
+ghost use Rattle.st_answer.specs.Limited.{Limited};
 ghost use Rattle.steno.specs.Packets.{record_of, text_of, Lies, AllLie, AllWithin, is_earlier, Appends};
 
 use st_base::{Failed, Limits, NoMemory, Record, Sink, put};
@@ -65,7 +65,7 @@ impl Packets {
     ghost use Rattle.st_query.specs.declared.nodes.Node.{Node};
     ghost use Rattle.st_query.specs.Answer.{AnswerOf};
     ghost use Rattle.st_query.specs.Meaning.{Matches};
-    ghost use Rattle.steno.specs.Limited.{Limited};
+    ghost use Rattle.st_answer.specs.Limited.{Limited};
     ghost use Rattle.steno.specs.Gathering.{Selects};
 
     /// No packets yet, and the unit of their texts' times. It takes no memory.

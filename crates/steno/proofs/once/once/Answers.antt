@@ -5,7 +5,7 @@ use Rattle.st_pcap.specs.Text.{PcapText}
 use Rattle.st_plan.specs.Jobs.{Job}
 use Rattle.st_query.specs.declared.errors.QueryErr.TheVariants as refusal
 use Rattle.st_query.specs.Spelling.{Spells, Refuses}
-use Rattle.steno.specs.Limited.{Limited}
+use Rattle.st_answer.specs.Limited.{Limited}
 use Rattle.steno.specs.Messages.{line_of}
 use Rattle.steno.specs.declared.status.Status.TheVariants.{WriteFault, NoMemory}
 use Rattle.steno.proofs.Asking.{asked_leaves, refused_leaves}

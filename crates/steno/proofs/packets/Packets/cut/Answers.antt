@@ -1,5 +1,5 @@
 use Rattle.std.proofs.Common.{map, take, sym, subst}
-use Rattle.steno.specs.Limited.{Limited}
+use Rattle.st_answer.specs.Limited.{Limited}
 use Rattle.steno.specs.PacketsView.{PacketsView}
 use Rattle.steno.specs.Packets.{record_of, AllLie}
 use Rattle.steno.proofs.packets.Packets.cut.Goals as goal
