@@ -24,9 +24,10 @@ NOT_BUILT = 70
 BUILDING = b"proving and building first"
 
 # Writes down what it is asked for. 'run' makes a program that prints the text of its source, its
-# arguments and its input; a source with the word 'wrong' is not proved. TOOLCHAIN_EDITS has it edit
-# that source first, TOOLCHAIN_LINGERS has it stay once the program is made, and TOOLCHAIN_MEETS has
-# each library but the lowest wait until another one is being proved.
+# arguments, with SHOWS what the C library is asked for, and its input; a source with the word 'wrong'
+# is not proved. TOOLCHAIN_EDITS has it edit that source first, TOOLCHAIN_LINGERS has it stay once the
+# program is made, and TOOLCHAIN_MEETS has each library but the lowest wait until another one is being
+# proved.
 TOOLCHAIN = r"""#!/usr/bin/env bash
 crate=${PWD##*/}
 echo "$1 $crate" >>"$TOOLCHAIN_LOG"
@@ -50,7 +51,8 @@ run)
   [ -z "${TOOLCHAIN_EDITS:-}" ] || printf edited >src/main.rt
   mkdir -p out
   { printf '#!/usr/bin/env bash\ntext=%q\n' "$(cat src/main.rt)"
-    printf '%s\n' 'printf "%s\0" "$text" "$@"; cat; exit 5'; } >out/steno.new
+    printf '%s\n' 'printf "%s\0" "$text" "$@"; [ -z "${SHOWS:-}" ] || printf "%s\0" "$GLIBC_TUNABLES"; cat; exit 5'
+  } >out/steno.new
   chmod +x out/steno.new && mv out/steno.new out/steno
   echo linked >>"$TOOLCHAIN_LOG"
   sleep "${TOOLCHAIN_LINGERS:-0}"
@@ -147,6 +149,17 @@ def passes_arguments(repository):
     fresh = Repository(repository.root / "fresh")
     seen = fresh.start(*ARGUMENTS, stdin=bytes(range(256)))
     yield "all of them at the start that builds", ran(seen, "first", ARGUMENTS, bytes(range(256))), seen
+
+
+def asks_for_memory(repository):
+    repository.start()
+    seen = repository.start(SHOWS="1")
+    asked = seen[0].split(b"\0")[1]
+    yield "memory in large pages", asked.startswith(b"glibc.malloc.hugetlb=1:") and asked.count(b"glibc.malloc.") == 4, seen
+    seen = repository.start(SHOWS="1", GLIBC_TUNABLES="glibc.malloc.arena_max=1")
+    yield "what the caller asks the C library for stays", seen[0].split(b"\0")[1] == b"glibc.malloc.arena_max=1", seen
+    seen = repository.start(SHOWS="1", GLIBC_TUNABLES="")
+    yield "a caller that asks it for nothing", seen[0].split(b"\0")[1] == b"", seen
 
 
 def source(repository, line):
@@ -314,7 +327,7 @@ def says_how_far_it_is(repository):
     yield "elsewhere it says once that it builds", built(seen, "second") and seen[1].count(b"\n") == 1 and b"\r" not in seen[1], seen
 
 
-GROUPS = [starts, passes_arguments, takes_a_program_that_was_built, builds_by_content, builds_by_toolchain,
+GROUPS = [starts, passes_arguments, asks_for_memory, takes_a_program_that_was_built, builds_by_content, builds_by_toolchain,
           refuses_what_is_not_proved, builds_again_after_a_break, proves_side_by_side, says_how_far_it_is]
 
 
