@@ -1,7 +1,7 @@
 -- Removals, one after the other.
-use Rattle.std.specs.Prelude.{map, slice_index, Bool, true, false, ◌↔◌}
+use Rattle.std.specs.Prelude.{slice_index, Bool, true, false, ◌↔◌}
 use Rattle.std.proofs.lemmas.Bool.{cases_lt}
-use Rattle.std.proofs.Common.{◌≡◌, ℕ, zero, suc, ◌+◌, ◌-◌, ◌<◌, ◌≤◌, ◌⊎◌, ⊎_elim, List, [], ◌∷◌, ◌++◌, length, length-drop, drop, append_assoc, refl, sym, ap, ◌∙◌, subst, arith, Option, Some, None, Ok, Err, Result}
+use Rattle.std.proofs.Common.{◌≡◌, ℕ, zero, suc, ◌-◌, ◌<◌, ◌≤◌, ◌⊎◌, ⊎_elim, List, [], ◌∷◌, ◌++◌, length, length-drop, drop, append_assoc, refl, sym, ap, ◌∙◌, subst, arith, Option, Some, None, Ok, Err, Result}
 use Rattle.std.proofs.lemmas.List.{append-nil, length-map}
 use Rattle.st_disk.specs.Disks.{Log}
 use Rattle.st_disk.specs.Events.{Event, Remove}
@@ -12,11 +12,10 @@ use Rattle.st_spool.specs.Aging.{Ages as AgesBy}
 use Rattle.st_spool.specs.Refusing.{RefusesAge}
 use Rattle.st_spool.specs.declared.refusals.AgeErr.{AgeErr}
 use Rattle.st_spool.specs.declared.refusals.AgeErr.TheVariants as age_err
-use Rattle.st_spool.specs.History.{set_of, set_after, without, entries_of, Legal}
+use Rattle.st_spool.specs.History.{set_of, without, entries_of}
 use Rattle.st_spool.specs.Publishing.{failed}
 use Rattle.st_spool.specs.Standing.{StandsFor, stamp_of, in_doubt, begun}
 use Rattle.st_spool.specs.States.{SpoolState, SpoolView}
-use Rattle.st_spool.specs.declared.state.Doubt.{Doubt}
 use Rattle.st_spool.specs.declared.state.Doubt.TheVariants as doubt
 use Rattle.st_spool.proofs.Aged.{split_at}
 use Rattle.st_spool.proofs.Giving.{without_first}

@@ -1,18 +1,16 @@
 -- What crashes leave over several calls.
-use Rattle.std.proofs.Common.{◌≡◌, ℕ, List, [], ◌∷◌, ◌++◌, append_assoc, refl, sym, ap, ◌∙◌, subst, Option, Some}
+use Rattle.std.proofs.Common.{◌≡◌, List, [], ◌∷◌, ◌++◌, append_assoc, sym, subst, Option, Some}
 use Rattle.std.proofs.lemmas.List.{append-nil}
 use Rattle.st_disk.specs.Disks.{Log}
 use Rattle.st_disk.specs.Events.{Event}
-use Rattle.st_disk.specs.Folders.{Folder}
 use Rattle.st_disk.specs.Pairs.{Files}
 use Rattle.st_disk.specs.Runs.{Each, LeavesOnly, Ran}
 use Rattle.st_disk.proofs.Runs.{started, only_then}
 use Rattle.st_pairs.specs.Pairs.{IsWholePair}
 use Rattle.st_spool.specs.Covers.{Covers, CoversInDoubt}
-use Rattle.st_spool.specs.Publishing.{RanTo, RanInDoubt, Publishes, Fails, Keeps}
+use Rattle.st_spool.specs.Publishing.{RanTo, RanInDoubt, Keeps}
 use Rattle.st_spool.specs.Standing.{StandsFor, Gives, begun}
 use Rattle.st_spool.specs.States.{SpoolState}
-use Rattle.st_spool.specs.declared.state.Doubt.{Doubt}
 use Rattle.st_spool.specs.declared.state.Doubt.TheVariants as doubt
 use Rattle.st_spool.proofs.Covering.{covers_on, covers_still, covers_fault, covers_more, covers_calm}
 use Rattle.st_spool.proofs.Giving.{gives}

@@ -1,15 +1,13 @@
 -- How far the records of an input are cut, and what is known of the others.
 use Rattle.std.specs.Prelude.{All, ⊤}
-use Rattle.std.proofs.Common.{◌≡◌, ℕ, zero, suc, ◌+◌, ◌<◌, ◌≤◌, ◌⊎◌, inl, inr, ⊎_elim, List, [], ◌∷◌, ◌++◌, length, length-append, append_assoc, refl, sym, ap, ◌∙◌, subst, arith, Option, Some}
+use Rattle.std.proofs.Common.{◌≡◌, ℕ, ◌≤◌, ◌⊎◌, ⊎_elim, List, [], ◌∷◌, ◌++◌, length, length-append, append_assoc, refl, sym, ap, ◌∙◌, subst, arith}
 use Rattle.std.proofs.lemmas.List.{append-nil}
-use Rattle.std.proofs.lemmas.Bool.{cases_lt}
 use Rattle.st_base.specs.Records.{Rec}
 use Rattle.st_block.specs.BlockText.{IsShort, blocks}
-use Rattle.st_block.specs.declared.format.TheConstants.{BLOCK_HEAD, RECORD_HEAD}
-use Rattle.st_lane.specs.Cut.{IsLongest, EndsList}
-use Rattle.st_pcap.specs.Input.{End, Whole, Refused, Input}
+use Rattle.st_lane.specs.Cut.{EndsList}
+use Rattle.st_pcap.specs.Input.{Whole, Refused}
 use Rattle.st_plan.specs.declared.jobs.LanePlan.{LanePlan}
-use Rattle.st_load.specs.Filling.{StopsAfter}
+use Rattle.st_load.specs.Stopping.{StopsAfter}
 use Rattle.st_load.specs.Job.{AreFirstLists, Takes}
 use Rattle.st_load.specs.Loading.{Rest, EndsInput, AreOf}
 use Rattle.st_load.specs.declared.ends.LoadEnd.{LoadEnd}

@@ -1,19 +1,19 @@
 -- What publishing a pair comes to, by how far it came.
-use Rattle.std.proofs.Common.{◌≡◌, ℕ, ◌+◌, ◌-◌, ◌^◌, ◌<◌, ◌≤◌, ◌⊎◌, inl, inr, ⊎_elim, List, [], ◌∷◌, ◌++◌, length, take, append_assoc, refl, sym, ap, ◌∙◌, subst, arith, Option, Some, None, Ok, Err, Result}
+use Rattle.std.proofs.Common.{◌≡◌, ℕ, ◌-◌, ◌^◌, ◌<◌, inr, ⊎_elim, List, [], ◌∷◌, ◌++◌, length, append_assoc, refl, sym, ap, ◌∙◌, subst, Option, Some, None, Err}
 use Rattle.std.proofs.lemmas.List.{append-nil}
 use Rattle.std.specs.Io.KnownBytes.{Appends}
-use Rattle.std.proofs.KnownBytes.{Appends-nil, Appends-trans}
+use Rattle.std.proofs.KnownBytes.{Appends-nil}
 use Rattle.st_base.specs.Records.{Rec}
 use Rattle.st_base.specs.Ticks.{Ticks}
 use Rattle.st_disk.specs.Disks.{Log}
-use Rattle.st_disk.specs.Events.{Event, Publish, Remove}
+use Rattle.st_disk.specs.Events.{Event, Publish}
 use Rattle.st_disk.specs.Folders.{given}
 use Rattle.st_disk.specs.Pairs.{Entry, Files}
 use Rattle.st_lane.specs.Sealing.{AreWhole}
 use Rattle.st_pairs.specs.Pairs.{IsWholePair}
-use Rattle.st_spool.specs.History.{set_of, set_after}
-use Rattle.st_spool.specs.Placing.{files, entry}
-use Rattle.st_spool.specs.Publishing.{next_stamp, published, failed, FailsToPublish, Publishes, Fails, Keeps}
+use Rattle.st_spool.specs.History.{set_of}
+use Rattle.st_spool.specs.Placing.{entry}
+use Rattle.st_spool.specs.Publishing.{next_stamp, failed, FailsToPublish}
 use Rattle.st_spool.specs.Standing.{StandsFor, IsCalm, in_doubt, begun}
 use Rattle.st_rows.specs.Whole.{IsWhole}
 use Rattle.st_block.specs.BlockText.{BlockText}
@@ -23,12 +23,12 @@ use Rattle.st_spool.specs.declared.state.Doubt.TheVariants as doubt
 use Rattle.st_spool.proofs.Histories.{set_more}
 use Rattle.st_load.specs.Acts.{Act, Happens, Writes, line_text, events_of, lines_of, happen, removals, newest}
 use Rattle.st_load.specs.Job.{Course, Adds, AddsAll}
-use Rattle.st_load.specs.Loading.{Covered, Did, Loads, BeginsWith, EndsJob, WritesLines, course}
-use Rattle.st_load.specs.Publishing.{Ages, AgesAll, AtMost, AddsPair, FailsBy, StateBy, WritesLine, Finishes}
+use Rattle.st_load.specs.Loading.{Covered, Loads, EndsJob, WritesLines, course}
+use Rattle.st_load.specs.Publishing.{Ages, AgesAll, AtMost, AddsPair, WritesLine}
 use Rattle.st_load.specs.declared.ends.LoadEnd.{LoadEnd}
 use Rattle.st_load.specs.declared.ends.LoadEnd.TheVariants as end
 use Rattle.st_load.proofs.Covered.{covered_then}
-use Rattle.st_load.proofs.Jobs.{events_append, lines_append, events_happen, lines_happen, happen_append, add_one}
+use Rattle.st_load.proofs.Jobs.{events_happen, lines_happen, happen_append, add_one}
 
 -- the bytes of sealed files, known or not
 pub whole_given : (size : ℕ) (rs : List Rec) (b i : Option (List ℕ)) → AreWhole size rs b i → AreWhole size rs (Some (given b)) (Some (given i))

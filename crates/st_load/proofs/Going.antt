@@ -1,32 +1,30 @@
 -- A load goes on from pair to pair.
-use Rattle.std.specs.Prelude.{All, ⊤}
-use Rattle.std.proofs.Common.{◌≡◌, ℕ, ◌+◌, ◌-◌, ◌^◌, ◌<◌, ◌≤◌, ◌⊎◌, inl, inr, ⊎_elim, List, [], ◌∷◌, ◌++◌, length, length-append, take, append_assoc, refl, sym, ap, ◌∙◌, subst, arith, Option, Some, None}
+use Rattle.std.specs.Prelude.{⊤}
+use Rattle.std.proofs.Common.{◌≡◌, ℕ, ◌+◌, ⊎_elim, List, [], ◌∷◌, ◌++◌, length, take, append_assoc, refl, sym, ap, ◌∙◌, subst, Option, Some}
 use Rattle.std.proofs.lemmas.List.{append-nil}
 use Rattle.std.specs.Io.KnownBytes.{Appends}
-use Rattle.std.proofs.KnownBytes.{Appends-nil, Appends-trans}
+use Rattle.std.proofs.KnownBytes.{Appends-trans}
 use Rattle.st_base.specs.Records.{Rec}
-use Rattle.st_block.specs.BlockText.{IsShort, blocks}
 use Rattle.st_disk.specs.Disks.{Log}
 use Rattle.st_disk.specs.Events.{Event}
-use Rattle.st_disk.specs.Pairs.{Entry, Files}
-use Rattle.st_lane.specs.Cut.{EndsList}
+use Rattle.st_disk.specs.Pairs.{Files}
 use Rattle.st_pairs.specs.Pairs.{IsWholePair}
 use Rattle.st_plan.specs.declared.jobs.LanePlan.{LanePlan}
-use Rattle.st_spool.specs.Standing.{StandsFor, in_doubt, begun}
+use Rattle.st_spool.specs.Standing.{StandsFor, begun}
 use Rattle.st_spool.specs.declared.state.Doubt.TheVariants as doubt
 use Rattle.st_spool.specs.States.{SpoolState}
-use Rattle.st_load.specs.Acts.{Act, Writes, line_text, events_of, lines_of, happen, removals, newest}
+use Rattle.st_load.specs.Acts.{Act, line_text, events_of, lines_of, happen}
 use Rattle.st_load.specs.Causes.{IsFailure}
-use Rattle.st_load.specs.Filling.{IsInputEnd, IsFillFault}
-use Rattle.st_load.specs.Job.{Course, Adds, AddsAll, IsJob}
-use Rattle.st_load.specs.Loading.{Covered, Did, Loads, BeginsWith, EndsJob, WritesLines, AreOf, course}
-use Rattle.st_load.specs.Publishing.{AddsPair, AtMost}
+use Rattle.st_load.specs.Filling.{IsFillFault}
+use Rattle.st_load.specs.Stopping.{IsInputEnd}
+use Rattle.st_load.specs.Job.{Course, AddsAll}
+use Rattle.st_load.specs.Loading.{Covered, Loads, EndsJob, WritesLines, course}
 use Rattle.st_load.specs.declared.ends.LoadEnd.{LoadEnd}
 use Rattle.st_load.specs.declared.ends.LoadEnd.TheVariants as end
 use Rattle.st_load.proofs.Covered.{covered_then}
 use Rattle.st_load.proofs.Finishing.{none_doubted, begun_none}
-use Rattle.st_load.proofs.Cutting.{CutSoFar, IsAnyEnd, IsFault}
-use Rattle.st_load.proofs.Jobs.{events_append, lines_append, events_happen, lines_happen, add_more, add_one}
+use Rattle.st_load.proofs.Cutting.{CutSoFar, IsFault}
+use Rattle.st_load.proofs.Jobs.{events_append, lines_append}
 
 -- lines that were written before
 lines_more : (e : LoadEnd) (xs bs to_come : List Act) (a b c : Option (List ℕ)) → Appends a b (lines_of xs) → WritesLines e bs to_come b c → WritesLines e (xs ++ bs) to_come a c

@@ -1,12 +1,12 @@
 -- Acts, and the job that they are of.
 use Rattle.std.specs.Prelude.{map}
-use Rattle.std.proofs.Common.{◌≡◌, ℕ, zero, suc, ◌+◌, ◌-◌, ◌<◌, ◌≤◌, List, [], ◌∷◌, ◌++◌, length, take, drop, append_assoc, refl, sym, ap, ◌∙◌, subst, arith}
+use Rattle.std.proofs.Common.{◌≡◌, ℕ, suc, ◌-◌, ◌<◌, ◌≤◌, List, [], ◌∷◌, ◌++◌, length, take, drop, append_assoc, refl, sym, ap, ◌∙◌, subst, arith}
 use Rattle.std.proofs.lemmas.List.{append-nil, map-append}
 use Rattle.st_base.specs.Records.{Rec}
-use Rattle.st_disk.specs.Events.{Event, Publish, Remove}
+use Rattle.st_disk.specs.Events.{Event, Remove}
 use Rattle.st_disk.specs.Pairs.{Entry}
-use Rattle.st_load.specs.Acts.{Act, Happens, Writes, line_text, events_of, lines_of, happen, excess, removal, removals, newest}
-use Rattle.st_load.specs.Job.{Course, Adds, AddsAll, IsJob}
+use Rattle.st_load.specs.Acts.{Act, Happens, Writes, line_text, events_of, lines_of, happen, removal, removals, newest}
+use Rattle.st_load.specs.Job.{Course, Adds, AddsAll}
 
 pub events_append : (xs bs : List Act) → events_of (xs ++ bs) ≡ events_of xs ++ events_of bs
 events_append [] bs = refl

@@ -1,15 +1,17 @@
 mod Reading
 mod Lists
-mod Jobs
+pub mod Jobs
 mod Cutting
-mod Covered
-mod Finishing
+pub mod Covered
+pub mod Finishing
 mod Ageing
 mod Published
 mod Going
 mod Steps
 mod Rounds
 mod Taking
+mod Coming
 mod Starting
-mod Opened
+pub mod ReadBack
+pub mod Opened
 mod Keeping

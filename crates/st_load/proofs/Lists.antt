@@ -1,12 +1,12 @@
 -- The lists of a cut, one after the other.
 use Rattle.std.specs.Prelude.{All, if◌then◌else◌, nat_le, Bool, true, false}
-use Rattle.std.proofs.Common.{◌≡◌, ℕ, zero, suc, ◌+◌, ◌<◌, ◌≤◌, ◌⊎◌, inl, inr, ⊎_elim, List, [], ◌∷◌, ◌++◌, length, length-append, append_assoc, append-nil, refl, sym, ap, ◌∙◌, subst, arith}
+use Rattle.std.proofs.Common.{◌≡◌, ℕ, zero, suc, ◌+◌, ◌<◌, ◌≤◌, ⊎_elim, List, [], ◌∷◌, ◌++◌, length, append_assoc, refl, ap, subst, arith}
 use Rattle.std.proofs.lemmas.Bool.{cases_lt}
 use Rattle.st_base.specs.Records.{Rec}
 use Rattle.st_block.specs.BlockText.{IsShort, room, used_bytes, blocks, blocks_from}
 use Rattle.st_block.specs.declared.format.TheConstants.{BLOCK_HEAD, RECORD_HEAD}
 use Rattle.st_lane.specs.Cut.{IsLongest, EndsList}
-use Rattle.st_load.specs.Job.{AreFirstLists, BeginsLong, Takes}
+use Rattle.st_load.specs.Job.{AreFirstLists, Takes}
 
 by_if : (b : Bool) (x y z w : List (List Rec)) → length x ≤ length y → length z ≤ length w → length (if b then x else z) ≤ length (if b then y else w)
 by_if true x y z w p q = p

@@ -2,17 +2,14 @@
 use Rattle.std.proofs.Common.{◌≡◌, ℕ, ◌⊎◌, inl, inr, ⊎_elim, List, [], ◌∷◌, ◌++◌, append_assoc, refl, sym, ap, ◌∙◌, subst, Option, Some, None}
 use Rattle.std.proofs.lemmas.List.{append-nil}
 use Rattle.std.specs.Io.KnownBytes.{Appends}
-use Rattle.st_base.specs.Records.{Rec}
 use Rattle.st_disk.specs.Disks.{Log, reads}
 use Rattle.st_disk.specs.Events.{Event, Found, events}
-use Rattle.st_disk.specs.Pairs.{Entry, Files, PairsIn}
-use Rattle.st_disk.specs.Runs.{LeavesOnly}
-use Rattle.st_disk.proofs.Reading.{known_log}
+use Rattle.st_disk.specs.Pairs.{Files, PairsIn}
 use Rattle.st_pairs.specs.Pairs.{IsWholePair}
 use Rattle.st_plan.specs.declared.jobs.LanePlan.{LanePlan}
 use Rattle.st_spool.specs.Covers.{CoversInDoubt}
 use Rattle.st_spool.specs.Entering.{Enters, flushed_log}
-use Rattle.st_spool.specs.History.{Legal}
+use Rattle.st_spool.specs.History.{Legal, set_of}
 use Rattle.st_spool.specs.Standing.{StandsFor, in_doubt, begun}
 use Rattle.st_spool.specs.States.{SpoolState}
 use Rattle.st_spool.specs.declared.opening.EnterErr.{EnterErr}
@@ -22,8 +19,8 @@ use Rattle.st_spool.specs.declared.state.Doubt.TheVariants as doubt
 use Rattle.st_spool.proofs.Covering.{covers_opening}
 use Rattle.st_load.specs.Acts.{Act, events_of, lines_of, happen}
 use Rattle.st_load.specs.Causes.{IsFailure, EndsUnopened}
-use Rattle.st_load.specs.Job.{Course, IsJob}
-use Rattle.st_load.specs.Loading.{Loads, Did, EndsJob, AreOf, WritesLines, course}
+use Rattle.st_load.specs.Job.{IsJob}
+use Rattle.st_load.specs.Loading.{Loads, EndsJob, AreOf, WritesLines, course}
 use Rattle.st_load.specs.Opening.{LoadsOpened, LoadsShelf}
 use Rattle.st_load.specs.Publishing.{Runs}
 use Rattle.st_load.specs.declared.ends.LoadEnd.{LoadEnd}
@@ -31,6 +28,7 @@ use Rattle.st_load.specs.declared.ends.LoadEnd.TheVariants as end
 use Rattle.st_load.proofs.Covered.{covers_join}
 use Rattle.st_load.proofs.Finishing.{calm}
 use Rattle.st_load.proofs.Jobs.{events_append, lines_append, events_happen, lines_happen}
+use Rattle.st_load.proofs.ReadBack.{read_set}
 
 -- an event in doubt has begun, or not
 begun_or : (d : Doubt) (f : Files) → (begun d f ≡ []) ⊎ (begun d f ≡ in_doubt d f)
@@ -67,6 +65,9 @@ module _ (limit : ℕ) (layout : LanePlan) (first : Log) (mid known : Option Log
   past : (now : Log) → known ≡ Some now → events now ≡ events first ++ (events_of l.acts ++ begun st.doubt l.f)
   past now is = (l.stands.disk now is).past
 
+  read : (now : Log) → known ≡ Some now → PairsIn (reads now) (set_of ((h ++ events_of l.acts) ++ begun st.doubt l.f))
+  read now is = read_set IsWholePair known st (events first) (h ++ events_of l.acts) l.f l.stands now is
+
   -- nothing in doubt has begun
   pub opened_sure : begun st.doubt l.f ≡ [] → LoadsOpened limit layout first known left times times_now old new e
   opened_sure none =
@@ -85,6 +86,7 @@ module _ (limit : ℕ) (layout : LanePlan) (first : Log) (mid known : Option Log
         is = is;
         past = past now is ∙ ap (λ es. events first ++ es) (ap (λ es. events_of l.acts ++ es) none ∙ append-nil (events_of l.acts));
         legal = subst (λ n. Legal n (h ++ events_of l.acts)) lim l.stands.legal;
+        set = subst (λ (es : List Event). PairsIn (reads now) (set_of es)) (ap (λ (es : List Event). (h ++ events_of l.acts) ++ es) none ∙ append-nil (h ++ events_of l.acts)) (read now is);
         flushed = entered.images.flushed;
         sure = events_of l.acts;
         doubt = begun st.doubt l.f;
@@ -124,6 +126,8 @@ module _ (limit : ℕ) (layout : LanePlan) (first : Log) (mid known : Option Log
         past = past now is ∙ ap (λ es. events first ++ es) (ap (λ es. events_of l.acts ++ es) some ∙ sym evs);
         legal = subst (λ n. Legal n (h ++ events_of (l.acts ++ happen d))) lim
             (subst (λ es. Legal st.limit (h ++ es)) (sym evs) (subst (λ es. Legal st.limit es) (append_assoc h (events_of l.acts) d) l.stands.more));
+        set = subst (λ (es : List Event). PairsIn (reads now) (set_of es))
+            (ap (λ (es : List Event). (h ++ events_of l.acts) ++ es) some ∙ append_assoc h (events_of l.acts) d ∙ ap (λ (es : List Event). h ++ es) (sym evs)) (read now is);
         flushed = entered.images.flushed;
         sure = events_of l.acts;
         doubt = begun st.doubt l.f;

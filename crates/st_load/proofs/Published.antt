@@ -1,6 +1,6 @@
 -- What finishing a pair comes to, from what its calls ensure.
 use Rattle.std.specs.Prelude.{MatchResult, IfErr}
-use Rattle.std.proofs.Common.{◌≡◌, ℕ, ◌+◌, ◌-◌, ◌^◌, ◌<◌, ◌⊎◌, inl, inr, ⊎_elim, List, [], ◌∷◌, ◌++◌, length, refl, sym, ap, ◌∙◌, subst, Option, Some, None, Ok, Err, Result}
+use Rattle.std.proofs.Common.{◌≡◌, ℕ, inl, ⊎_elim, List, [], ◌∷◌, ◌++◌, length, refl, sym, ap, ◌∙◌, subst, Option, Some, None, Ok, Err, Result}
 use Rattle.std.proofs.lemmas.List.{append-nil}
 use Rattle.std.specs.Io.KnownBytes.{Appends}
 use Rattle.std.proofs.KnownBytes.{Appends-nil}
@@ -8,11 +8,11 @@ use Rattle.st_base.specs.Records.{Rec}
 use Rattle.st_base.specs.Ticks.{Ticks}
 use Rattle.st_disk.specs.Disks.{Log}
 use Rattle.st_disk.specs.Events.{Event, Publish}
-use Rattle.st_disk.specs.Pairs.{Entry, Files}
+use Rattle.st_disk.specs.Pairs.{Files}
 use Rattle.st_lane.specs.Sealing.{AreWhole}
 use Rattle.st_pairs.specs.Pairs.{IsWholePair}
 use Rattle.st_spool.specs.Placing.{entry}
-use Rattle.st_spool.specs.Publishing.{next_stamp, published, MayPublish, Publishes, Fails, Keeps, RanTo, RanInDoubt}
+use Rattle.st_spool.specs.Publishing.{next_stamp, published, MayPublish, Publishes, Keeps, RanTo, RanInDoubt}
 use Rattle.st_spool.specs.Standing.{StandsFor, begun}
 use Rattle.st_spool.specs.States.{SpoolState, SpoolView}
 use Rattle.st_spool.specs.declared.state.Doubt.TheVariants as doubt

@@ -1,6 +1,6 @@
 -- One round of a load: a lane is made, filled, and its pair is finished.
 use Rattle.std.specs.Prelude.{All}
-use Rattle.std.proofs.Common.{◌≡◌, ℕ, ◌+◌, ◌<◌, ◌≤◌, ◌⊎◌, inl, inr, ⊎_elim, List, [], ◌∷◌, ◌++◌, length, append_assoc, append-nil, refl, sym, ap, ◌∙◌, subst, arith, Option, Some, None, Ok, Err}
+use Rattle.std.proofs.Common.{◌≡◌, ℕ, ◌+◌, ◌≤◌, ◌⊎◌, inl, inr, ⊎_elim, List, [], ◌∷◌, ◌++◌, length, append_assoc, append-nil, refl, sym, ap, ◌∙◌, subst, arith, Option, Some, None}
 use Rattle.std.proofs.KnownBytes.{Appends-nil}
 use Rattle.st_base.specs.Records.{Rec}
 use Rattle.st_block.specs.BlockText.{IsShort, blocks}
@@ -14,19 +14,20 @@ use Rattle.st_pcap.specs.Reading.{PcapReaderView, IsGoing}
 use Rattle.st_plan.specs.declared.jobs.LanePlan.{LanePlan}
 use Rattle.st_spool.specs.Standing.{StandsFor}
 use Rattle.st_spool.specs.States.{SpoolState, SpoolView}
-use Rattle.st_load.specs.Acts.{Act, events_of}
-use Rattle.st_load.specs.Filling.{HasReadTo, StopsAfter, Begins, Fills, IsInputEnd, IsFillFault}
+use Rattle.st_load.specs.Acts.{events_of}
+use Rattle.st_load.specs.Filling.{HasReadTo, Fills, IsFillFault}
+use Rattle.st_load.specs.Stopping.{StopsAfter, IsInputEnd}
 use Rattle.st_load.specs.Job.{Course, AddsAll}
 use Rattle.st_load.specs.Lanes.{KeepsSpool}
 use Rattle.st_load.specs.Loading.{Loads, AreOf, course}
-use Rattle.st_load.specs.Publishing.{AddsPair, AtMost, Finishes}
+use Rattle.st_load.specs.Publishing.{AddsPair, AtMost}
 use Rattle.st_load.specs.declared.ends.LoadEnd.{LoadEnd}
 use Rattle.st_load.specs.declared.ends.LoadEnd.TheVariants as end
 use Rattle.st_load.specs.declared.filling.Filled.TheVariants as filled
 use Rattle.st_load.proofs.Covered.{covered_none}
 use Rattle.st_load.proofs.Finishing.{calm}
-use Rattle.st_load.proofs.Cutting.{CutSoFar, IsAnyEnd, IsFault, cut_none, cut_on, fault_of, left_of, ended_of, long_of}
-use Rattle.st_load.proofs.Going.{SoFar, IsQuiet, input_quiet, fill_quiet}
+use Rattle.st_load.proofs.Cutting.{IsAnyEnd, IsFault, cut_none, cut_on, fault_of, left_of, ended_of, long_of}
+use Rattle.st_load.proofs.Going.{SoFar, input_quiet, fill_quiet}
 use Rattle.st_load.proofs.Reading.{IsInputOf, input_of}
 use Rattle.st_load.proofs.Steps.{sofar_keeps, sofar_ends, sofar_fails, sofar_last, sofar_next}
 

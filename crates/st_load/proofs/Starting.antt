@@ -1,5 +1,5 @@
 -- A load begins with removals.
-use Rattle.std.proofs.Common.{◌≡◌, ℕ, ◌+◌, ◌⊎◌, inl, inr, ⊎_elim, List, [], ◌∷◌, ◌++◌, append_assoc, refl, sym, ap, ◌∙◌, subst, Option, Some, None}
+use Rattle.std.proofs.Common.{◌≡◌, ℕ, ◌⊎◌, inl, inr, ⊎_elim, List, [], ◌++◌, refl, sym, ap, ◌∙◌, subst, Option, Some, None}
 use Rattle.std.proofs.lemmas.List.{append-nil}
 use Rattle.std.specs.Io.KnownBytes.{Appends}
 use Rattle.std.proofs.KnownBytes.{Appends-nil}
@@ -19,7 +19,7 @@ use Rattle.st_spool.specs.declared.state.Doubt.TheVariants as doubt
 use Rattle.st_load.specs.Acts.{Act, events_of, lines_of, happen, removals, newest}
 use Rattle.st_load.specs.Causes.{EndsUnread}
 use Rattle.st_load.specs.Job.{Course, AddsAll, IsJob}
-use Rattle.st_load.specs.Loading.{Covered, Loads, BeginsWith, AreOf, course}
+use Rattle.st_load.specs.Loading.{Covered, Loads, AreOf, course}
 use Rattle.st_load.specs.Publishing.{Ages, AgesAll}
 use Rattle.st_load.specs.declared.ends.LoadEnd.{LoadEnd}
 use Rattle.st_load.specs.declared.ends.LoadEnd.TheVariants as end

@@ -1,6 +1,6 @@
 -- The steps of a load over its pairs.
 use Rattle.std.specs.Prelude.{All}
-use Rattle.std.proofs.Common.{◌≡◌, ℕ, ◌+◌, ◌<◌, ◌≤◌, ◌⊎◌, inl, inr, ⊎_elim, List, [], ◌∷◌, ◌++◌, length, length-append, append_assoc, refl, sym, ap, ◌∙◌, subst, arith, Option, Some, None}
+use Rattle.std.proofs.Common.{◌≡◌, ℕ, ◌+◌, ◌≤◌, List, [], ◌∷◌, ◌++◌, length, length-append, append_assoc, refl, sym, ap, ◌∙◌, subst, arith, Option, None}
 use Rattle.std.proofs.lemmas.List.{append-nil}
 use Rattle.std.proofs.KnownBytes.{Appends-trans}
 use Rattle.std.specs.Io.KnownBytes.{Appends}
@@ -15,14 +15,13 @@ use Rattle.st_plan.specs.declared.jobs.LanePlan.{LanePlan}
 use Rattle.st_spool.specs.Publishing.{Keeps}
 use Rattle.st_spool.specs.Standing.{StandsFor}
 use Rattle.st_spool.specs.States.{SpoolState}
-use Rattle.st_spool.specs.declared.state.Doubt.TheVariants as doubt
 use Rattle.st_load.specs.Acts.{Act, events_of, lines_of}
 use Rattle.st_load.specs.Job.{Course, AddsAll}
 use Rattle.st_load.specs.Loading.{Covered, Loads, course}
 use Rattle.st_load.specs.Publishing.{AddsPair, AtMost}
 use Rattle.st_load.specs.declared.ends.LoadEnd.{LoadEnd}
 use Rattle.st_load.proofs.Covered.{covered_then, covered_keeps}
-use Rattle.st_load.proofs.Cutting.{CutSoFar, cut_on}
+use Rattle.st_load.proofs.Cutting.{cut_on}
 use Rattle.st_load.proofs.Finishing.{calm}
 use Rattle.st_load.proofs.Going.{SoFar, IsQuiet, loads_after, ends_between}
 use Rattle.st_load.proofs.Jobs.{events_append, lines_append, add_more, add_one}

@@ -1,6 +1,6 @@
 -- A lane takes one record after the other.
 use Rattle.std.specs.Prelude.{false}
-use Rattle.std.proofs.Common.{◌≡◌, ℕ, ◌+◌, ◌≤◌, ◌⊎◌, inl, inr, ⊎_elim, List, [], ◌∷◌, ◌++◌, length, length-append, append_assoc, refl, sym, ap, ◌∙◌, subst, arith, Option, Ok}
+use Rattle.std.proofs.Common.{◌≡◌, ℕ, ◌+◌, ◌≤◌, ◌⊎◌, inl, inr, ⊎_elim, List, [], ◌∷◌, ◌++◌, length, length-append, append_assoc, sym, ap, ◌∙◌, subst, arith, Option, Ok}
 use Rattle.st_base.specs.Faults.{Rose}
 use Rattle.st_base.specs.Records.{Rec}
 use Rattle.st_block.specs.BlockText.{IsShort}
@@ -14,7 +14,8 @@ use Rattle.st_pcap.specs.Reading.{PcapReaderView, IsGoing, IsOutside}
 use Rattle.st_pcap.specs.declared.errors.PcapErr.{PcapErr}
 use Rattle.st_pcap.specs.declared.errors.PcapErr.TheVariants.{ReadFault, NoMemory}
 use Rattle.st_load.specs.Causes.{RoseJustIf, Says}
-use Rattle.st_load.specs.Filling.{HasReadTo, StopsAfter, Begins, Fills, Leaves, EndsReading, IsInputEnd, IsFillFault}
+use Rattle.st_load.specs.Filling.{HasReadTo, Begins, Fills, Leaves, EndsReading, IsFillFault}
+use Rattle.st_load.specs.Stopping.{StopsAfter, IsInputEnd}
 use Rattle.st_load.specs.declared.ends.LoadEnd.{LoadEnd}
 use Rattle.st_load.specs.declared.ends.LoadEnd.TheVariants as end
 use Rattle.st_load.specs.declared.filling.Filled.{Filled}

@@ -1,16 +1,15 @@
 -- What a lane takes of an input.
-use Rattle.std.specs.Prelude.{◌≡◌, ◌<◌, ◌≤◌, ◌+◌, ◌*◌, ◌⊎◌, ℕ, List, [], ◌∷◌, ◌++◌, length, Option, Some, false, ⊤}
+use Rattle.std.specs.Prelude.{◌≡◌, ◌<◌, ◌≤◌, ◌+◌, ◌*◌, ◌⊎◌, ℕ, List, [], ◌∷◌, ◌++◌, length, All, Option, Some, false, ⊤}
 use Rattle.st_base.specs.Records.{Rec}
 use Rattle.st_block.specs.BlockText.{IsShort}
-use Rattle.st_block.specs.declared.format.TheConstants.{BLOCK_HEAD, RECORD_HEAD}
 use Rattle.st_lane.specs.Cut.{EndsList}
 use Rattle.st_lane.specs.Lane.{LaneView, Represents}
-use Rattle.st_pcap.specs.Input.{End, Whole, Refused, Input}
 use Rattle.st_pcap.specs.Reading.{PcapReaderView, HasRead, IsGoing, IsOutside}
 use Rattle.st_pcap.specs.declared.errors.PcapErr.{PcapErr}
 use Rattle.st_pcap.specs.declared.errors.PcapErr.TheVariants.{ReadFault, NoMemory}
 use Rattle.st_pcap.specs.declared.numbers.TheConstants.{RECORD_HEAD_SIZE, MAX_BODY, MAX_INPUT}
 use Rattle.st_load.specs.Causes.{Says}
+use Rattle.st_load.specs.Stopping.{IsInputEnd, StopsAfter, StopsInput}
 use Rattle.st_load.specs.declared.ends.LoadEnd.{LoadEnd}
 use Rattle.st_load.specs.declared.ends.LoadEnd.TheVariants as end
 use Rattle.st_load.specs.declared.filling.Filled.{Filled}
@@ -19,20 +18,6 @@ use Rattle.st_load.specs.declared.filling.Filled.TheVariants as filled
 -- of these bytes the reader gave these records, and what is left is to come
 abbrev pub HasReadTo : PcapReaderView → List ℕ → List Rec → Option (List ℕ) → Type 0
 HasReadTo p bytes rs left = (rest : List ℕ) × (left ≡ Some rest) × HasRead p bytes rs rest
-
--- After these records the input ends, or goes on with one that is too long for a block of this
--- size, whose number this is.
-abbrev pub StopsAfter : ℕ → List ℕ → List Rec → LoadEnd → Type 0
-StopsAfter size bytes given end.Done = Input bytes given Whole
-StopsAfter size bytes given (end.BadInput e) = Input bytes given (Refused e)
-StopsAfter size bytes given (end.TooLong number len) =
-    (r : Rec) × (later : List Rec) × (e : End) × Input bytes (given ++ r ∷ later) e
-    × (IsShort size r → ⊥) × (len ≡ length r.body) × (number ≡ length given + 1)
-StopsAfter size bytes given end.ReadFault = ⊥
-StopsAfter size bytes given end.WriteFault = ⊥
-StopsAfter size bytes given end.DiskFault = ⊥
-StopsAfter size bytes given (end.StampsSpent last) = ⊥
-StopsAfter size bytes given end.NoMemory = ⊥
 
 -- what a lane took, from this record on: nothing only if the record is too long for a block
 abbrev pub Begins : ℕ → Rec → List Rec → Type 0
@@ -55,17 +40,6 @@ Fills {T} written Before first number lane reader left (filled.Ended e) =
     × ((bytes : List ℕ) (given : List Rec) → Before bytes given → number ≡ length given + 1
     → StopsAfter lane.filling.size bytes (given ++ rs) e)
 Fills {T} written Before first number lane reader left (filled.Failed e) = ⊤
-
--- the end of an input, or a record that no block takes
-abbrev pub IsInputEnd : LoadEnd → Type 0
-IsInputEnd end.Done = ⊤
-IsInputEnd (end.BadInput e) = ⊤
-IsInputEnd (end.TooLong number len) = ⊤
-IsInputEnd end.ReadFault = ⊥
-IsInputEnd end.WriteFault = ⊥
-IsInputEnd end.DiskFault = ⊥
-IsInputEnd (end.StampsSpent last) = ⊥
-IsInputEnd end.NoMemory = ⊥
 
 -- a fault, or out of memory
 abbrev pub IsFillFault : LoadEnd → Type 0
@@ -101,3 +75,19 @@ EndsReading error (filled.Ready r) = ⊥
 EndsReading error (filled.Ended e) = (e ≡ end.BadInput error) × (IsOutside error → ⊥)
 EndsReading error (filled.Failed e) =
     ((error ≡ ReadFault) × (e ≡ end.ReadFault)) ⊎ ((error ≡ NoMemory) × (e ≡ end.NoMemory))
+
+-- Of these bytes the reader gave records that are short enough for a block of this size, and then
+-- this one, whose number this is.
+pub record HasCome (size number : ℕ) (bytes : List ℕ) (r : Rec) (reader : PcapReaderView)
+    (left : Option (List ℕ)) : Type 0 where
+  pub before : List Rec
+  pub short : All (IsShort size) before
+  pub read : HasReadTo reader bytes (before ++ r ∷ []) left
+  pub is : number ≡ length before + 1
+
+-- Whatever is known of the drafts: how far a lane has come in an input of these bytes, by the
+-- number of the record that comes next.
+abbrev pub ComesTo : ℕ → ℕ → List ℕ → PcapReaderView → Option (List ℕ) → Filled → Type 0
+ComesTo size number bytes reader left (filled.Ready r) = HasCome size number bytes r reader left
+ComesTo size number bytes reader left (filled.Ended e) = StopsInput size bytes e
+ComesTo size number bytes reader left (filled.Failed e) = ⊤

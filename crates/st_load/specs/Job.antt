@@ -1,5 +1,5 @@
 -- What a load is to do with the packets of an input.
-use Rattle.std.specs.Prelude.{◌≡◌, ◌<◌, ◌+◌, ◌-◌, ◌^◌, ℕ, List, [], ◌∷◌, ◌++◌, length, All, Option, Some}
+use Rattle.std.specs.Prelude.{◌≡◌, ◌<◌, ◌-◌, ◌^◌, ℕ, List, [], ◌∷◌, ◌++◌, length, All, Option, Some}
 use Rattle.st_base.specs.Records.{Rec}
 use Rattle.st_base.specs.Ticks.{Ticks}
 use Rattle.st_block.specs.BlockText.{IsShort}

@@ -2,6 +2,7 @@ pub mod Acts
 pub mod Job
 pub mod Loading
 pub mod Causes
+pub mod Stopping
 pub mod Lanes
 pub mod Filling
 pub mod Publishing

@@ -1,5 +1,5 @@
 -- What a load did when it ended.
-use Rattle.std.specs.Prelude.{◌≡◌, ◌≤◌, ◌+◌, ◌-◌, ◌^◌, ◌⊎◌, ℕ, List, [], ◌∷◌, ◌++◌, length, take, Option, Some, Result, Ok, Err, ⊤}
+use Rattle.std.specs.Prelude.{◌≡◌, ◌≤◌, ◌+◌, ◌-◌, ◌^◌, ℕ, List, [], ◌∷◌, ◌++◌, length, take, Option, Some, ⊤}
 use Rattle.std.specs.Io.KnownBytes.{Appends}
 use Rattle.st_base.specs.Records.{Rec}
 use Rattle.st_disk.specs.Disks.{Log}
@@ -13,7 +13,7 @@ use Rattle.st_spool.specs.Covers.{CoversInDoubt}
 use Rattle.st_spool.specs.Standing.{StandsFor, in_doubt, begun}
 use Rattle.st_spool.specs.States.{SpoolState}
 use Rattle.st_load.specs.Acts.{Act, Writes, line_text, events_of, lines_of, happen}
-use Rattle.st_load.specs.Job.{Course, Adds, AddsAll, IsJob, AreFirstLists, Takes}
+use Rattle.st_load.specs.Job.{Course, AreFirstLists, Takes}
 use Rattle.st_load.specs.declared.ends.LoadEnd.{LoadEnd}
 use Rattle.st_load.specs.declared.ends.LoadEnd.TheVariants as end
 

@@ -7,10 +7,10 @@ use Rattle.st_plan.specs.declared.jobs.LanePlan.{LanePlan}
 use Rattle.st_disk.specs.Runs.{Ran}
 use Rattle.st_spool.specs.Covers.{CoversInDoubt}
 use Rattle.st_spool.specs.Entering.{Is, IsLastStamp, FailsToEnter, flushed_log}
-use Rattle.st_spool.specs.History.{Legal}
+use Rattle.st_spool.specs.History.{Legal, set_of}
 use Rattle.st_load.specs.Acts.{Act, events_of}
 use Rattle.st_load.specs.Causes.{IsFailure}
-use Rattle.st_load.specs.Job.{Course, IsJob}
+use Rattle.st_load.specs.Job.{IsJob}
 use Rattle.st_load.specs.Loading.{AreOf, Did}
 use Rattle.st_load.specs.declared.ends.LoadEnd.{LoadEnd}
 use Rattle.st_load.specs.declared.ends.LoadEnd.TheVariants as end
@@ -35,6 +35,8 @@ pub record LoadsOpened (limit : ℕ) (layout : LanePlan) (first : Log) (known : 
   pub is : known ≡ Some log
   pub past : events log ≡ events first ++ events_of acts
   pub legal : Legal limit (Found found ∷ events_of acts)
+  -- the pairs that are read now are those of this history, also if its last event is in doubt
+  pub set : PairsIn (reads log) (set_of (Found found ∷ events_of acts))
   -- until both folders were flushed each crash leaves an image that the shelf had at first
   pub flushed : Ran first (Some (flushed_log first)) [] (Leaves first) (Is (reads first))
   -- the events came one after the other, but the last may be in doubt if the shelf failed

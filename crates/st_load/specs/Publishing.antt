@@ -1,14 +1,13 @@
 -- What publishing a pair makes of a spool.
-use Rattle.std.specs.Prelude.{◌≡◌, ◌<◌, ◌-◌, ◌^◌, ◌⊎◌, ℕ, List, [], ◌∷◌, ◌++◌, take, Option, Some, None, Result, Ok, Err, ⊤}
+use Rattle.std.specs.Prelude.{◌≡◌, ◌<◌, ◌-◌, ◌^◌, ◌⊎◌, ℕ, List, [], ◌∷◌, ◌++◌, take, Option, Result, Ok, Err}
 use Rattle.std.specs.Io.KnownBytes.{Appends}
 use Rattle.st_base.specs.Records.{Rec}
 use Rattle.st_disk.specs.Disks.{Log}
 use Rattle.st_disk.specs.Events.{Event}
-use Rattle.st_disk.specs.Pairs.{Entry, Files}
+use Rattle.st_disk.specs.Pairs.{Files}
 use Rattle.st_pairs.specs.Pairs.{IsWholePair}
 use Rattle.st_spool.specs.History.{set_of}
-use Rattle.st_spool.specs.Placing.{entry}
-use Rattle.st_spool.specs.Publishing.{next_stamp, published, FailsToPublish, Publishes, Fails, Keeps}
+use Rattle.st_spool.specs.Publishing.{FailsToPublish, Fails, Keeps}
 use Rattle.st_spool.specs.Standing.{StandsFor, in_doubt, begun}
 use Rattle.st_spool.specs.States.{SpoolState}
 use Rattle.st_load.specs.Acts.{Act, line_text, events_of, lines_of, removals, newest}

@@ -1,11 +1,11 @@
 //! A lane takes the records of an input, until it is full or the input ends.
 
-ghost use Rattle.std.specs.Prelude.{◌≡◌, ◌≤◌, ◌*◌, ◌++◌, ◌∷◌, [], ℕ, List, false};
+ghost use Rattle.std.specs.Prelude.{◌≡◌, ◌≤◌, ◌+◌, ◌*◌, ◌++◌, ◌∷◌, [], ℕ, List, false};
 ghost use Rattle.st_base.specs.Faults.{Rose};
 ghost use Rattle.st_base.specs.Records.{Rec};
 ghost use Rattle.st_lane.specs.Lane.{Represents, IsSameLane};
 ghost use Rattle.st_load.specs.Causes.{RoseJustIf};
-ghost use Rattle.st_load.specs.Filling.{HasReadTo, HasCounted, Fills, Leaves, EndsReading};
+ghost use Rattle.st_load.specs.Filling.{HasReadTo, HasCounted, HasCome, ComesTo, Fills, Leaves, EndsReading};
 ghost use Rattle.st_pcap.specs.Reading.{IsGoing};
 
 use crate::ends::LoadEnd;
@@ -54,6 +54,10 @@ pub(crate) fn fill<T: Draft, S: Source>(
     ensures fills { Represents T.written lane.old [] → Fills T.written
         (λ bytes given. HasReadTo reader.old bytes (given ++ first ∷ []) (S.left source.old))
         first number lane.new reader.new (S.left source.new) result }
+    ensures input { (bytes : List ℕ)
+        → HasCome lane.old.filling.size number bytes first reader.old (S.left source.old)
+        → ComesTo lane.old.filling.size (number + lane.new.filling.records) bytes reader.new
+        (S.left source.new) result }
     ensures leaves { Leaves number lane.new reader.old reader.new result }
     ensures lane { IsSameLane T.origin lane.old lane.new }
     // the faults

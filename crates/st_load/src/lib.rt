@@ -10,24 +10,23 @@
 //!
 //! - What was published, written and removed are the first acts of one job, in its order, and all
 //!   of them unless a fault ended the load: for each list of the cut of the input's packets a whole
-//!   pair under the next stamp, then its line, then the removals (`load`, `load_into`, clause
-//!   `job`).
+//!   pair under the next stamp, then its line, then the removals (`load`, `load_into`: `job`).
 //! - At every moment a crash leaves the pairs after some of the job's events, the first ones; at
 //!   the return those after all, but for an event in doubt if the shelf failed (clause `job`).
-//! - A fault comes only if that object's count rose (`disk`, `read`, `write`). An input is refused
-//!   only for its bytes, and a packet is too long only if no block takes it (`job`, `says`).
+//! - A fault comes only if that object's count rose (`disk`, `read`, `write`). Over any shelf an
+//!   input ends a load only at its end, its refusal or its first packet too long (`input`, `says`).
 //! - The shelf comes back on every path, with as many files lent as before (`rest`).
 //!
 //! # What it leaves to others
 //!
-//! The text of messages, and what follows an end. What happened is said where the shelf's log is
-//! known, and which packets the pairs have where the input's bytes are.
+//! The text of messages, and what follows an end. What happened to the shelf is said where its log
+//! is known, and which packets the pairs have where the input's bytes are too.
 //!
 //! # Where to read
 //!
 //! `specs/Acts.antt` has what a load does and the text of a line, `specs/Job.antt` the job,
-//! `specs/Loading.antt` what a load did by how it ended, `specs/Opening.antt` the same of a shelf.
-//! Then `loading`, `filling`, `publishing`, `lanes`.
+//! `specs/Loading.antt` what a load did by how it ended, `specs/Opening.antt` the same of a shelf,
+//! `specs/Stopping.antt` how an input ends one. Then `loading`, `filling`, `publishing`, `lanes`.
 #![tactic(auto)]
 
 mod ends;
@@ -35,6 +34,8 @@ mod filling;
 mod lanes;
 mod loading;
 mod publishing;
+#[cfg(test)]
+mod tests;
 
 pub use ends::LoadEnd;
 pub use loading::{Loaded, load, load_into};

@@ -10,8 +10,9 @@ ghost use Rattle.st_load.specs.Causes.{RoseIf, RoseJustIf, Says, EndsUnopened, E
 ghost use Rattle.st_load.specs.Filling.{HasReadTo, HasCounted};
 ghost use Rattle.st_load.specs.Job.{AddsAll, IsJob};
 ghost use Rattle.st_load.specs.Loading.{AreOf, Loads, course};
-ghost use Rattle.st_load.specs.Publishing.{Runs};
 ghost use Rattle.st_load.specs.Opening.{LoadsShelf};
+ghost use Rattle.st_load.specs.Publishing.{Runs};
+ghost use Rattle.st_load.specs.Stopping.{StopsInput};
 ghost use Rattle.st_pairs.specs.Pairs.{IsWholePair};
 ghost use Rattle.st_pcap.specs.Reading.{IsGoing};
 ghost use Rattle.st_spool.specs.Standing.{StandsFor};
@@ -81,6 +82,8 @@ fn load_pairs<D: Shelf, S: Source, O: Sink, C: Clock>(
         → AreOf layout bytes result pairs)
         result (D.log spool.old.shelf) (D.log spool.new.shelf) spool.new.state earlier h
         (C.to_come clock.new) (O.written out.old) (O.written out.new) }
+    ensures input { (bytes : List ℕ) → HasReadTo reader.old bytes (first ∷ []) (S.left source.old)
+        → StopsInput layout.size bytes result }
     ensures says { Says layout.size result }
     // the counts
     ensures disk { RoseIf (result ≡ LoadEnd.DiskFault) (D.faults spool.old.shelf)
@@ -161,6 +164,8 @@ pub fn load_into<D: Shelf, S: Source, O: Sink, C: Clock>(
         → AreOf layout bytes result pairs)
         result (D.log spool.old.shelf) (D.log spool.new.shelf) spool.new.state earlier h
         (C.to_come clock.new) (O.written out.old) (O.written out.new) }
+    ensures input { (bytes : List ℕ) → S.left source.old ≡ Some bytes
+        → StopsInput layout.size bytes result }
     ensures says { Says layout.size result }
     // the counts
     ensures disk { RoseIf (result ≡ LoadEnd.DiskFault) (D.faults spool.old.shelf)
@@ -206,6 +211,8 @@ pub fn load<D: Shelf, S: Source, O: Sink, C: Clock>(
         → LoadsShelf limit layout log (D.log result.shelf) (S.left source.old)
         (C.to_come clock.old) (C.to_come clock.new) (O.written out.old) (O.written out.new)
         result.end }
+    ensures input { (bytes : List ℕ) → S.left source.old ≡ Some bytes
+        → StopsInput layout.size bytes result.end }
     ensures says { Says layout.size result.end }
     // the counts
     ensures disk { RoseIf (result.end ≡ LoadEnd.DiskFault) (D.faults shelf)

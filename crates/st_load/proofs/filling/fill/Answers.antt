@@ -1,13 +1,13 @@
-use Rattle.std.specs.Prelude.{false, OnSome}
+use Rattle.std.specs.Prelude.{OnSome}
 use Rattle.st_block.specs.BlockText.{IsShort}
-use Rattle.std.proofs.Common.{◌≡◌, ◌≤◌, ◌*◌, ◌++◌, ◌∷◌, [], ℕ, List, ◌+◌, ◌-◌, ◌<◌, length, refl, sym, ap, ◌∙◌, subst, arith, inl, inr, ⊎_elim, Ok, Err, Some, None, Option}
+use Rattle.std.proofs.Common.{◌≤◌, ◌++◌, ◌∷◌, [], ℕ, ◌+◌, length, sym, ap, ◌∙◌, subst, arith, inr, Ok, Err, Option}
 use Rattle.st_base.specs.Records.{Rec}
-use Rattle.st_lane.specs.Lane.{LaneView, Represents, Leaves as LaneLeaves, pushed_count}
+use Rattle.st_lane.specs.Lane.{LaneView, Leaves as LaneLeaves, pushed_count}
 use Rattle.st_lane.specs.declared.errors.Pushed.{Pushed}
 use Rattle.st_lane.specs.declared.errors.LaneErr.{LaneErr}
-use Rattle.st_load.specs.Filling.{HasReadTo, Fills}
-use Rattle.st_pcap.specs.Reading.{IsGoing, Gives}
-use Rattle.st_pcap.specs.declared.errors.PcapErr.{PcapErr}
+use Rattle.st_load.specs.Filling.{HasReadTo, HasCome}
+use Rattle.st_pcap.specs.Reading.{Gives}
+use Rattle.st_load.proofs.Coming.{kept_short, come_more, long_comes, done_comes, stop_comes}
 use Rattle.st_load.proofs.Taking.{took_more, starts, ready_fills, long_fills, done_fills, kept_has, stop_fills, same_lane}
 use Rattle.st_load.proofs.filling.fill.Goals as goal
 
@@ -49,6 +49,12 @@ records-preserved g c =
           (kept_has g.T.Sink.written c.records.lane c.push.new.self took.rs c.lend.result c.records.packet c.in-Ok-Kept.field-0 c.in-Ok-Kept.field-0-is c.lend.ensures.same (c.in-Ok-Kept.ensures.records took.rs took.has))
           (λ bytes rs (rest, left, has).
           subst (λ (o : Option Rec). Gives bytes rs c.next_into.new.self (g.S.Source.left c.next_into.new.source) (Ok o)) c.in-Ok-Some.field-0-is (c.in-Ok-Some.ensures.gives bytes rest rs left has));
+      input = λ bytes first.
+          let short = subst (λ (n : ℕ). IsShort n c.records.packet) c.records.invariant.lane.2 (kept_short c.records.lane.filling.size c.lend.result c.records.packet c.in-Ok-Kept.field-0 c.in-Ok-Kept.ensures.long c.lend.ensures.same) in
+          come_more c.args.lane.now.filling.size (c.args.number + c.records.lane.filling.records) (c.args.number + c.push.new.self.filling.records) bytes c.records.packet c.in-Ok-Some.next c.records.reader c.next_into.new.self
+          (g.S.Source.left c.records.source) (g.S.Source.left c.next_into.new.source) short (omega (arith, count)) (c.records.invariant.input bytes first)
+          (λ rs (rest, left, has).
+          subst (λ (o : Option Rec). Gives bytes rs c.next_into.new.self (g.S.Source.left c.next_into.new.source) (Ok o)) c.in-Ok-Some.field-0-is (c.in-Ok-Some.ensures.gives bytes rest rs left has));
       whole = subst (λ (p : Pushed). LaneLeaves c.records.lane c.push.new.self (Ok p)) c.in-Ok-Kept.field-0-is c.in-Ok-Kept.ensures.leaves;
       going = c.in-Ok-Some.ensures.goes;
       number = (omega (arith, count, grows, c.records.invariant.number.0), c.in-Ok-Some.ensures.count.bound);
@@ -81,3 +87,36 @@ returns-in-Err-clause-fills g c = λ empty.
     let (rest, left, has) = took.read bytes given before in
     c.in-Err.ensures.gives bytes rest (given ++ all) left has)
     c.stopped.ensures
+
+pub returns-in-Ok-Ready-clause-input : goal.returns-in-Ok-Ready-clause-input
+returns-in-Ok-Ready-clause-input g c = λ bytes first.
+    let is = subst (λ (p : Pushed). LaneLeaves c.records.lane c.push.new.self (Ok p)) c.in-Ok-Ready.field-0-is c.in-Ok-Ready.ensures.leaves in
+    subst (λ (x : LaneView g.row.T.Denot). HasCome c.args.lane.now.filling.size (c.args.number + x.filling.records) bytes c.records.packet c.records.reader (g.S.Source.left c.records.source)) (sym is)
+    (c.records.invariant.input bytes first)
+
+pub returns-in-Err-TooLong-clause-input : goal.returns-in-Err-TooLong-clause-input
+returns-in-Err-TooLong-clause-input g c = λ bytes first.
+    let is = subst (λ (e : LaneErr). LaneLeaves c.records.lane c.push.new.self (Err e)) c.in-Err-TooLong.field-0-is c.in-Err-TooLong.ensures.leaves in
+    let long = c.in-Err-TooLong.ensures.long.only c.in-Err-TooLong.len (ap Err c.in-Err-TooLong.field-0-is) in
+    let here = subst (λ (r : Rec). IsShort c.records.lane.filling.size r → ⊥) c.lend.ensures.same long.0 in
+    let count = c.records-in-Err-TooLong.ensures ∙ ap (λ (x : LaneView g.row.T.Denot). x.filling.records) is in
+    long_comes c.args.lane.now.filling.size (c.args.number + c.records.lane.filling.records) (c.args.number + c.records-in-Err-TooLong.result) c.in-Err-TooLong.len bytes c.records.packet c.records.reader (g.S.Source.left c.records.source)
+    c.records.invariant.going (subst (λ (n : ℕ). IsShort n c.records.packet → ⊥) c.records.invariant.lane.2 here) (long.1 ∙ ap (λ (r : Rec). length r.body) c.lend.ensures.same)
+    (ap (λ (n : ℕ). c.args.number + n) count) (c.records.invariant.input bytes first)
+
+pub returns-in-Ok-None-clause-input : goal.returns-in-Ok-None-clause-input
+returns-in-Ok-None-clause-input g c = λ bytes first.
+    let come = c.records.invariant.input bytes first in
+    let (rest, left, has) = come.read in
+    let short = subst (λ (n : ℕ). IsShort n c.records.packet) c.records.invariant.lane.2 (kept_short c.records.lane.filling.size c.lend.result c.records.packet c.in-Ok-Kept.field-0 c.in-Ok-Kept.ensures.long c.lend.ensures.same) in
+    done_comes c.args.lane.now.filling.size (c.args.number + c.records.lane.filling.records) bytes c.records.packet c.records.reader (g.S.Source.left c.records.source) short come
+    (subst (λ (o : Option Rec). Gives bytes (come.before ++ c.records.packet ∷ []) c.next_into.new.self (g.S.Source.left c.next_into.new.source) (Ok o)) c.in-Ok-None.field-0-is
+    (c.in-Ok-None.ensures.gives bytes rest (come.before ++ c.records.packet ∷ []) left has)).0
+
+pub returns-in-Err-clause-input : goal.returns-in-Err-clause-input
+returns-in-Err-clause-input g c = λ bytes first.
+    let come = c.records.invariant.input bytes first in
+    let (rest, left, has) = come.read in
+    let short = subst (λ (n : ℕ). IsShort n c.records.packet) c.records.invariant.lane.2 (kept_short c.records.lane.filling.size c.lend.result c.records.packet c.in-Ok-Kept.field-0 c.in-Ok-Kept.ensures.long c.lend.ensures.same) in
+    stop_comes c.args.lane.now.filling.size (c.args.number + c.records.lane.filling.records) (c.args.number + c.push.new.self.filling.records) bytes c.records.packet c.records.reader c.next_into.new.self
+    (g.S.Source.left c.records.source) (g.S.Source.left c.next_into.new.source) c.in-Err.error c.stopped.result short come (c.in-Err.ensures.gives bytes rest (come.before ++ c.records.packet ∷ []) left has) c.stopped.ensures

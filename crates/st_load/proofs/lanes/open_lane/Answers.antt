@@ -1,4 +1,3 @@
-use Rattle.std.proofs.Common.{◌≡◌, Some}
 use Rattle.st_load.specs.Lanes.{KeepsSpool}
 use Rattle.st_load.proofs.Keeping.{kept_then, known_empty}
 use Rattle.st_load.proofs.lanes.open_lane.Goals as goal

@@ -1,6 +1,7 @@
-use Rattle.std.proofs.Common.{◌≡◌, refl, sym, ap, ◌∙◌, subst, inr, None}
+use Rattle.std.proofs.Common.{refl, sym, ap, subst, inr}
 use Rattle.st_spool.specs.States.{SpoolState}
 use Rattle.st_load.specs.Opening.{LoadsShelf}
+use Rattle.st_load.proofs.Coming.{failure_stops}
 use Rattle.st_load.proofs.Opened.{load_opened, unopened_fails}
 use Rattle.st_load.proofs.loading.load.Goals as goal
 
@@ -16,3 +17,6 @@ returns-clause-job g c = λ log known.
     c.load_into-end.ensures.job in
     subst (λ (x : g.row.D.Denot). LoadsShelf c.args.limit c.args.layout log (g.D.Shelf.log x) (g.S.Source.left c.args.source.now) (g.C.Clock.to_come c.args.clock.now) (g.C.Clock.to_come c.load_into-end.new.clock)
     (g.O.Sink.written c.args.out.now) (g.O.Sink.written c.load_into-end.new.out) c.load_into-end.result) (sym c.close.ensures) here
+
+pub returns-in-Err-clause-input : goal.returns-in-Err-clause-input
+returns-in-Err-clause-input g c = λ bytes left. failure_stops c.args.layout.size bytes c.unopened.result (unopened_fails _ c.unopened.result c.unopened.ensures)

@@ -1,10 +1,11 @@
-use Rattle.std.proofs.Common.{◌≡◌, ◌++◌, ◌∷◌, [], ℕ, List, Some, None, Ok, Err, Option, refl, sym, ap, ◌∙◌, subst}
+use Rattle.std.proofs.Common.{◌++◌, ◌∷◌, [], ℕ, List, Ok, Option, inl, subst}
 use Rattle.st_base.specs.Records.{Rec}
 use Rattle.st_pcap.specs.Reading.{Gives}
 use Rattle.st_spool.specs.History.{set_of}
 use Rattle.st_load.specs.Acts.{removals}
 use Rattle.st_load.specs.Filling.{HasReadTo}
 use Rattle.st_load.specs.Loading.{AreOf}
+use Rattle.st_load.proofs.Coming.{failure_stops, whole_stops, unread_stops}
 use Rattle.st_load.proofs.Starting.{fresh_read, start_fails, start_whole, start_unread, start_then}
 use Rattle.st_load.proofs.loading.load_into.Goals as goal
 
@@ -44,3 +45,21 @@ returns-in-Err-next-clause-job g c = λ log earlier h f known stands.
     (g.C.Clock.to_come c.args.clock.now) (g.S.Source.left c.args.source.now) (g.O.Sink.written c.args.out.now) a c.age_all.ensures.state.0.0 c.age_all.ensures.state.1
     c.in-Err-next.error c.unread.result c.in_default.ensures.runs c.unread.ensures
     (λ bytes left. c.in-Err-next.ensures.gives bytes bytes [] left (fresh_read c.new-reader.result bytes c.new-reader.ensures))
+
+pub returns-in-Err-clause-input : goal.returns-in-Err-clause-input
+returns-in-Err-clause-input g c = λ bytes left. failure_stops c.args.layout.size bytes c.in-Err.end (inl c.in-Err.ensures.failed)
+
+pub returns-in-Ok-Some-clause-input : goal.returns-in-Ok-Some-clause-input
+returns-in-Ok-Some-clause-input g c = λ bytes left.
+    c.load_pairs.ensures.input bytes (subst (λ (o : Option Rec). Gives bytes [] c.next.new.self (g.S.Source.left c.next.new.source) (Ok o)) c.in-Ok-Some.field-0-is
+    (c.in-Ok-Some.ensures.gives bytes bytes [] left (fresh_read c.new-reader.result bytes c.new-reader.ensures)))
+
+pub returns-in-Ok-None-clause-input : goal.returns-in-Ok-None-clause-input
+returns-in-Ok-None-clause-input g c = λ bytes left.
+    let gives = subst (λ (o : Option Rec). Gives bytes [] c.next.new.self (g.S.Source.left c.next.new.source) (Ok o)) c.in-Ok-None.field-0-is
+    (c.in-Ok-None.ensures.gives bytes bytes [] left (fresh_read c.new-reader.result bytes c.new-reader.ensures)) in
+    whole_stops c.args.layout.size bytes gives.0
+
+pub returns-in-Err-next-clause-input : goal.returns-in-Err-next-clause-input
+returns-in-Err-next-clause-input g c = λ bytes left.
+    unread_stops c.args.layout.size bytes c.in-Err-next.error c.unread.result c.unread.ensures (c.in-Err-next.ensures.gives bytes bytes [] left (fresh_read c.new-reader.result bytes c.new-reader.ensures))

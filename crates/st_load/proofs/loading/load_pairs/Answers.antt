@@ -1,7 +1,8 @@
-use Rattle.std.proofs.Common.{rules, ◌≡◌, ◌++◌, ◌∷◌, [], ℕ, List, refl, sym, ap, ◌∙◌, subst, arith}
-use Rattle.st_base.specs.Records.{Rec}
+use Rattle.std.proofs.Common.{rules, ◌+◌, ◌++◌, ℕ, refl, sym, ap, ◌∙◌, arith}
 use Rattle.st_spool.specs.States.{SpoolView}
 use Rattle.st_load.specs.Acts.{events_of}
+use Rattle.st_load.specs.declared.filling.Filled.TheVariants.{Ready, Ended}
+use Rattle.st_load.proofs.Coming.{come_first, come_at, comes_at, failure_stops, finish_stops, fault_stops}
 use Rattle.st_load.proofs.Going.{failure_fill}
 use Rattle.st_load.proofs.Rounds.{round_none, round_keeps, round_fails, round_long, round_next, round_stops, round_last, round_ends}
 use Rattle.st_load.proofs.loading.load_pairs.Goals as goal
@@ -9,6 +10,7 @@ use Rattle.st_load.proofs.loading.load_pairs.Goals as goal
 pub pairs-init : goal.pairs-init
 pairs-init g c = record {
   job = λ log earlier h f known stands. round_none c.args.spool.now.state.limit c.args.layout (g.D.Shelf.log c.args.spool.now.shelf) log c.args.spool.now.state earlier h f _ _ c.args.reader.now _ c.args.first known stands c.requires.running;
+  input = λ bytes read. come_first c.args.layout.size bytes c.args.first c.args.reader.now (g.S.Source.left c.args.source.now) read;
   runs = c.requires.running;
   state = (refl, refl);
   going = c.requires.going.0;
@@ -38,6 +40,11 @@ pairs-preserved g c = record {
       (c.fill.ensures.lane.2 ∙ c.in-Ok.ensures.new.size) (c.fill.ensures.lane.3 ∙ c.in-Ok.ensures.new.most) c.pairs.invariant.going lim
       _ c.finish.new.spool.state _ _ c.fill.new.reader (g.S.Source.left c.fill.new.source) c.in-Ready.next c.records-number.result c.records-number.ensures (c.in-Ready.ensures.fills empty)
       (λ rs has. c.in-Ok-finish.ensures.finishes s.log earlier (h ++ events_of s.acts) f rs s.is s.stands has);
+  input = λ bytes read.
+      come_at c.args.layout.size (c.pairs.number + c.fill.new.lane.filling.records) (c.pairs.number + c.records-number.result) bytes c.in-Ready.next c.fill.new.reader (g.S.Source.left c.fill.new.source)
+      (ap (λ (n : ℕ). c.pairs.number + n) (sym c.records-number.ensures))
+      (comes_at c.in-Ok.lane.filling.size c.args.layout.size c.pairs.number (c.pairs.number + c.fill.new.lane.filling.records) bytes c.pairs.first c.pairs.reader c.fill.new.reader (g.S.Source.left c.pairs.source) (g.S.Source.left c.fill.new.source)
+      (Ready c.in-Ready.next) c.in-Ok.ensures.new.size (c.in-Ready.ensures.input bytes) (c.pairs.invariant.input bytes read));
   runs = search rules;
   state = search rules;
   going = search rules;
@@ -99,3 +106,25 @@ returns-in-Failed-clause-job g c = λ log earlier h f known stands.
     let now = ap (λ (v : SpoolView g.row.D.Denot). v.state.halted) c.give_up-in-Failed.ensures.keeps.state ∙ runs in
     let s = round_keeps g.D.Shelf.log c.open_lane.new.spool c.give_up-in-Failed.new.spool _ _ _ _ earlier h f _ _ _ _ _ _ _ one runs c.give_up-in-Failed.ensures.keeps in
     round_fails _ _ _ _ earlier h f _ _ _ _ _ _ c.pairs.reader _ _ _ s c.in-Failed.end now c.pairs.invariant.going c.in-Failed.ensures.leaves
+
+pub returns-in-Err-clause-input : goal.returns-in-Err-clause-input
+returns-in-Err-clause-input g c = λ bytes read. failure_stops c.args.layout.size bytes c.in-Err.end c.in-Err.ensures.failed
+
+pub returns-in-Err-finish-clause-input : goal.returns-in-Err-finish-clause-input
+returns-in-Err-finish-clause-input g c = λ bytes read. finish_stops c.args.layout.size bytes c.in-Err-finish.end c.in-Err-finish.ensures.failed
+
+pub returns-then-records-eq0-clause-input : goal.returns-then-records-eq0-clause-input
+returns-then-records-eq0-clause-input g c = λ bytes read.
+    comes_at c.in-Ok.lane.filling.size c.args.layout.size c.pairs.number (c.pairs.number + c.fill.new.lane.filling.records) bytes c.pairs.first c.pairs.reader c.fill.new.reader (g.S.Source.left c.pairs.source) (g.S.Source.left c.fill.new.source)
+    (Ended c.in-Ended.end) c.in-Ok.ensures.new.size (c.in-Ended.ensures.input bytes) (c.pairs.invariant.input bytes read)
+
+pub returns-in-Ok-finish-2-clause-input : goal.returns-in-Ok-finish-2-clause-input
+returns-in-Ok-finish-2-clause-input g c = λ bytes read.
+    comes_at c.in-Ok.lane.filling.size c.args.layout.size c.pairs.number (c.pairs.number + c.fill.new.lane.filling.records) bytes c.pairs.first c.pairs.reader c.fill.new.reader (g.S.Source.left c.pairs.source) (g.S.Source.left c.fill.new.source)
+    (Ended c.in-Ended.end) c.in-Ok.ensures.new.size (c.in-Ended.ensures.input bytes) (c.pairs.invariant.input bytes read)
+
+pub returns-in-Err-finish-2-clause-input : goal.returns-in-Err-finish-2-clause-input
+returns-in-Err-finish-2-clause-input g c = λ bytes read. finish_stops c.args.layout.size bytes c.in-Err-finish-2.failed c.in-Err-finish-2.ensures.failed
+
+pub returns-in-Failed-clause-input : goal.returns-in-Failed-clause-input
+returns-in-Failed-clause-input g c = λ bytes read. fault_stops c.args.layout.size bytes c.in-Failed.end c.in-Failed.ensures.leaves

@@ -1,5 +1,5 @@
 use Rattle.std.specs.Prelude.{None}
-use Rattle.std.proofs.Common.{◌≡◌, ◌≤◌, ◌-◌, ◌*◌, ◌^◌, ℕ, List, [], ◌∷◌, ◌++◌, Some}
+use Rattle.std.proofs.Common.{◌≡◌, ◌≤◌, ◌-◌, ◌^◌, ℕ, List, [], ◌∷◌, Some}
 use Rattle.st_base.specs.Records.{Rec}
 use Rattle.st_disk.specs.Disks.{Log}
 use Rattle.st_disk.specs.Events.{Event}
@@ -7,7 +7,7 @@ use Rattle.st_disk.specs.Pairs.{Files}
 use Rattle.st_pairs.specs.Pairs.{IsWholePair}
 use Rattle.st_pcap.specs.Reading.{IsGoing}
 use Rattle.st_spool.specs.Standing.{StandsFor}
-use Rattle.st_load.specs.Filling.{HasReadTo, HasCounted}
+use Rattle.st_load.specs.Filling.{HasReadTo, HasCounted, HasCome}
 use Rattle.st_load.specs.Loading.{course}
 use Rattle.st_load.specs.Publishing.{Runs}
 use Rattle.st_load.proofs.Going.{SoFar}
@@ -20,6 +20,7 @@ invariant-pairs g l = record {
       (g.C.Clock.to_come l.clock) (g.O.Sink.written l.fn.out) (g.O.Sink.written l.out)
       (λ (bytes : List ℕ). HasReadTo l.fn.reader bytes (l.fn.first ∷ []) (g.S.Source.left l.fn.source))
       (λ (bytes : List ℕ) (rs : List Rec). HasReadTo l.reader bytes rs (g.S.Source.left l.source)) l.first l.number;
+  input : (bytes : List ℕ) → HasReadTo l.fn.reader bytes (l.fn.first ∷ []) (g.S.Source.left l.fn.source) → HasCome l.layout.size l.number bytes l.first l.reader (g.S.Source.left l.source);
   runs : l.spool.state.halted ≡ None;
   state : Runs l.fn.spool.state l.spool.state;
   going : IsGoing l.reader.phase;

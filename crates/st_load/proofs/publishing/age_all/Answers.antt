@@ -1,8 +1,5 @@
-use Rattle.std.proofs.Common.{◌≡◌, ◌≤◌, ◌<◌, ◌+◌, ◌-◌, ◌++◌, length, Ok, Err, Result, Bool, true, false, refl, sym, ap, ◌∙◌, subst, arith, None}
-use Rattle.st_disk.specs.Events.{Event}
-use Rattle.st_disk.specs.Pairs.{Entry, Files, files_of}
-use Rattle.st_pairs.specs.Pairs.{IsWholePair}
-use Rattle.st_spool.specs.Aging.{Removes, FailsToAge, AgesTo, aged, pair_count}
+use Rattle.std.proofs.Common.{◌++◌, Ok, Bool, refl, sym, ap, ◌∙◌, subst, arith}
+use Rattle.st_spool.specs.Aging.{AgesTo}
 use Rattle.st_spool.specs.States.{SpoolState, SpoolView}
 use Rattle.st_load.specs.Publishing.{AgesAll}
 use Rattle.st_load.proofs.Ageing.{aged_none, aged_all, aged_at, fails_at, pairs_counted, over_limit}

@@ -1,4 +1,4 @@
-use Rattle.std.proofs.Common.{◌≡◌, ◌≤◌, ◌-◌, ℕ, List, [], ◌++◌, length, None}
+use Rattle.std.proofs.Common.{◌≡◌, ◌≤◌, ◌-◌, List, length, None}
 use Rattle.st_disk.specs.Events.{Event}
 use Rattle.st_disk.specs.Pairs.{Files}
 use Rattle.st_pairs.specs.Pairs.{IsWholePair}

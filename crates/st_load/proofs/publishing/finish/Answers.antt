@@ -1,7 +1,4 @@
-use Rattle.std.proofs.Common.{◌≡◌, ◌++◌, ◌∷◌, [], refl, ◌∙◌, inr, Some}
-use Rattle.st_disk.specs.Events.{Publish}
-use Rattle.st_disk.specs.Folders.{given}
-use Rattle.st_spool.specs.Placing.{files, entry}
+use Rattle.std.proofs.Common.{refl, ◌∙◌, inr}
 use Rattle.st_load.proofs.Finishing.{whole_given}
 use Rattle.st_load.proofs.Published.{not_begun, ready_same, ready_fails, ready_lines, ready_ages}
 use Rattle.st_load.proofs.publishing.finish.Goals as goal

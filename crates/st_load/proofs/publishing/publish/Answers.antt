@@ -1,4 +1,4 @@
-use Rattle.std.proofs.Common.{◌≡◌, subst}
+use Rattle.std.proofs.Common.{subst}
 use Rattle.st_spool.specs.States.{SpoolView}
 use Rattle.st_load.specs.Lanes.{KeepsSpool}
 use Rattle.st_load.proofs.Keeping.{spent_same, fault_may}
