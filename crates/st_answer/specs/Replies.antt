@@ -103,3 +103,11 @@ AsksOnce before after old new result =
 pub record HasDiskCause {T : Type 0} (before now : ℕ) (result : Result T AnswerErr) : Type 0 where
   pub later : before ≤ now
   pub failed : IsErrOf result error.DiskFault → Rose before now
+
+-- the outlet's own failure: its count never falls; it rose if the outlet's failure ended the
+-- answer, and after every other end it stayed as it was
+pub record HasOutletCause {T : Type 0} (before now : ℕ) (result : Result T AnswerErr)
+    : Type 0 where
+  pub later : before ≤ now
+  pub rose : IsErrOf result error.WriteFault → Rose before now
+  pub still : (IsErrOf result error.WriteFault → ⊥) → now ≡ before

@@ -1,5 +1,4 @@
 ghost use Rattle.std.specs.Prelude.{Option, ◌≡◌, ◌<◌, ◌≤◌, ◌+◌, ℕ, List, Some, [], length, map, All, IfOk, IfErr, OnOk, IsErrOf, MatchResult, sum_by};
-ghost use Rattle.st_base.specs.Faults.{HasCauseOf};
 ghost use Rattle.st_disk.specs.Pairs.{Entry};
 ghost use Rattle.st_query.specs.declared.nodes.Node.{Node};
 ghost use Rattle.st_answer.specs.declared.picked.Picked.{Picked};
@@ -11,7 +10,7 @@ ghost use Rattle.st_answer.specs.Gathering.{HasFaultCause};
 ghost use Rattle.st_answer.specs.Lending.{LendsMore, LendsNone};
 ghost use Rattle.st_answer.specs.Sets.{KeepsSets, GoesOn};
 ghost use Rattle.st_answer.specs.Stores.{IsSameStore, IsSpent, StayHeld, asked};
-ghost use Rattle.st_answer.specs.Replies.{Replies, RepliesFor, Blames, BlamesIn, AsksOnce, HasDiskCause};
+ghost use Rattle.st_answer.specs.Replies.{Replies, RepliesFor, Blames, BlamesIn, AsksOnce, HasDiskCause, HasOutletCause};
 
 use crate::closing::close_all;
 use crate::errors::{AnswerErr, Told};
@@ -44,8 +43,7 @@ fn reply<F: Reader, O: Outlet>(
     ensures blames { (q : Node) (now : ℕ) (set : List Entry)
         → ArePickedOf q now set (map F.content files.old) found.items
         → IfErr result (BlamesIn set) }
-    ensures write { HasCauseOf AnswerErr.WriteFault (O.faults outlet.old)
-        (O.faults outlet.new) result }
+    ensures write { HasOutletCause (O.faults outlet.old) (O.faults outlet.new) result }
     ensures disk { IsErrOf result AnswerErr.DiskFault → 0 < sum_by F.faults files.new }
     // what the files were asked
     ensures asked { (sum_by F.reads files.new ≤ sum_by F.reads files.old + length found.items)
@@ -82,8 +80,8 @@ fn work<S: Store, O: Outlet>(
     ensures replies { RepliesFor O.after O.gone (O.state outlet.old) (O.state outlet.new)
         (record { node = query.now; now = now; limits = limits; unit = unit })
         (S.set store.old hold.now) result × Blames (S.set store.old hold.now) result }
-    ensures outlet { HasCauseOf AnswerErr.WriteFault (O.faults outlet.old)
-        (O.faults outlet.new) result × (O.beside outlet.new ≡ O.beside outlet.old) }
+    ensures outlet { HasOutletCause (O.faults outlet.old) (O.faults outlet.new) result
+        × (O.beside outlet.new ≡ O.beside outlet.old) }
     ensures cause { HasFaultCause (S.faults store.old) (S.faults store.new)
         (sum_by S.File.faults files.new.items) result }
     // what the files were asked
@@ -110,10 +108,10 @@ fn work<S: Store, O: Outlet>(
 /// packet that passes a limit. Then the file head goes out as one piece, and each packet as a piece
 /// of 16 bytes and, unless it is empty, one of its body, which is read then.
 ///
-/// `WriteFault` comes only if the outlet failed, and a part of the answer is then sent; `DiskFault`
-/// only if the store or a file of it failed. `Damaged` names a pair that isn't whole. After these
-/// and after `NoMemory` nothing is sent, or whole packets from the first on. The hold and the files
-/// are given back on every path.
+/// `WriteFault` comes only if the outlet's count of faults rose, and a part of the answer is then
+/// sent; after every other end that count stayed. `DiskFault` comes only if the store or a file of
+/// it failed. `Damaged` names a pair that isn't whole. After these and after `NoMemory` nothing is
+/// sent, or whole packets from the first on. The hold and the files are given back on every path.
 pub fn answer<S: Store, O: Outlet>(
     alloc: Global,
     store: &mut S,
@@ -128,8 +126,7 @@ pub fn answer<S: Store, O: Outlet>(
         (record { node = query.now; now = now; limits = limits; unit = unit })
         (asked (S.holds store.new)) result }
     ensures blames { Blames (asked (S.holds store.new)) result }
-    ensures write { HasCauseOf AnswerErr.WriteFault (O.faults outlet.old)
-        (O.faults outlet.new) result }
+    ensures write { HasOutletCause (O.faults outlet.old) (O.faults outlet.new) result }
     ensures disk { HasDiskCause (S.faults store.old) (S.faults store.new) result }
     // what the store was asked
     ensures asks { AsksOnce (S.holds store.old) (S.holds store.new)

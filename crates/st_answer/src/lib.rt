@@ -12,8 +12,8 @@
 //!   of the set are whole and known, and tells how many packets and bytes these are. After a
 //!   failure of the outlet a part of them was sent; after any other error nothing was, or the
 //!   pieces of a prefix of the packets.
-//! - A fault of the outlet or the disk is answered only if its count rose. `Damaged` names a pair
-//!   of the held set that isn't whole.
+//! - A fault of the outlet or the disk is answered only if its count rose, and the outlet's stays
+//!   after every other end. `Damaged` names a pair of the held set that isn't whole.
 //! - Block files are read at most twice for each packet of the whole answer, its head and its body,
 //!   on every path, also after an error.
 //! - Every path closes the files that it lent and gives its hold back.

@@ -12,7 +12,7 @@ ghost use Rattle.st_answer.specs.Packets.{IsWholePair};
 ghost use Rattle.st_answer.specs.declared.picked.Picked.{Picked};
 ghost use Rattle.st_answer.specs.Picks.{pick_of, picked_records, IsPlaced};
 ghost use Rattle.st_answer.specs.Heads.{IsReadErr, NamesStamp, Unhurt};
-ghost use Rattle.st_answer.specs.Replies.{BlamesIn};
+ghost use Rattle.st_answer.specs.Replies.{BlamesIn, HasOutletCause};
 ghost use Rattle.st_answer.specs.Sending.{SendsOne, SendsRecords, ArePickedOf, body_pieces};
 
 use crate::errors::AnswerErr;
@@ -96,8 +96,7 @@ fn send_one<F: Reader, O: Outlet>(
     ensures sends { SendsOne O.after O.gone (O.state outlet.old) (O.state outlet.new)
         (F.content file.old) unit pick result }
     ensures names { IfErr result (NamesStamp pick.stamp) }
-    ensures write { HasCauseOf AnswerErr.WriteFault (O.faults outlet.old)
-        (O.faults outlet.new) result }
+    ensures write { HasOutletCause (O.faults outlet.old) (O.faults outlet.new) result }
     ensures disk { HasCauseOf AnswerErr.DiskFault (F.faults file.old) (F.faults file.new) result }
     // what the file was asked
     ensures asked { (F.reads file.new ≤ F.reads file.old + 1)
@@ -141,8 +140,7 @@ pub fn send_records<F: Reader, O: Outlet>(
     ensures blames { (q : Node) (now : ℕ) (set : List Entry)
         → ArePickedOf q now set (map F.content files.old) picked.now
         → IfErr result (BlamesIn set) }
-    ensures write { HasCauseOf AnswerErr.WriteFault (O.faults outlet.old)
-        (O.faults outlet.new) result }
+    ensures write { HasOutletCause (O.faults outlet.old) (O.faults outlet.new) result }
     ensures disk { IsErrOf result AnswerErr.DiskFault → 0 < sum_by F.faults files.new }
     // what the files were asked
     ensures asked { (sum_by F.reads files.new ≤ sum_by F.reads files.old + length picked.now)
@@ -178,8 +176,7 @@ pub fn send_all<F: Reader, O: Outlet>(
     ensures blames { (q : Node) (now : ℕ) (set : List Entry)
         → ArePickedOf q now set (map F.content files.old) picked.now
         → IfErr result (BlamesIn set) }
-    ensures write { HasCauseOf AnswerErr.WriteFault (O.faults outlet.old)
-        (O.faults outlet.new) result }
+    ensures write { HasOutletCause (O.faults outlet.old) (O.faults outlet.new) result }
     ensures disk { IsErrOf result AnswerErr.DiskFault → 0 < sum_by F.faults files.new }
     // what the files were asked
     ensures asked { (sum_by F.reads files.new ≤ sum_by F.reads files.old + length picked.now)

@@ -28,7 +28,7 @@ use Rattle.st_answer.specs.SpoolLaws.{taken_first}
 use Rattle.st_answer.specs.Spools.{Remains}
 use Rattle.st_answer.proofs.SpoolSets.{taken_all}
 use Rattle.st_commands.specs.Commands.{HasDiskFault, HasWriteFault, KeepsPairs, EndsUnentered, IsUnentered}
-use Rattle.st_commands.specs.Queries.{Answers, MayFailToWrite}
+use Rattle.st_commands.specs.Queries.{Answers}
 use Rattle.st_commands.specs.Reports.{Reports}
 use Rattle.st_commands.specs.declared.outcomes.Outcome.{Outcome}
 use Rattle.st_commands.specs.declared.outcomes.Outcome.TheVariants.{Done, WriteFault, DiskFault, Damaged, NoMemory}
@@ -55,13 +55,6 @@ no_write n WriteFault is = absurd is
 no_write n DiskFault is = record { later = omega arith; rose = λ e. absurd (cc); still = λ other. refl }
 no_write n (Damaged s d) is = absurd is
 no_write n NoMemory is = record { later = omega arith; rose = λ e. absurd (cc); still = λ other. refl }
-
-pub no_failure : (n : ℕ) (o : Outcome) → IsUnentered o → MayFailToWrite n n o
-no_failure n Done is = absurd is
-no_failure n WriteFault is = absurd is
-no_failure n DiskFault is = record { later = omega arith; rose = λ e. absurd (cc); still = λ e. refl }
-no_failure n (Damaged s d) is = absurd is
-no_failure n NoMemory is = record { later = omega arith; rose = λ e. absurd (cc); still = λ e. refl }
 
 pub reads_none : (q : Node) (now : ℕ) (asked : Option (List Entry)) (l m : LoansView) → m ≡ l → ReadsForAnswer q now asked l m
 reads_none q now asked l m same set ps is whole answer =

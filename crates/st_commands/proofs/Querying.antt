@@ -5,19 +5,18 @@ use Rattle.std.specs.List.{fold, concat}
 use Rattle.std.specs.Io.KnownBytes.{Appends}
 use Rattle.std.proofs.lemmas.List.{append_cancel_left}
 use Rattle.std.proofs.lemmas.List.Elements.{All-contains}
-use Rattle.st_base.specs.Faults.{HasCauseOf}
 use Rattle.st_base.specs.Outlets.{SentAll, SentPart}
 use Rattle.st_base.specs.Pieces.{AppendsPrefix}
 use Rattle.st_pcap.specs.Text.{Pieces}
 use Rattle.st_pcap.proofs.Joining.{pieces_text}
 use Rattle.st_disk.specs.Pairs.{Entry}
 use Rattle.st_answer.specs.Packets as packets
-use Rattle.st_answer.specs.Replies.{Question, SendsSome, Replies, RepliesFor, Blames, HasDiskCause}
+use Rattle.st_answer.specs.Replies.{Question, SendsSome, Replies, RepliesFor, Blames, HasDiskCause, HasOutletCause}
 use Rattle.st_answer.specs.declared.errors.AnswerErr.{AnswerErr}
 use Rattle.st_answer.specs.declared.errors.AnswerErr.TheVariants as error
 use Rattle.st_answer.specs.declared.errors.Told.{Told}
-use Rattle.st_commands.specs.Commands.{HasDiskFault}
-use Rattle.st_commands.specs.Queries.{EndsWith, WritesFirst, WritesWhole, NamesHurt, MayFailToWrite}
+use Rattle.st_commands.specs.Commands.{HasDiskFault, HasWriteFault}
+use Rattle.st_commands.specs.Queries.{EndsWith, WritesFirst, WritesWhole, NamesHurt}
 use Rattle.st_commands.specs.declared.outcomes.Outcome.{Outcome}
 
 abbrev pub joined : List ℕ → List ℕ → List ℕ
@@ -80,12 +79,12 @@ disk_ends before now (Err error.DiskFault) o ends cause = record { later = cause
 disk_ends before now (Err (error.Damaged stamp d)) o ends cause = record { later = cause.later; rose = λ is. absurd (cc) }
 disk_ends before now (Err error.NoMemory) o ends cause = record { later = cause.later; rose = λ is. absurd (cc) }
 
-pub write_ends : (before now : ℕ) (r : Result Told AnswerErr) (o : Outcome) → EndsWith r o → HasCauseOf error.WriteFault before now r → MayFailToWrite before now o
-write_ends before now (Ok told) o ends cause = record { later = cause.later; rose = λ is. absurd (cc); still = λ is. cause.still }
-write_ends before now (Err error.WriteFault) o ends cause = record { later = cause.later; rose = λ is. cause.failed refl; still = λ is. absurd (cc) }
-write_ends before now (Err error.DiskFault) o ends cause = record { later = cause.later; rose = λ is. absurd (cc); still = λ is. absurd (cc) }
-write_ends before now (Err (error.Damaged stamp d)) o ends cause = record { later = cause.later; rose = λ is. absurd (cc); still = λ is. absurd (cc) }
-write_ends before now (Err error.NoMemory) o ends cause = record { later = cause.later; rose = λ is. absurd (cc); still = λ is. absurd (cc) }
+pub write_ends : (before now : ℕ) (r : Result Told AnswerErr) (o : Outcome) → EndsWith r o → HasOutletCause before now r → HasWriteFault before now o
+write_ends before now (Ok told) o ends cause = record { later = cause.later; rose = λ is. absurd (cc); still = λ other. cause.still (λ is. cc) }
+write_ends before now (Err error.WriteFault) o ends cause = record { later = cause.later; rose = λ is. cause.rose refl; still = λ other. absurd (other ends) }
+write_ends before now (Err error.DiskFault) o ends cause = record { later = cause.later; rose = λ is. absurd (cc); still = λ other. cause.still (λ is. cc) }
+write_ends before now (Err (error.Damaged stamp d)) o ends cause = record { later = cause.later; rose = λ is. absurd (cc); still = λ other. cause.still (λ is. cc) }
+write_ends before now (Err error.NoMemory) o ends cause = record { later = cause.later; rose = λ is. absurd (cc); still = λ other. cause.still (λ is. cc) }
 
 -- the same over an output that is known otherwise
 pub replies_at : (q : Question) (asked : Option (List Entry)) (r : Result Told AnswerErr) (old new old' new' : Option (List ℕ)) → old' ≡ old → new' ≡ new

@@ -1,7 +1,6 @@
 -- What a query writes of the pairs of a file set, and how it ends.
-use Rattle.std.specs.Prelude.{◌≡◌, ◌≤◌, ◌⊎◌, ℕ, List, take, Option, Result, Ok, Err, Contains}
+use Rattle.std.specs.Prelude.{◌≡◌, ◌⊎◌, ℕ, List, take, Option, Result, Ok, Err, Contains}
 use Rattle.std.specs.Io.KnownBytes.{Appends}
-use Rattle.st_base.specs.Faults.{Rose}
 use Rattle.st_base.specs.Pieces.{AppendsPrefix}
 use Rattle.st_base.specs.Records.{Rec}
 use Rattle.st_disk.specs.Pairs.{Entry}
@@ -61,9 +60,3 @@ pub record Answers (q : Question) (pairs : List Entry) (old new : Option (List �
     (outcome : Outcome) : Type 0 where
   pub writes : IsWholeSet pairs → WritesWhole q pairs old new outcome
   pub hurt : NamesHurt pairs outcome
-
--- an output's count never falls; it rose if writing failed, and stayed if all is written
-pub record MayFailToWrite (before now : ℕ) (outcome : Outcome) : Type 0 where
-  pub later : before ≤ now
-  pub rose : outcome ≡ WriteFault → Rose before now
-  pub still : outcome ≡ Done → now ≡ before

@@ -26,8 +26,9 @@
 //! - `Damaged` names a pair that is there and is not whole (`answers`, `damaged_is_hurt`), and a
 //!   check ends `Done` only if each pair is whole (`done_is_whole`).
 //!
-//! `DiskFault` and `WriteFault` come only with their cause (`disk`, `write`). All files that were
-//! lent come back (`loans`).
+//! `DiskFault` and `WriteFault` come only with their cause, and after every other end than
+//! `WriteFault` the output's count of faults stayed (`disk`, `write`). All files that were lent come
+//! back (`loans`).
 //!
 //! # Where to read
 //!

@@ -2,15 +2,14 @@
 //! gives the shelf back.
 
 ghost use Rattle.std.specs.Prelude.{◌≡◌, ◌++◌, List, ℕ, Some};
-ghost use Rattle.st_base.specs.Faults.{HasCauseOf};
 ghost use Rattle.st_disk.specs.Disks.{Log, reads};
 ghost use Rattle.st_disk.specs.Pairs.{Entry, PairsIn};
 ghost use Rattle.st_answer.specs.Bounds.{ReadsForAnswer};
 ghost use Rattle.st_answer.specs.Lending.{LendsNone};
-ghost use Rattle.st_answer.specs.Replies.{RepliesFor, Blames, AsksOnce, HasDiskCause};
+ghost use Rattle.st_answer.specs.Replies.{RepliesFor, Blames, AsksOnce, HasDiskCause, HasOutletCause};
 ghost use Rattle.st_answer.specs.Stores.{IsSpent, StayHeld, asked};
-ghost use Rattle.st_commands.specs.Commands.{HasDiskFault, KeepsPairs};
-ghost use Rattle.st_commands.specs.Queries.{EndsWith, Answers, MayFailToWrite};
+ghost use Rattle.st_commands.specs.Commands.{HasDiskFault, HasWriteFault, KeepsPairs};
+ghost use Rattle.st_commands.specs.Queries.{EndsWith, Answers};
 
 use crate::commands::{Ended, entered};
 use crate::outcomes::Outcome;
@@ -37,7 +36,7 @@ fn answer_into<S: Store, O: Sink>(
         (record { node = query.now; now = now; limits = limits; unit = unit })
         (asked (S.holds store.new)) result }
     ensures blames { Blames (asked (S.holds store.new)) result }
-    ensures write { HasCauseOf AnswerErr.WriteFault (O.faults out.old) (O.faults out.new) result }
+    ensures write { HasOutletCause (O.faults out.old) (O.faults out.new) result }
     ensures disk { HasDiskCause (S.faults store.old) (S.faults store.new) result }
     // what the store was asked
     ensures asks { AsksOnce (S.holds store.old) (S.holds store.new)
@@ -73,9 +72,10 @@ fn outcome_of(told: Result<Told, AnswerErr>) -> Outcome
 /// position, each once, up to the first packet that passes a limit.
 ///
 /// If it ends `Done` and each pair is whole, `out` gained exactly this pcap. `WriteFault` comes
-/// only if the output's count of faults rose, and a prefix of the pcap is then written. `DiskFault`
-/// comes only if the shelf's count rose; after it and after `NoMemory` nothing is written, or whole
-/// packets from the first on. `Damaged` names a pair that is not whole. No pair is changed.
+/// only if the output's count of faults rose, and a prefix of the pcap is then written; after every
+/// other end that count stayed. `DiskFault` comes only if the shelf's count rose; after it and
+/// after `NoMemory` nothing is written, or whole packets from the first on. `Damaged` names a pair
+/// that is not whole. No pair is changed.
 pub fn query<D: Shelf, O: Sink>(
     alloc: Global,
     shelf: D,
@@ -95,7 +95,7 @@ pub fn query<D: Shelf, O: Sink>(
 
     // When it ends in a fault.
     ensures disk { HasDiskFault (D.faults shelf) (D.faults result.shelf) result.outcome }
-    ensures write { MayFailToWrite (O.faults out.old) (O.faults out.new) result.outcome }
+    ensures write { HasWriteFault (O.faults out.old) (O.faults out.new) result.outcome }
 
     // How much of the block files is read.
     ensures reads { (first : Log) (pairs : List Entry) → D.log shelf ≡ Some first

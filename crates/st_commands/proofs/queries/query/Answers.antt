@@ -17,7 +17,7 @@ use Rattle.st_answer.proofs.SpoolHolds.{none_out}
 use Rattle.st_pairs.specs.Pairs.{IsWholePair}
 use Rattle.st_commands.specs.Commands.{KeepsPairs, HasDiskFault}
 use Rattle.st_commands.proofs.Commanding.{stays_clear, keeps_pairs}
-use Rattle.st_commands.proofs.Opening.{no_answer, no_failure, reads_none, lends_none, took_so, asks_found}
+use Rattle.st_commands.proofs.Opening.{no_answer, no_write, reads_none, lends_none, took_so, asks_found}
 use Rattle.st_commands.proofs.Querying.{writes_whole, names_hurt, disk_ends, write_ends}
 use Rattle.st_commands.proofs.Staying.{kept_none}
 use Rattle.st_commands.proofs.queries.query.Goals as goal
@@ -30,7 +30,7 @@ pub returns-in-Err-clause-images : goal.returns-in-Err-clause-images
 returns-in-Err-clause-images g c first known = c.in-Err.ensures.opens first known
 
 pub returns-in-Err-clause-write : goal.returns-in-Err-clause-write
-returns-in-Err-clause-write g c = no_failure (g.O.Sink.faults c.args.out.now) c.in-Err.ended.outcome c.in-Err.ensures.ended.1
+returns-in-Err-clause-write g c = no_write (g.O.Sink.faults c.args.out.now) c.in-Err.ended.outcome c.in-Err.ensures.ended.1
 
 pub returns-in-Err-clause-reads : goal.returns-in-Err-clause-reads
 returns-in-Err-clause-reads g c first pairs known given =
