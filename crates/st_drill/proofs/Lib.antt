@@ -1,3 +1,9 @@
 pub mod Joining
 pub mod Packets
-pub mod Asking
+pub mod Spelled
+pub mod Replied
+pub mod Lines
+pub mod Unloaded
+pub mod Wholes
+pub mod Summed
+pub mod OverShelf

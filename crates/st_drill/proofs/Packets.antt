@@ -11,7 +11,8 @@ use Rattle.st_pcap.specs.Laws.{IsShort}
 use Rattle.st_pcap.specs.Text.{file_head, record_text, cut_to}
 use Rattle.st_pcap.proofs.RoundTrip.{text_is_input}
 use Rattle.st_pcap.proofs.Writing.{length-record_text}
-use Rattle.st_drill.specs.declared.numbers.TheConstants.{FRAME_SIZE, MAX_PACKETS}
+use Rattle.st_drill.specs.declared.numbers.TheConstants.{FRAME_SIZE}
+use Rattle.st_plan.specs.declared.limits.TheConstants.{MAX_PACKETS}
 use Rattle.st_drill.specs.Packets.{frame, packet, packets_from, packets, input}
 use Rattle.st_drill.specs.Laws.{IsWholeInput, HasCount, AreNumbered, AreFrames}
 

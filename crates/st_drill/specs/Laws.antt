@@ -2,7 +2,8 @@
 use Rattle.std.specs.Prelude.{◌≡◌, ◌≤◌, ◌<◌, ℕ, length, All, slice_index_or}
 use Rattle.st_base.specs.Records.{Rec, InRange}
 use Rattle.st_pcap.specs.Input.{Input, Whole}
-use Rattle.st_drill.specs.declared.numbers.TheConstants.{FRAME_SIZE, MAX_PACKETS}
+use Rattle.st_drill.specs.declared.numbers.TheConstants.{FRAME_SIZE}
+use Rattle.st_plan.specs.declared.limits.TheConstants.{MAX_PACKETS}
 use Rattle.st_drill.specs.Packets.{packet, packets, input}
 
 -- the input of a drill is a whole input of its packets

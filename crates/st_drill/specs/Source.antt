@@ -4,7 +4,8 @@ use Rattle.std.specs.List.{flat_map}
 use Rattle.st_pcap.specs.declared.forms.Unit.TheVariants.{Nano}
 use Rattle.st_pcap.specs.Text.{record_text}
 use Rattle.st_drill.specs.declared.source.Maker.{Maker}
-use Rattle.st_drill.specs.declared.numbers.TheConstants.{MAX_PACKETS, RECORD_SIZE}
+use Rattle.st_drill.specs.declared.numbers.TheConstants.{RECORD_SIZE}
+use Rattle.st_plan.specs.declared.limits.TheConstants.{MAX_PACKETS}
 use Rattle.st_drill.specs.Packets.{packets_from}
 
 -- the records of this many packets, from this number on

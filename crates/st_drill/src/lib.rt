@@ -2,7 +2,8 @@
 //!
 //! Packet k, counted from 0, has 64 bytes, of which protocol, addresses and ports depend on k;
 //! there is one every ten milliseconds from 2001-09-09T01:46:40Z on. The packets come as a pcap in
-//! nanoseconds, at most 1,000,000 of them. All of it is ours: docs/FORMAT.md, "Drill".
+//! nanoseconds, at most 1,000,000 of them. They are loaded into a spool, and the queries asked over
+//! all of its pairs. All of it is ours: docs/FORMAT.md, "Drill".
 //!
 //! # What it promises
 //!
@@ -11,26 +12,39 @@
 //! - That pcap is a whole input of these packets, as many as were asked for, in the order of their
 //!   numbers (`laws`).
 //! - Each query of a drill is the one that its text spells (`Question::query`, `Question::text`).
+//! - A drill loads its packets as a load of that pcap does, then asks, then writes. Its summary
+//!   has the number of pairs that it published, and the counts of the answers over the spool's file
+//!   set, if the pairs that were found are whole; nothing is written before (`drill`, `job`).
+//! - A fault comes only if that object's count rose (`disk`, `write`); the shelf comes back, with
+//!   no more files lent (`rest`).
 //!
 //! # What it leaves to others
 //!
-//! How a pcap is loaded, and how a query is answered.
+//! How a pcap is loaded, and how a query is answered. What happened is said where the shelf's log
+//! is known.
 //!
 //! # Where to read
 //!
 //! `specs/Packets.antt` says what the packets are, `specs/Questions.antt` which queries are asked,
-//! `specs/Source.antt` what a source has still to give. The numbers of the format are in `numbers`.
+//! `specs/Summary.antt` what is written, `specs/Drilling.antt` what a drill makes of a shelf. Then
+//! `drilling`, `asking`, `source`. The numbers of the format are in `numbers`.
 #![tactic(auto)]
 
+mod asking;
+mod drilling;
+mod ends;
 mod frame;
 pub mod laws;
 mod numbers;
 mod questions;
 mod source;
+mod summary;
 #[cfg(test)]
 mod tests;
 
+pub use drilling::{Drilled, drill};
+pub use ends::DrillEnd;
 pub use frame::frame_of;
-pub use numbers::MAX_PACKETS;
 pub use questions::Question;
 pub use source::DrillSource;
+pub use summary::Answers;

@@ -1,9 +1,6 @@
 //! The numbers of the packets that a drill makes, as docs/FORMAT.md lists them under "Drill". Sizes
 //! and offsets are in bytes. All of them are ours.
 
-/// How many packets a drill makes at most.
-pub const MAX_PACKETS: u32 = 1_000_000;
-
 /// The second of the first packet, since 1970: 2001-09-09T01:46:40Z.
 pub const FIRST_SECOND: u32 = 1_000_000_000;
 
@@ -94,3 +91,15 @@ pub const NEAR_BITS: u8 = 25;
 
 /// The second that two queries part the packets at: 2001-09-09T01:48:20Z.
 pub const MIDDLE_SECOND: u32 = 1_000_000_100;
+
+/// The greatest number of packets and of captured bytes of an answer: as many as there are.
+pub const NO_LIMIT: u64 = u64::MAX;
+
+/// The size of the blocks that the packets are loaded into.
+pub const BLOCK_SIZE: u32 = 65_536;
+
+/// How many blocks a block file has at most.
+pub const BLOCKS: u32 = 16;
+
+/// The byte that ends a line.
+pub const LINE_FEED: u8 = 10;

@@ -9,11 +9,10 @@ ghost use Rattle.st_drill.specs.Packets.{packet, input};
 ghost use Rattle.st_drill.specs.Source.{to_come, IsSoundMaker};
 
 use crate::frame::frame_of;
-use crate::numbers::{
-    FIRST_SECOND, FRAME_SIZE, MAX_PACKETS, NANOS_APART, RECORD_SIZE, SECOND_PACKETS,
-};
+use crate::numbers::{FIRST_SECOND, FRAME_SIZE, NANOS_APART, RECORD_SIZE, SECOND_PACKETS};
 use st_base::{Failed, RecordRef, Source};
 use st_pcap::{FILE_HEAD_SIZE, RECORD_HEAD_SIZE, Unit, file_head, record_head};
+use st_plan::MAX_PACKETS;
 use std::marker::Model;
 
 // A record's head, and its body after it.

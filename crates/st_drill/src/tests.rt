@@ -1,10 +1,11 @@
 //! The packets of drills. Expected bytes, sums and counts are those of `tests/drill.py`, which
 //! makes the packets from docs/FORMAT.md.
 
-use crate::{DrillSource, Question};
-use st_base::Source;
+use crate::{DrillEnd, DrillSource, Drilled, Question, drill};
+use st_base::{MemClock, MemSink, Source};
 use st_pcap::PcapReader;
 use st_query::matches;
+use st_shelf::MemShelf;
 use std::alloc::Global;
 use std::test::Fail;
 
@@ -52,13 +53,13 @@ fn the_input_has_the_sum_of_another_generator(rt: HostRuntime) -> Result<(), Fai
     Ok(())
 }
 
-// How many of 20,000 packets match.
+// How many of 10,100 packets match.
 fn matching(alloc: Global, question: Question) -> Result<u32, Fail> {
     let query = question.query(alloc)?;
-    let mut source = DrillSource::new(20_000);
+    let mut source = DrillSource::new(10_100);
     let mut reader = PcapReader::new();
     let mut found: u32 = 0;
-    for _ in 0..20_001 {
+    for _ in 0..10_101 {
         if let Some(packet) = reader.next(alloc, &mut source)? {
             if matches(&query, 0, packet.lend()) {
                 found = found.wrapping_add(1);
@@ -71,9 +72,36 @@ fn matching(alloc: Global, question: Question) -> Result<u32, Fail> {
 #[test]
 fn queries_match_as_many_packets_as_counted_by_hand(rt: HostRuntime) -> Result<(), Fail> {
     let alloc = rt.alloc();
-    assert_eq!(rt; matching(alloc, Question::Dns)?, 2_000);
+    assert_eq!(rt; matching(alloc, Question::Dns)?, 1_010);
     assert_eq!(rt; matching(alloc, Question::NearTcp)?, 64);
     assert_eq!(rt; matching(alloc, Question::Early)?, 10_000);
-    assert_eq!(rt; matching(alloc, Question::Late)?, 10_000);
+    assert_eq!(rt; matching(alloc, Question::Late)?, 100);
+    Ok(())
+}
+
+// The summary of 300 packets, and that of as many again over the same shelf.
+const ONCE: &[u8] = b"drill 300\npairs 1\nport 53: 30 packets 2424 bytes\n\
+ip proto 6 and net 10.0.0.0/25: 64 packets 5144 bytes\n\
+before 2001-09-09T01:48:20Z: 300 packets 24024 bytes\n\
+after 2001-09-09T01:48:20Z: 0 packets 24 bytes\n";
+
+const TWICE: &[u8] = b"drill 300\npairs 1\nport 53: 60 packets 4824 bytes\n\
+ip proto 6 and net 10.0.0.0/25: 128 packets 10264 bytes\n\
+before 2001-09-09T01:48:20Z: 600 packets 48024 bytes\n\
+after 2001-09-09T01:48:20Z: 0 packets 24 bytes\n";
+
+#[test]
+fn a_second_drill_counts_the_first_ones_packets(rt: HostRuntime) -> Result<(), Fail> {
+    let alloc = rt.alloc();
+    let mut clock = MemClock::over(alloc, &[])?;
+    let mut out = MemSink::new(alloc, &[])?;
+    let mut again = MemSink::new(alloc, &[])?;
+    let Drilled { end, shelf } = drill(alloc, MemShelf::empty(alloc), 300, &mut out, &mut clock);
+    let Drilled { end: second, shelf } = drill(alloc, shelf, 300, &mut again, &mut clock);
+    let _kept = shelf;
+    assert_eq!(rt; end, DrillEnd::Done);
+    assert_eq!(rt; out.bytes(), ONCE);
+    assert_eq!(rt; second, DrillEnd::Done);
+    assert_eq!(rt; again.bytes(), TWICE);
     Ok(())
 }

@@ -1,5 +1,5 @@
 use Rattle.std.proofs.Common.{◌∙◌}
-use Rattle.st_drill.proofs.Asking.{reads_tree, reads_memory}
+use Rattle.st_drill.proofs.Spelled.{reads_tree, reads_memory}
 use Rattle.st_drill.proofs.questions.Question.parsed.Goals as goal
 
 pub returns : goal.returns

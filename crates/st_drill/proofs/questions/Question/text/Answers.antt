@@ -1,5 +1,5 @@
 use Rattle.st_drill.specs.declared.questions.Question.TheVariants.{Dns, NearTcp, Early, Late}
-use Rattle.st_drill.proofs.Asking.{text_printed}
+use Rattle.st_drill.proofs.Spelled.{text_printed}
 use Rattle.st_drill.proofs.questions.Question.text.Goals as goal
 
 pub returns-in-Dns : goal.returns-in-Dns

@@ -1,0 +1,54 @@
+//! The text that a drill writes once all is done.
+ghost use Rattle.std.specs.Prelude.{◌≡◌, IfOk, string_bytes};
+ghost use Rattle.st_drill.specs.Summary.{head_lines, question_line, summary_text};
+
+use crate::questions::Question;
+use st_answer::Told;
+use std::alloc::{AllocError, Global};
+
+/// The numbers of the answers to the four queries.
+#[derive(Clone, Copy, Debug, PartialEq, Eq)]
+pub struct Answers {
+    pub dns: Told,
+    pub near_tcp: Told,
+    pub early: Told,
+    pub late: Told,
+}
+
+// The line of a query with these numbers, without its end.
+#[tactic(auto, unfolding(crate::specs::Summary::question_line))]
+fn line(alloc: Global, question: Question, told: Told) -> Result<String, AllocError>
+    ensures { IfOk result (λ t. string_bytes t ≡ question_line question told) }
+{
+    let text = question.text();
+    let packets = told.packets;
+    let bytes = told.bytes;
+    format!(in alloc; "{text}: {packets} packets {bytes} bytes")
+}
+
+// The first two lines of a summary.
+#[tactic(auto, unfolding(crate::specs::Summary::head_lines))]
+fn head(alloc: Global, packets: u32, pairs: u64) -> Result<String, AllocError>
+    ensures { IfOk result (λ t. string_bytes t ≡ head_lines packets pairs) }
+{
+    format!(in alloc; "drill {packets}\npairs {pairs}\n")
+}
+
+/// The summary of a drill of this many packets, which published this many pairs.
+///
+/// Source: docs/FORMAT.md, "Drill".
+pub fn summary(
+    alloc: Global,
+    packets: u32,
+    pairs: u64,
+    answers: Answers,
+) -> Result<String, AllocError>
+    ensures { IfOk result (λ t. string_bytes t ≡ summary_text packets pairs answers) }
+{
+    let head = head(alloc, packets, pairs)?;
+    let dns = line(alloc, Question::Dns, answers.dns)?;
+    let near_tcp = line(alloc, Question::NearTcp, answers.near_tcp)?;
+    let early = line(alloc, Question::Early, answers.early)?;
+    let late = line(alloc, Question::Late, answers.late)?;
+    format!(in alloc; "{head}{dns}\n{near_tcp}\n{early}\n{late}\n")
+}
