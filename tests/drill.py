@@ -2,14 +2,20 @@
 """Makes the packets of `steno drill` once more, from docs/FORMAT.md alone, and compares.
 
 The packets are made as text in hexadecimal, and read back from their bytes, field by field, by the
-queries. The last line is 'N passed, M failed'; the status is 0 if none failed.
+queries. Then the program drills a folder twice, and folders that it can't drill. The last line is
+'N passed, M failed'; the status is 0 if none failed.
 """
 import ipaddress
+import pathlib
 import struct
+import subprocess
 import sys
+import tempfile
 
 from report import report
 
+STENO = pathlib.Path(__file__).resolve().parent.parent / "steno"
+SECONDS = 300
 FIRST, MIDDLE = 1000000000, 1000000100
 NEAR = ipaddress.ip_network("10.0.0.0/25")
 
@@ -107,5 +113,58 @@ def cases():
     yield "the counts of a second one", twice == TWICE, twice
 
 
+def steno(*arguments):
+    """Status, standard output, standard error."""
+    done = subprocess.run([STENO, *map(str, arguments)], stdin=subprocess.DEVNULL, capture_output=True, text=True,
+                          timeout=SECONDS)
+    return done.returncode, done.stdout, done.stderr
+
+
+def made_files(folder):
+    """The files of a spool that the program made, of each name the text."""
+    return {path.relative_to(folder): path.read_bytes() for path in folder.rglob("*") if path.is_file()}
+
+
+def damage_summary(folder):
+    """Makes the first pair's index name another number of packets; gives its stamp."""
+    index = min(path for path in (folder / "IDX0").iterdir() if len(path.name) == 16)
+    text = bytearray(index.read_bytes())
+    text[8] ^= 1
+    index.write_bytes(text)
+    return int(index.name, 16)
+
+
+def runs(folder):
+    spool = folder / "spool"
+    subprocess.run([STENO], stdin=subprocess.DEVNULL, capture_output=True)  # builds the program if need be
+    for name, wanted in ("one drill", ONCE), ("a second one, over the pairs of both", TWICE):
+        seen = steno("drill", spool, 20000)
+        yield f"the program writes the summary of {name}", seen == (0, wanted, ""), seen
+    status, lines, _ = steno("list", spool)
+    counts = [int(line.split()[1]) for line in lines.splitlines()]
+    yield "each drill made three pairs", (status, counts) == (0, [9344, 9344, 1312] * 2), lines
+    for count in "0", "1000001", "x":
+        seen = steno("drill", folder / "none", count)
+        yield f"no drill of {count} packets", (seen[0], seen[1]) == (2, "") and not (folder / "none").exists(), seen
+    place = folder / "place"
+    place.write_text("")
+    seen = steno("drill", place, 1)
+    yield "no drill in a file", seen[:2] == (7, "") and seen[2].startswith("steno: the spool failed\n"), seen
+    stamp = damage_summary(spool)
+    before = made_files(spool)
+    seen = steno("drill", spool, 1)
+    named = seen[2].startswith(f"steno: pair {stamp} is damaged at ")
+    yield "a damaged pair ends a drill, and nothing is written", seen[:2] == (8, "") and named, seen
+    after = made_files(spool)
+    yield "what was there stays", all(after.get(name) == text for name, text in before.items()), len(after)
+    yield "and so does the pair that was made", len(after) == len(before) + 2, len(after)
+
+
+def all_cases():
+    yield from cases()
+    with tempfile.TemporaryDirectory() as folder:
+        yield from runs(pathlib.Path(folder))
+
+
 if __name__ == "__main__":
-    sys.exit(report(cases()))
+    sys.exit(report(all_cases()))

@@ -6,7 +6,7 @@ _steno_options() {
   case $1 in
   once | query) echo '--ns --packets --bytes' ;;
   load) echo '--block --blocks --limit' ;;
-  list | check) ;;
+  list | check | drill) ;;
   *) echo '--ns --packets --bytes --block --blocks --limit' ;;
   esac
 }
@@ -108,12 +108,13 @@ _steno() {
     return
   fi
   case $command,${#operands[@]} in
-  ,0) COMPREPLY=($(compgen -W 'once load query list check' -- "$cur")) ;;
+  ,0) COMPREPLY=($(compgen -W 'once load query list check drill' -- "$cur")) ;;
   once,1 | query,2) _steno_query "$cur" ;;
-  load,1 | query,1 | list,1 | check,1)
+  load,1 | query,1 | list,1 | check,1 | drill,1)
     compopt -o filenames 2>/dev/null
     mapfile -t COMPREPLY < <(compgen -d -- "$cur")
     ;;
+  drill,2) COMPREPLY=($(compgen -W "$(_steno_values N)" -- "$cur")) ;;
   esac
 }
 

@@ -3,6 +3,7 @@ pub mod Asked
 pub mod Asking
 pub mod AtEnd
 pub mod Buffers
+pub mod Drilled
 pub mod Limits
 pub mod Loaded
 pub mod Planning

@@ -1,78 +1,88 @@
 -- From how a load ended to how the run ends.
-use Rattle.std.proofs.Common.{◌≡◌, ◌⊎◌, ℕ, List, [], ◌∷◌, ◌++◌, All, Contains, refl, sym, ap, subst, ◌∙◌, inl, inr, arith}
+use Rattle.std.proofs.Common.{◌≡◌, ◌⊎◌, ℕ, List, [], ◌∷◌, ◌++◌, All, Contains, sym, subst, inl, inr, arith}
 use Rattle.std.proofs.lemmas.List.Elements.{All-contains, Contains-append_right, Contains-get_or}
 use Rattle.st_base.specs.Records.{Rec}
 use Rattle.st_block.specs.BlockText.{IsShort}
 use Rattle.st_pcap.specs.declared.errors.PcapErr.{PcapErr}
-use Rattle.st_pcap.specs.Input.{Input, Whole, Refused}
+use Rattle.st_pcap.specs.Input.{End, Input, Whole, Refused}
 use Rattle.st_pcap.proofs.Uniqueness.{one_input}
 use Rattle.st_plan.specs.Jobs.{LoadPlan}
-use Rattle.st_plan.specs.declared.jobs.LanePlan.{LanePlan}
-use Rattle.st_load.specs.Loading.{AreOf, EndsInput}
-use Rattle.st_load.specs.Job.{BeginsLong}
+use Rattle.st_load.specs.Stopping.{StopsInput}
 use Rattle.st_load.specs.declared.ends.LoadEnd.{LoadEnd}
 use Rattle.st_load.specs.declared.ends.LoadEnd.TheVariants as end
 use Rattle.steno.specs.declared.status.Status.{Status}
 use Rattle.steno.specs.declared.status.Status.TheVariants.{Done, BadInput, ReadFault, WriteFault, DiskFault, NoMemory, StampsSpent}
 use Rattle.steno.specs.Causes.{Counts, HasCauses, NoneRose}
-use Rattle.steno.specs.Loading.{LoadsPairs, LoadsUnfailed, SaysLoad}
+use Rattle.steno.specs.Loading.{IsTaken, LoadsPairs, LoadsUnfailed, SaysLoad}
 use Rattle.steno.specs.Scenes.{Scene}
 use Rattle.steno.specs.Statuses.{Ends}
 
--- a load that was not refused and that no fault ends
-well : (size : ℕ) (e : LoadEnd) (status : Status) (message : List ℕ) → SaysLoad size e status message
-    → (status ≡ ReadFault → ⊥) → (status ≡ WriteFault → ⊥) → (status ≡ DiskFault → ⊥) → ((cause : PcapErr) → e ≡ end.BadInput cause → ⊥)
-    → ((number len : ℕ) → e ≡ end.TooLong number len → ⊥) → Ends Done status ⊎ (status ≡ StampsSpent)
-well size end.Done status message says read write disk bad long = inl (inl says.0)
-well size (end.BadInput cause) status message says read write disk bad long = absurd (bad cause refl)
-well size (end.TooLong number len) status message says read write disk bad long = absurd (long number len refl)
-well size end.ReadFault status message says read write disk bad long = absurd (read says.0)
-well size end.WriteFault status message says read write disk bad long = absurd (write says.0)
-well size end.DiskFault status message says read write disk bad long = absurd (disk says.0)
-well size (end.StampsSpent last) status message (inl says) read write disk bad long = inr says.0
-well size (end.StampsSpent last) status message (inr says) read write disk bad long = inl (inr says.0)
-well size end.NoMemory status message says read write disk bad long = inl (inr says.0)
+-- a load that no fault ends
+pub record Unfailed (status : Status) : Type 0 where
+  pub read : status ≡ ReadFault → ⊥
+  pub write : status ≡ WriteFault → ⊥
+  pub disk : status ≡ DiskFault → ⊥
+
+unfailed : (before after : Counts) (status : Status) → HasCauses before after status → NoneRose before after → Unfailed status
+unfailed before after status cause none = record { read = λ e. none.input (cause.read e); write = λ e. none.output (cause.write e); disk = λ e. none.shelf (cause.disk e) }
 
 -- an input that is whole is not refused
-not_bad : (layout : LanePlan) (bytes : List ℕ) (rs : List Rec) (e : LoadEnd) (pairs : List (List Rec)) (cause : PcapErr) → Input bytes rs Whole → AreOf layout bytes e pairs
-    → e ≡ end.BadInput cause → ⊥
-not_bad layout bytes rs e pairs cause whole are is =
-    let ends = subst (λ x. EndsInput x are.rest) is are.ends in
-    let bad : Whole ≡ Refused cause = (one_input bytes rs are.records Whole are.rest.input whole are.input).1 ∙ ends.0 in
+not_bad : (size : ℕ) (bytes : List ℕ) (rs : List Rec) (cause : PcapErr) → Input bytes rs Whole → StopsInput size bytes (end.BadInput cause) → ⊥
+not_bad size bytes rs cause whole stops =
+    let (given, short, refused) = stops tt in
+    let bad : Whole ≡ Refused cause = (one_input bytes rs given Whole (Refused cause) whole refused).1 in
     cc
 
 -- packets that are all short are not too long
-not_long : (layout : LanePlan) (bytes : List ℕ) (rs : List Rec) (e : LoadEnd) (pairs : List (List Rec)) (number len : ℕ) → Input bytes rs Whole → All (IsShort layout.size) rs
-    → AreOf layout bytes e pairs → e ≡ end.TooLong number len → ⊥
-not_long layout bytes rs e pairs number len whole short are is =
-    let ends = subst (λ x. EndsInput x are.rest) is are.ends in
-    let r = ends.0 in
-    let later = ends.1 in
-    let same = (one_input bytes rs are.records Whole are.rest.input whole are.input).0 in
-    let split : rs ≡ are.rest.taken ++ r ∷ later = same ∙ (are.takes.are ∙ ap (λ x. are.rest.taken ++ x) ends.2) in
-    let there = Contains-append_right are.rest.taken (r ∷ later) r (Contains-get_or (r ∷ later) 0 r (omega arith)) in
-    subst (BeginsLong layout.size) ends.2 are.takes.ends (All-contains (IsShort layout.size) rs r short (subst (λ x. Contains x r) (sym split) there))
+not_long : (size : ℕ) (bytes : List ℕ) (rs : List Rec) (number len : ℕ) → Input bytes rs Whole → All (IsShort size) rs → StopsInput size bytes (end.TooLong number len) → ⊥
+not_long size bytes rs number len whole short stops =
+    let (given, before, (r, later, e, input, long, len_is, number_is)) = stops tt in
+    let same : rs ≡ given ++ r ∷ later = (one_input bytes rs (given ++ r ∷ later) Whole e whole input).0 in
+    let there = Contains-append_right given (r ∷ later) r (Contains-get_or (r ∷ later) 0 r (omega arith)) in
+    long (All-contains (IsShort size) rs r short (subst (λ x. Contains x r) (sym same) there))
+
+-- what was taken to the end is whole, and its packets are short
+is_taken : (size : ℕ) (bytes : List ℕ) (rs : List Rec) (e : End) → Input bytes rs e → StopsInput size bytes end.Done → IsTaken size rs e
+is_taken size bytes rs e input stops =
+    let (given, short, whole) = stops tt in
+    let same = one_input bytes rs given e Whole input whole in
+    (same.1, subst (All (IsShort size)) (sym same.0) short)
+
+done_by : (size : ℕ) (bytes : List ℕ) (rs : List Rec) (e : LoadEnd) (status : Status) (message : List ℕ) → SaysLoad size e status message → Unfailed status
+    → Input bytes rs Whole → All (IsShort size) rs → StopsInput size bytes e → Ends Done status ⊎ (status ≡ StampsSpent)
+done_by size bytes rs end.Done status message says fair whole short stops = inl (inl says.0)
+done_by size bytes rs (end.BadInput cause) status message says fair whole short stops = absurd (not_bad size bytes rs cause whole stops)
+done_by size bytes rs (end.TooLong number len) status message says fair whole short stops = absurd (not_long size bytes rs number len whole short stops)
+done_by size bytes rs end.ReadFault status message says fair whole short stops = absurd (fair.read says.0)
+done_by size bytes rs end.WriteFault status message says fair whole short stops = absurd (fair.write says.0)
+done_by size bytes rs end.DiskFault status message says fair whole short stops = absurd (fair.disk says.0)
+done_by size bytes rs (end.StampsSpent last) status message (inl says) fair whole short stops = inr says.0
+done_by size bytes rs (end.StampsSpent last) status message (inr says) fair whole short stops = inl (inr says.0)
+done_by size bytes rs end.NoMemory status message says fair whole short stops = inl (inr says.0)
+
+refused_by : (size : ℕ) (bytes : List ℕ) (rs : List Rec) (last : End) (e : LoadEnd) (status : Status) (message : List ℕ) → SaysLoad size e status message → Unfailed status
+    → Input bytes rs last → (IsTaken size rs last → ⊥) → StopsInput size bytes e → Ends BadInput status ⊎ (status ≡ StampsSpent)
+refused_by size bytes rs last end.Done status message says fair input not stops = absurd (not (is_taken size bytes rs last input stops))
+refused_by size bytes rs last (end.BadInput cause) status message (inl says) fair input not stops = inl (inl says.0)
+refused_by size bytes rs last (end.BadInput cause) status message (inr says) fair input not stops = inl (inr says.0)
+refused_by size bytes rs last (end.TooLong number len) status message (inl says) fair input not stops = inl (inl says.0)
+refused_by size bytes rs last (end.TooLong number len) status message (inr says) fair input not stops = inl (inr says.0)
+refused_by size bytes rs last end.ReadFault status message says fair input not stops = absurd (fair.read says.0)
+refused_by size bytes rs last end.WriteFault status message says fair input not stops = absurd (fair.write says.0)
+refused_by size bytes rs last end.DiskFault status message says fair input not stops = absurd (fair.disk says.0)
+refused_by size bytes rs last (end.StampsSpent stamp) status message (inl says) fair input not stops = inr says.0
+refused_by size bytes rs last (end.StampsSpent stamp) status message (inr says) fair input not stops = inl (inr says.0)
+refused_by size bytes rs last end.NoMemory status message says fair input not stops = inl (inr says.0)
 
 pub load_ends : (load : LoadPlan) (old new : Scene) (before after : Counts) (status : Status) (message : List ℕ)
     → LoadsPairs load old new status message → HasCauses before after status → NoneRose before after → LoadsUnfailed load old status
-load_ends load old new before after status message ran cause none = λ first bytes rs known told whole short.
-    let read = λ (e : status ≡ ReadFault). none.input (cause.read e) in
-    let write = λ (e : status ≡ WriteFault). none.output (cause.write e) in
-    let disk = λ (e : status ≡ DiskFault). none.shelf (cause.disk e) in
-    elim (ran.job first known) [
-      | inl opened ↦ well load.plan.size ran.ended status message ran.says read write disk
-          (λ e is. not_bad load.plan bytes rs ran.ended opened.pairs e whole (opened.are bytes told) is)
-          (λ n len is. not_long load.plan bytes rs ran.ended opened.pairs n len whole short (opened.are bytes told) is)
-      | inr (fails, failure, times, same) ↦ well load.plan.size ran.ended status message ran.says read write disk
-          (λ e is. elim failure [
-            | inl h ↦ let bad : end.DiskFault ≡ end.BadInput e = sym h ∙ is in cc
-            | inr h ↦ let bad : end.NoMemory ≡ end.BadInput e = sym h ∙ is in cc
-          ])
-          (λ n len is. elim failure [
-            | inl h ↦ let bad : end.DiskFault ≡ end.TooLong n len = sym h ∙ is in cc
-            | inr h ↦ let bad : end.NoMemory ≡ end.TooLong n len = sym h ∙ is in cc
-          ])
-    ]
+load_ends load old new before after status message ran cause none =
+    let fair = unfailed before after status cause none in
+    record {
+      done = λ bytes rs last told input taken.
+          done_by load.plan.size bytes rs ran.ended status message ran.says fair (subst (Input bytes rs) taken.0 input) taken.1 (ran.stops bytes told);
+      refused = λ bytes rs last told input not. refused_by load.plan.size bytes rs last ran.ended status message ran.says fair input not (ran.stops bytes told);
+    }
 
 -- a load that is done has no message
 pub load_done : (size : ℕ) (e : LoadEnd) (message : List ℕ) → SaysLoad size e Done message → message ≡ []

@@ -1,11 +1,12 @@
--- The plan of a load has a layout and a limit that a load may have.
+-- The plan of a load has a layout and a limit that a load may have, and that of a drill as many
+-- packets as a drill makes.
 use Rattle.std.proofs.Common.{◌≤◌, ℕ, List, Option, Some, None, refl, sym, subst, arith}
 use Rattle.st_block.specs.BlockText.{IsBlockSize}
 use Rattle.st_block.specs.declared.format.TheConstants.{MAX_BLOCKS}
-use Rattle.st_plan.specs.Jobs.{LoadPlan}
+use Rattle.st_plan.specs.Jobs.{LoadPlan, DrillPlan}
 use Rattle.st_plan.specs.Plans.{IsPlan, IsSize, IsBlocks, IsPairs}
-use Rattle.st_plan.specs.declared.jobs.Plan.TheVariants.{Load}
-use Rattle.st_plan.specs.declared.limits.TheConstants.{DEFAULT_SIZE}
+use Rattle.st_plan.specs.declared.jobs.Plan.TheVariants.{Load, Drill}
+use Rattle.st_plan.specs.declared.limits.TheConstants.{DEFAULT_SIZE, MAX_PACKETS}
 use Rattle.steno.specs.Loading.{IsSound}
 
 default_size : IsBlockSize DEFAULT_SIZE
@@ -34,3 +35,6 @@ sound words load (o, gs, line, asks) = record {
   some = least_blocks _ load.plan.blocks asks.options.1.blocks;
   most = most_blocks _ load.plan.blocks asks.options.1.blocks;
 }
+
+pub sound_count : (words : List (List ℕ)) (drill : DrillPlan) → IsPlan words (Drill drill) → drill.packets ≤ MAX_PACKETS
+sound_count words drill (o, gs, line, asks) = asks.operands.2.2

@@ -5,7 +5,7 @@ use Rattle.st_plan.specs.Plans.{IsPlan}
 use Rattle.st_plan.specs.declared.jobs.Plan.{Plan}
 use Rattle.st_plan.specs.declared.jobs.Plan.TheVariants as plan
 use Rattle.steno.specs.declared.status.Status.{Status}
-use Rattle.steno.specs.declared.status.Status.TheVariants.{Done, Usage, ReadFault, WriteFault, DiskFault}
+use Rattle.steno.specs.declared.status.Status.TheVariants.{Usage, ReadFault, WriteFault, DiskFault}
 
 -- the counts of faults of the input, the output and the shelf
 pub record Counts : Type 0 where
@@ -36,15 +36,16 @@ pub record FailsSo (old new : Counts) (status : Status) : Type 0 where
   pub input : status ≢ ReadFault → new.input ≡ old.input
   pub output : status ≢ WriteFault → new.output ≡ old.output
 
--- the counts that stay as they were if a run of this plan ends so; all do if it isn't built
+-- the counts that stay as they were if a run of this plan ends so
 abbrev pub KeepsCounts : Plan → Counts → Counts → Status → Type 0
 KeepsCounts (plan.Once job) old new status = FailsSo old new status × (new.shelf ≡ old.shelf)
 KeepsCounts (plan.Load load) old new status = FailsSo old new status
 KeepsCounts (plan.Query query) old new status =
-    (new.input ≡ old.input) × (status ≡ Done → new.output ≡ old.output)
+    FailsSo old new status × (new.input ≡ old.input)
 KeepsCounts (plan.List spool) old new status = FailsSo old new status
 KeepsCounts (plan.Check spool) old new status = FailsSo old new status
-KeepsCounts p old new status = new ≡ old
+KeepsCounts (plan.Drill drill) old new status =
+    FailsSo old new status × (new.input ≡ old.input)
 
 -- a run of this plan ends in a fault only with its cause
 pub record HasPlanFaults (p : Plan) (old new : Counts) (status : Status) : Type 0 where

@@ -1,5 +1,6 @@
 pub mod Asking
 pub mod Causes
+pub mod Drilling
 pub mod Gathering
 pub mod Jobs
 pub mod Loading

@@ -6,9 +6,10 @@ use Rattle.st_block.specs.declared.format.TheConstants.{MAX_BLOCKS}
 use Rattle.st_disk.specs.Disks.{Log}
 use Rattle.st_load.specs.Causes as causes
 use Rattle.st_load.specs.Opening.{LoadsShelf}
+use Rattle.st_load.specs.Stopping.{StopsInput}
 use Rattle.st_load.specs.declared.ends.LoadEnd.{LoadEnd}
 use Rattle.st_load.specs.declared.ends.LoadEnd.TheVariants as end
-use Rattle.st_pcap.specs.Input.{Input, Whole}
+use Rattle.st_pcap.specs.Input.{End, Input, Whole}
 use Rattle.st_plan.specs.Jobs.{LoadPlan}
 use Rattle.steno.specs.declared.status.Status.{Status}
 use Rattle.steno.specs.declared.status.Status.TheVariants.{Done, BadInput, ReadFault, WriteFault, DiskFault, NoMemory, StampsSpent}
@@ -46,23 +47,30 @@ SaysLoad size (end.StampsSpent last) status message =
 SaysLoad size end.NoMemory status message =
     Says NoMemory (status_line NoMemory) status message
 
--- Packets of the input were made pairs of the shelf: how that ended, with its status and message,
--- and, over a shelf whose log is known, what was published and removed, written, and what crashes
--- leave.
+-- Packets of the input were made pairs of the shelf: how that ended, with its status and message;
+-- over an input whose bytes are known, how they ended it, if they did; and, over a shelf whose log
+-- is known, what was published and removed, written, and what crashes leave.
 pub record LoadsPairs (load : LoadPlan) (old new : Scene) (status : Status) (message : List ℕ)
     : Type 0 where
   pub ended : LoadEnd
   pub says : SaysLoad load.plan.size ended status message
   pub said : causes.Says load.plan.size ended
+  pub stops : (bytes : List ℕ) → old.input ≡ Some bytes → StopsInput load.plan.size bytes ended
   pub job : (first : Log) → old.log ≡ Some first
       → LoadsShelf load.limit load.plan first new.log old.input old.clock new.clock
       old.output new.output ended
   pub loans : new.loans ≡ old.loans
 
--- what a load comes to if no count rises: if the input is whole and each packet fits a block, all
--- is done, unless no stamp is left
-abbrev pub LoadsUnfailed : LoadPlan → Scene → Status → Type 0
-LoadsUnfailed load old status =
-    (first : Log) (bytes : List ℕ) (rs : List Rec) → old.log ≡ Some first → old.input ≡ Some bytes
-    → Input bytes rs Whole → All (IsShort load.plan.size) rs
-    → Ends Done status ⊎ (status ≡ StampsSpent)
+-- the input is whole, and each of its packets fits a block of this size
+abbrev pub IsTaken : ℕ → List Rec → End → Type 0
+IsTaken size rs end = (end ≡ Whole) × All (IsShort size) rs
+
+-- What a load of these records comes to if no count rises, unless memory runs out or no stamp is
+-- left: all is done if the load takes the input, and else the input is refused.
+pub record LoadsUnfailed (load : LoadPlan) (old : Scene) (status : Status) : Type 0 where
+  pub done : (bytes : List ℕ) (rs : List Rec) (end : End) → old.input ≡ Some bytes
+      → Input bytes rs end → IsTaken load.plan.size rs end
+      → Ends Done status ⊎ (status ≡ StampsSpent)
+  pub refused : (bytes : List ℕ) (rs : List Rec) (end : End) → old.input ≡ Some bytes
+      → Input bytes rs end → (IsTaken load.plan.size rs end → ⊥)
+      → Ends BadInput status ⊎ (status ≡ StampsSpent)

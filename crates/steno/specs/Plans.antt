@@ -1,21 +1,12 @@
 -- What the arguments after the program's name ask for.
-use Rattle.std.specs.Prelude.{ℕ, List, Option, Some, None, ⊤}
+use Rattle.std.specs.Prelude.{ℕ, List, Option, Some, None}
 use Rattle.st_plan.specs.Plans.{IsPlan}
 use Rattle.st_plan.specs.declared.jobs.Plan.{Plan}
 use Rattle.st_plan.specs.declared.jobs.Plan.TheVariants as plan
 
--- the program does what this plan asks for
-abbrev pub IsBuilt : Plan → Type 0
-IsBuilt (plan.Once job) = ⊤
-IsBuilt (plan.Load load) = ⊤
-IsBuilt (plan.Query query) = ⊤
-IsBuilt (plan.List spool) = ⊤
-IsBuilt (plan.Check spool) = ⊤
-IsBuilt (plan.Drill drill) = ⊥
-
--- the arguments have no plan, or one that isn't built
+-- the arguments have no plan
 abbrev pub AskNothing : List (List ℕ) → Type 0
-AskNothing words = (p : Plan) → IsPlan words p → IsBuilt p → ⊥
+AskNothing words = (p : Plan) → IsPlan words p → ⊥
 
 -- the text of the query that a plan asks
 abbrev pub query_of : Plan → Option (List ℕ)

@@ -7,7 +7,6 @@ use Rattle.st_plan.specs.declared.jobs.Plan.TheVariants as plan
 use Rattle.steno.specs.declared.status.Status.{Status}
 use Rattle.steno.specs.declared.status.Status.TheVariants.{Done, Usage, BadQuery, Damaged}
 use Rattle.steno.specs.Once.{IsSilent, IsUnread}
-use Rattle.steno.specs.Plans.{IsBuilt}
 
 -- a run of this plan that ends so does not touch the input
 abbrev pub SparesInput : Plan → Status → Type 0
@@ -15,6 +14,7 @@ SparesInput (plan.Once job) status = IsUnread status
 SparesInput (plan.Query query) status = ⊤
 SparesInput (plan.List spool) status = ⊤
 SparesInput (plan.Check spool) status = ⊤
+SparesInput (plan.Drill drill) status = ⊤
 SparesInput p status = ⊥
 
 -- nor the output
@@ -43,10 +43,9 @@ pub record IsSame {I O C D : Type 0} (input input' : I) (out out' : O) (clock cl
   pub clock_is : clock' ≡ clock
   pub shelf_is : shelf' ≡ shelf
 
--- what a run of this plan spares stays as it was, which is all where the plan isn't built
+-- what a run of this plan spares stays as it was
 pub record Spares {I O C D : Type 0} (p : Plan) (status : Status) (input input' : I) (out out' : O)
     (clock clock' : C) (shelf shelf' : D) : Type 0 where
-  pub unbuilt : (IsBuilt p → ⊥) → IsSame input input' out out' clock clock' shelf shelf'
   pub input_is : SparesInput p status → input' ≡ input
   pub output_is : SparesOutput p status → out' ≡ out
   pub clock_is : SparesClock p status → clock' ≡ clock

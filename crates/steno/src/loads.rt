@@ -82,8 +82,8 @@ fn load_ended(alloc: Global, size: u32, end: LoadEnd) -> Report
     }
 }
 
-// The report of this status with this line; `NoMemory` if there was no memory for the line.
-fn with_line(status: Status, line: Result<String, AllocError>) -> Report
+/// The report of this status with this line; `NoMemory` if there was no memory for the line.
+pub fn with_line(status: Status, line: Result<String, AllocError>) -> Report
     ensures { MatchResult line
         (λ text. Says status (string_bytes text) result.status (line_of result))
         (λ _. result ≡ plain_of Status.NoMemory) }

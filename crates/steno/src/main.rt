@@ -2,7 +2,8 @@
 //!
 //! `once QUERY` answers a query over the pcap on standard input, `query FOLDER QUERY` one over the
 //! packets of the spool in a folder. `load FOLDER` makes the packets of the pcap on standard input
-//! pairs of that spool; `list FOLDER` and `check FOLDER` write a line for each pair.
+//! pairs of that spool; `list FOLDER` and `check FOLDER` write a line for each pair. `drill FOLDER
+//! N` makes N packets pairs of it, queries them, and writes how much was found.
 //!
 //! A run ends with a status, whose number is the exit status of the process, and with a line on
 //! standard error that says why it isn't done; where a call of the system failed, a second line
@@ -28,9 +29,9 @@
 //! # Where to read
 //!
 //! `specs/Running.antt` says what a run ensures, for each plan by what stands in `specs/Once.antt`,
-//! `specs/Asking.antt`, `specs/Loading.antt` and `specs/Spooling.antt`, and `specs/Staying.antt`
-//! what it leaves alone. Then `runner`, `once`, `query`, `loads` and `spooling`, and below them
-//! `gather`, `packets`, `report`.
+//! `specs/Asking.antt`, `specs/Loading.antt`, `specs/Spooling.antt` and `specs/Drilling.antt`, and
+//! `specs/Staying.antt` what it leaves alone. Then `runner`, `once`, `query`, `loads`, `spooling`
+//! and `drills`, and below them `gather`, `packets`, `report`.
 #![tactic(auto)]
 
 ghost use Rattle.std.specs.Prelude.{◌≡◌, MatchResult};
@@ -48,6 +49,7 @@ use std::alloc::Global;
 use std::io::{self, BufReader, BufWriter};
 use std::process::ExitCode;
 
+mod drills;
 mod gather;
 mod loads;
 mod message;

@@ -1,6 +1,6 @@
 //! The command `query`: a query over the pairs of a spool.
 
-ghost use Rattle.std.specs.Prelude.{Option, ◌≡◌, ℕ, List};
+ghost use Rattle.std.specs.Prelude.{Option, ◌≡◌, ◌≢◌, ℕ, List};
 ghost use Rattle.steno.specs.Asking.{AnswersShelf};
 ghost use Rattle.steno.specs.Causes.{HasCauses, counts};
 ghost use Rattle.steno.specs.Messages.{line_of};
@@ -40,7 +40,8 @@ pub fn query<D: Shelf, O: Sink, C: Clock>(
     ensures fault { (input : ℕ)
         → HasCauses (counts input (O.faults out.old) (D.faults shelf))
         (counts input (O.faults out.new) (D.faults result.shelf)) result.report.status }
-    ensures still { result.report.status ≡ Status.Done → O.faults out.new ≡ O.faults out.old }
+    ensures still { result.report.status ≢ Status.WriteFault
+        → O.faults out.new ≡ O.faults out.old }
 
     // What stays as it was.
     ensures alone { result.report.status ≡ Status.BadQuery

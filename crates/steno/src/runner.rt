@@ -10,6 +10,7 @@ ghost use Rattle.steno.specs.Running.{Does, EndsRun, EndsUnfailed, HasPlanCause,
 ghost use Rattle.steno.specs.Scenes.{scene};
 ghost use Rattle.steno.specs.Staying.{IsUnsaid, LeavesAlone, Spares};
 
+use crate::drills::drill;
 use crate::loads::load;
 use crate::once::once;
 use crate::query::query;
@@ -32,6 +33,8 @@ use std::alloc::Global;
 /// - `load FOLDER` makes the packets of the pcap in `input` pairs of the shelf, and writes a line
 ///   `STAMP PACKETS` to `out` for each pair that it published.
 /// - `list FOLDER` and `check FOLDER` write a line to `out` for each pair of the shelf, by stamp.
+/// - `drill FOLDER N` makes N packets pairs of the shelf, asks four queries over all of its pairs,
+///   and writes a summary to `out`.
 ///
 /// The folder is the caller's to open. A query asks the clock once, in microseconds since 1970,
 /// before it is parsed.
@@ -185,9 +188,6 @@ fn follow<D: Shelf, I: Source, O: Sink, C: Clock>(
                 shelf,
             }
         }
-        Plan::Drill(_) => Reported {
-            report: plain(Status::Usage),
-            shelf,
-        },
+        Plan::Drill(plan) => drill(alloc, plan, shelf, out, clock),
     }
 }

@@ -40,8 +40,8 @@ pub fn check_ended(outcome: Outcome) -> Report
     }
 }
 
-// The report that names the damage of a pair; `NoMemory` if there is no memory for its line.
-fn pair_damaged(alloc: Global, stamp: u64, damage: Damage) -> Report
+/// The report that names the damage of a pair; `NoMemory` if there is no memory for its line.
+pub fn pair_damaged(alloc: Global, stamp: u64, damage: Damage) -> Report
     ensures { NamesDamage stamp damage result.status (line_of result) }
 {
     match damaged_text(alloc, stamp, damage) {

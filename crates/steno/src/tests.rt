@@ -344,9 +344,10 @@ fn a_shelf_that_fails_ends_the_run(rt: HostRuntime) -> Result<(), Fail> {
     let failed = "steno: the spool failed\n";
     let refused = "steno: query: number at 5\n";
     let usage = "steno: usage: steno COMMAND [ARGUMENTS] [OPTIONS]\n";
-    let cases: [(&[&str], u8, &str); 5] = [
+    let cases: [(&[&str], u8, &str); 6] = [
         (&["list", "S"], 7, failed),
         (&["check", "S"], 7, failed),
+        (&["drill", "S", "1"], 7, failed),
         (&["query", "S", "port 80"], 7, failed),
         (&["query", "S", "port x"], 4, refused),
         (&["list", "S", "--ns"], 2, usage),
