@@ -56,11 +56,12 @@ module _ {E : Type 0} where
 
 module _ {S : Type 0} where
   -- a pass that took in a visitor with a history that is comparable with its own
-  met_one : (p o q : PassView S) (seen : List Event) → q.table ≡ p.table → q.id ≡ p.id → q.state ≡ joined p.state (visitor seen) → longer p.state.card.seen seen ≡ longer p.state.card.seen o.state.card.seen
+  met_one : (p o q : PassView S) (seen : List Event) → q.loans ≡ p.loans → q.table ≡ p.table → q.id ≡ p.id → q.state ≡ joined p.state (visitor seen) → longer p.state.card.seen seen ≡ longer p.state.card.seen o.state.card.seen
       → IsPrefix p.state.card.seen (longer p.state.card.seen o.state.card.seen) → IsPrefix o.state.card.seen (longer p.state.card.seen o.state.card.seen) → Met p o q
-  met_one p o q seen table id state same own its =
+  met_one p o q seen loans table id state same own its =
       let seen_is : q.state.card.seen ≡ longer p.state.card.seen o.state.card.seen = ap (λ (s : PassState S Event Span). s.card.seen) state ∙ same in
       record {
+        loans = loans;
         table = table;
         id = id;
         seen = seen_is;
@@ -77,9 +78,9 @@ module _ {S : Type 0} where
         );
       }
 
-  pub met_both : (p o a b : PassView S) → b.table ≡ o.table → b.id ≡ o.id → b.state ≡ joined o.state (visitor p.state.card.seen) → Saw b.state → a.table ≡ p.table → a.id ≡ p.id → a.state ≡ joined p.state (visitor b.state.card.seen)
+  pub met_both : (p o a b : PassView S) → a.loans ≡ p.loans → b.loans ≡ o.loans → b.table ≡ o.table → b.id ≡ o.id → b.state ≡ joined o.state (visitor p.state.card.seen) → Saw b.state → a.table ≡ p.table → a.id ≡ p.id → a.state ≡ joined p.state (visitor b.state.card.seen)
       → Met p o a × Met o p b × (a.state.card.seen ≡ b.state.card.seen)
-  met_both p o a b bt bi bs saw at ai as_is =
+  met_both p o a b al bl bt bi bs saw at ai as_is =
       let s : Saw (joined o.state (visitor p.state.card.seen)) = subst (λ (z : PassState S Event Span). Saw z) bs saw in
       let ps : IsPrefix p.state.card.seen s.history = s.notes.1.0 in
       let os : IsPrefix o.state.card.seen s.history = s.notes.0 in
@@ -87,8 +88,8 @@ module _ {S : Type 0} where
       let op = longer_is o.state.card.seen p.state.card.seen s.history os ps in
       let b_seen : b.state.card.seen ≡ longer o.state.card.seen p.state.card.seen = ap (λ (z : PassState S Event Span). z.card.seen) bs in
       let twice : longer p.state.card.seen b.state.card.seen ≡ longer p.state.card.seen o.state.card.seen = ap (longer p.state.card.seen) b_seen ∙ longer_twice p.state.card.seen o.state.card.seen in (
-        met_one p o a b.state.card.seen at ai as_is twice po.1 po.2,
-        met_one o p b p.state.card.seen bt bi bs refl op.1 op.2,
+        met_one p o a b.state.card.seen al at ai as_is twice po.1 po.2,
+        met_one o p b p.state.card.seen bl bt bi bs refl op.1 op.2,
         ap (λ (z : PassState S Event Span). z.card.seen) as_is ∙ twice ∙ longer_swap p.state.card.seen o.state.card.seen s.history ps os ∙ sym b_seen,
       )
 

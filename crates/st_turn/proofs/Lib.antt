@@ -9,5 +9,10 @@ pub mod Started
 pub mod BothSeen
 pub mod Shut
 pub mod Taken
+pub mod Imaged
 pub mod Spooled
+pub mod Counted
+pub mod Released
+pub mod Loaned
 pub mod Ready
+pub mod Walks

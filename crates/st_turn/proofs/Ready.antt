@@ -39,3 +39,9 @@ module _ {S E H : Type 0} (facts : S → Facts E H) (Keeps : S → S → Type 0)
       let t : IsTurn facts x.spool w me.0.pass q = turn x (ap (λ (m : Seated (Booked S) (PassState S E H)). m.0.taken) is) in
       subst (λ (s : S). IsTurn facts s w state q) (sym (ap (λ (b : Booked S). b.spool) view))
       (subst (λ (r : PassState S E H). IsTurn facts x.spool w r q) (ap (λ (m : Seated (Booked S) (PassState S E H)). m.0.pass) is ∙ same) t)
+
+  -- what the spool that was taken keeps of the spool as it was shared
+  pub kept_at : (x : Booked S) (v : S) (lines : List Line) (p : PassState S E H) (b : S) → Learns facts Keeps x p → record { spool = v; lines = lines } ≡ x → p.base ≡ Some b → Keeps b v
+  kept_at x v lines p b l view base =
+      let start : l.start ≡ b = let e : Some l.start ≡ Some b = sym l.base ∙ base in cc in
+      subst (λ (s : S). Keeps s v) start (subst (λ (s : S). Keeps l.start s) (sym (ap (λ (h : Booked S). h.spool) view)) l.keeps)

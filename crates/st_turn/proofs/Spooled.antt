@@ -1,5 +1,5 @@
 -- What the calls of a spool make of its history, of its holds and of what it keeps.
-use Rattle.std.proofs.Common.{◌≡◌, ◌⊎◌, inl, inr, ℕ, ◌+◌, ◌≤◌, zero, suc, List, [], ◌∷◌, ◌++◌, length, replicate, drop, Option, Some, None, Result, Ok, Err, Bool, true, false, ⊎_elim, ◌-◌, refl, sym, ◌∙◌, ap, ap₂, subst, arith, append-nil, add_assoc, length-drop, length-append}
+use Rattle.std.proofs.Common.{◌≡◌, ◌<◌, ◌⊎◌, max, inl, inr, ℕ, ◌+◌, ◌≤◌, zero, suc, List, [], ◌∷◌, ◌++◌, length, replicate, drop, Option, Some, None, Result, Ok, Err, Bool, true, false, ⊎_elim, ◌-◌, refl, sym, ◌∙◌, ap, ap₂, subst, arith, append-nil, add_assoc, length-drop, length-append}
 use Rattle.std.specs.Prelude.{option_map, MatchResult}
 use mathlib.Core.Logic.{dite}
 use native.Mathlib.Decide.{dec_lt}
@@ -10,13 +10,14 @@ use Rattle.st_disk.specs.Pairs.{Entry, Files, files_of}
 use Rattle.st_disk.specs.Events.{Event, Found, Publish, Remove}
 use Rattle.st_disk.proofs.Runs.{grew_none, grew_then}
 use Rattle.st_spool.specs.declared.state.Span.{Span}
+use Rattle.st_spool.specs.declared.state.Doubt.{Doubt}
 use Rattle.st_spool.specs.States.{SpoolState, SpoolView}
-use Rattle.st_spool.specs.Standing.{StandsFor, Stands}
+use Rattle.st_spool.specs.Standing.{StandsFor, Stands, IsCalm}
 use Rattle.st_spool.specs.Recalling.{history, history_of, event_count}
 use Rattle.st_disk.specs.Folders.{given}
 use Rattle.st_shelf.specs.declared.shelves.SealedPair.{SealedPair}
 use Rattle.st_spool.specs.Placing.{files, entry}
-use Rattle.st_spool.specs.Publishing.{Publishes, Fails, Keeps, MayPublish, published}
+use Rattle.st_spool.specs.Publishing.{Publishes, Fails, Keeps, MayPublish, next_stamp, published}
 use Rattle.st_spool.specs.declared.refusals.PublishErr.{PublishErr}
 use Rattle.st_spool.specs.declared.refusals.PublishErr.TheVariants as publish
 use Rattle.st_spool.specs.History.{set_of, entries_of}
@@ -29,9 +30,10 @@ use Rattle.st_shelf.specs.Loans.{LoansView}
 use Rattle.st_turn.specs.Parts.{Facts, PassState, IsPrefix}
 use Rattle.st_turn.specs.Calls.{MayTurn, HeldAfter, IsTurn}
 use Rattle.st_turn.specs.SpoolCalls.{StaysAs, AgesBy, age_stopped, PublishesBy, publish_stopped}
-use Rattle.st_turn.specs.Spools.{told_history, facts_of, KeepsOf}
+use Rattle.st_turn.specs.Spools.{told_history, facts_of, KeepsImages, KeepsOf}
 use Rattle.st_turn.proofs.Totals.{begins_self, begins_on}
 use Rattle.st_turn.proofs.Shut.{mapped}
+use Rattle.st_turn.proofs.Imaged.{images_self, images_held, images_still, images_more, images_fault}
 
 -- the unknown history goes on by one event, too
 more_blank : (n : ℕ) → replicate (n + 1 + 1) (Found []) ≡ replicate (n + 1) (Found []) ++ Found [] ∷ []
@@ -43,6 +45,14 @@ more_blank n = ap (λ (k : ℕ). replicate k (Found [])) (let e : n + 1 + 1 ≡ 
         up : (k : ℕ) → replicate (suc k) (Found []) ≡ replicate k (Found []) ++ Found [] ∷ []
         up zero = refl
         up (suc k) = ap (λ (l : List Event). Found [] ∷ l) (up k)
+
+-- the call that stops a spool is counted
+first_stop : (halted : Option ℕ) (d : Doubt) (was now : ℕ) → IsCalm halted d was → halted ≡ None → now ≡ next_count was → was < now
+first_stop None d was now calm sound up = let none = calm.1 in grind arith
+first_stop (Some since) d was now calm sound up = absurd (cc)
+
+last_more : (last floor s : ℕ) → s ≡ next_stamp last floor → s ≡ max last s
+last_more last floor s is = grind arith
 
 -- as a history stays, so does what is told of it
 told_stays : (a b : Option (List Event)) (m n : ℕ) → b ≡ a → n ≡ m → told_history b n ≡ told_history a m
@@ -60,15 +70,27 @@ module _ {D : Type 0} (log : D → Option Log) (faults home : D → ℕ) where
 
   -- a call after which the history stays or has an event more
   pub keeps_on : (b x y : SpoolView D) (more : List Event) → home y.shelf ≡ home x.shelf → y.state.limit ≡ x.state.limit → faults x.shelf ≤ faults y.shelf → (facts_of log faults home y).history ≡ (facts_of log faults home x).history ++ more → KnownBefore (log x.shelf) (log y.shelf)
-      → KeepsOf log faults home b x → KeepsOf log faults home b y
-  keeps_on b x y more same limit later grows known k =
+      → ((first now : Log) → log b.shelf ≡ Some first → log y.shelf ≡ Some now → KeepsImages b.state y.state first now) → KeepsOf log faults home b x → KeepsOf log faults home b y
+  keeps_on b x y more same limit later grows known images k =
       record {
         shelf = same ∙ k.shelf;
         limit = limit ∙ k.limit;
         later = let a = k.later in omega arith;
         history = begins_on (facts_of log faults home b).history (facts_of log faults home x).history (facts_of log faults home y).history more k.history grows;
         known = known_then (log b.shelf) (log x.shelf) (log y.shelf) k.known known;
+        images = images;
       }
+
+  -- a state of a spool keeps all of itself
+  pub keeps_self : (W : List ℕ → List ℕ → Type 0) (x : SpoolView D) → Stands W (log x.shelf) x.state → KeepsOf log faults home x x
+  keeps_self W x stands = record {
+    shelf = refl;
+    limit = refl;
+    later = omega arith;
+    history = begins_self (facts_of log faults home x).history;
+    known = λ l e. (l, e, grew_none l);
+    images = images_self W (log x.shelf) x.state stands.0 stands.1 stands.2 stands.3;
+  }
 
   module _ (W : List ℕ → List ℕ → Type 0) (loans : D → LoansView) where
     -- a call with no event
@@ -90,13 +112,15 @@ module _ {D : Type 0} (log : D → Option Log) (faults home : D → ℕ) where
           later = later;
           halts = ap (λ (s : SpoolState). s.halts) state;
           rose = λ (e : false ≡ true). absurd (cc);
-          keeps = λ b k. keeps_on b x y [] stays.shelf (ap (λ (s : SpoolState). s.limit) state) later (both.0 ∙ sym (append-nil (facts_of log faults home x).history)) both.1 k;
+          one = λ (e : false ≡ true). absurd (cc);
+          keeps = λ b k. keeps_on b x y [] stays.shelf (ap (λ (s : SpoolState). s.limit) state) later (both.0 ∙ sym (append-nil (facts_of log faults home x).history)) both.1
+              (images_still W b.state x.state y.state (log b.shelf) (log x.shelf) (log y.shelf) stands.0 stands.1 stands.2 stands.3 k.images (ap (λ (s : SpoolState). s.last) state) (stays.keeps stands.0 stands.1 stands.2 stands.3)) k;
         }
 
     -- a call that leaves the shelf and the history, with these holds
     unmoved : (x y : SpoolView D) (held next : List Span) → y.shelf ≡ x.shelf → (facts_of log faults home y).history ≡ (facts_of log faults home x).history → y.state.limit ≡ x.state.limit → y.state.halts ≡ x.state.halts → HeldAfter x.state.holds y.state.holds held next
-        → MayTurn (facts_of log faults home) (KeepsOf log faults home) x y held next false
-    unmoved x y held next shelf same limit halts holds =
+        → ((b : SpoolState) (first now : Log) → KeepsImages b x.state first now → KeepsImages b y.state first now) → MayTurn (facts_of log faults home) (KeepsOf log faults home) x y held next false
+    unmoved x y held next shelf same limit halts holds images =
         let count : faults y.shelf ≡ faults x.shelf = ap faults shelf in
         record {
           history = inl same;
@@ -104,18 +128,21 @@ module _ {D : Type 0} (log : D → Option Log) (faults home : D → ℕ) where
           later = omega arith;
           halts = halts;
           rose = λ (e : false ≡ true). absurd (cc);
-          keeps = λ b k. keeps_on b x y [] (ap home shelf) limit (omega arith) (same ∙ sym (append-nil (facts_of log faults home x).history)) (λ l e. (l, sym (ap log shelf) ∙ e, grew_none l)) k;
+          one = λ (e : false ≡ true). absurd (cc);
+          keeps = λ b k. keeps_on b x y [] (ap home shelf) limit (omega arith) (same ∙ sym (append-nil (facts_of log faults home x).history)) (λ l e. (l, sym (ap log shelf) ∙ e, grew_none l)) (λ first now begins is. images b.state first now (k.images first now begins (sym (ap log shelf) ∙ is))) k;
         }
 
     pub idle_turn : (x y : SpoolView D) (held : List Span) → y ≡ x → MayTurn (facts_of log faults home) (KeepsOf log faults home) x y held held false
     idle_turn x y held e = unmoved x y held held (ap (λ (s : SpoolView D). s.shelf) e) (ap (λ (s : SpoolView D). (facts_of log faults home s).history) e) (ap (λ (s : SpoolView D). s.state.limit) e) (ap (λ (s : SpoolView D). s.state.halts) e) (inl (ap (λ (s : SpoolView D). s.state.holds) e, refl))
+        (λ b first now kept. subst (λ (s : SpoolState). KeepsImages b s first now) (sym (ap (λ (s : SpoolView D). s.state) e)) kept)
 
     -- a hold
     pub hold_turn : {F : Type 0} (x y : SpoolView D) (held : List Span) (result : Result Span F) → MatchResult result (λ k. (k ≡ whole_set x.state) × (y ≡ record x { state = with_hold x.state })) (λ e. y ≡ x)
         → (next : List Span) × MayTurn (facts_of log faults home) (KeepsOf log faults home) x y held next false
     hold_turn x y held (Ok k) state = (
       held ++ whole_set x.state ∷ [],
-      unmoved x y held (held ++ whole_set x.state ∷ []) (ap (λ (s : SpoolView D). s.shelf) state.1) (ap (λ (s : SpoolView D). (facts_of log faults home s).history) state.1) (ap (λ (s : SpoolView D). s.state.limit) state.1) (ap (λ (s : SpoolView D). s.state.halts) state.1) (inr (inl (whole_set x.state, ap (λ (s : SpoolView D). s.state.holds) state.1, refl))),
+      unmoved x y held (held ++ whole_set x.state ∷ []) (ap (λ (s : SpoolView D). s.shelf) state.1) (ap (λ (s : SpoolView D). (facts_of log faults home s).history) state.1) (ap (λ (s : SpoolView D). s.state.limit) state.1) (ap (λ (s : SpoolView D). s.state.halts) state.1) (inr (inl (whole_set x.state, ap (λ (s : SpoolView D). s.state.holds) state.1, refl)))
+          (λ b first now kept. subst (λ (s : SpoolState). KeepsImages b s first now) (sym (ap (λ (s : SpoolView D). s.state) state.1)) (images_held b x.state first now kept)),
     )
     hold_turn x y held (Err e) state = (held, idle_turn x y held state)
 
@@ -145,7 +172,9 @@ module _ {D : Type 0} (log : D → Option Log) (faults home : D → ℕ) where
           later = a.cause.0;
           halts = ap (λ (s : SpoolState). s.halts) state;
           rose = λ (e : false ≡ true). absurd (cc);
-          keeps = λ b k. keeps_on b x y (grows.0 ∷ []) a.rest.0 (ap (λ (s : SpoolState). s.limit) state) a.cause.0 grows.1 removes.known k;
+          one = λ (e : false ≡ true). absurd (cc);
+          keeps = λ b k. keeps_on b x y (grows.0 ∷ []) a.rest.0 (ap (λ (s : SpoolState). s.limit) state) a.cause.0 grows.1 removes.known
+              (images_more W b.state x.state y.state (log b.shelf) (log x.shelf) (log y.shelf) stands.0 stands.1 stands.2 stands.3 k.images (Remove first.0.stamp) stands.2 (ap (λ (s : SpoolState). s.last) state) may.0 removes.known removes.stands removes.images) k;
         }
       where
         may_of : (x y : SpoolView D) → AgesBy W log faults home loans x y (Ok true) → Stands W (log x.shelf) x.state → MayAge x.state
@@ -160,6 +189,7 @@ module _ {D : Type 0} (log : D → Option Log) (faults home : D → ℕ) where
         let size : event_count y.state ≡ event_count x.state = ⊎_elim (λ e. ap event_count e) (λ e. ap event_count e) states in
         let halts : y.state.halts ≡ next_count x.state.halts = ⊎_elim (λ e. ap (λ (s : SpoolState). s.halts) e) (λ e. ap (λ (s : SpoolState). s.halts) e) states in
         let limit : y.state.limit ≡ x.state.limit = ⊎_elim (λ e. ap (λ (s : SpoolState). s.limit) e) (λ e. ap (λ (s : SpoolState). s.limit) e) states in
+        let last : y.state.last ≡ x.state.last = ⊎_elim (λ e. ap (λ (s : SpoolState). s.last) e) (λ e. ap (λ (s : SpoolState). s.last) e) states in
         let same = told_stays (history_of log x) (history_of log y) (event_count x.state + 1) (event_count y.state + 1) (failed_stays W (log x.shelf) (log y.shelf) x.state y.state stands.0 stands.1 stands.2 (files_of first.0) stands.3 fails) (ap (λ n. n + 1) size) in
         record {
           history = inl same;
@@ -167,7 +197,9 @@ module _ {D : Type 0} (log : D → Option Log) (faults home : D → ℕ) where
           later = a.cause.0;
           halts = halts;
           rose = λ e. a.cause.1 refl;
-          keeps = λ b k. keeps_on b x y [] a.rest.0 limit a.cause.0 (same ∙ sym (append-nil (facts_of log faults home x).history)) fails.known k;
+          one = λ e. first_stop x.state.halted x.state.doubt x.state.halts y.state.halts stands.3.calm may.0 halts;
+          keeps = λ b k. keeps_on b x y [] a.rest.0 limit a.cause.0 (same ∙ sym (append-nil (facts_of log faults home x).history)) fails.known
+              (images_fault W b.state x.state y.state (log b.shelf) (log x.shelf) (log y.shelf) stands.0 stands.1 stands.2 stands.3 k.images (files_of first.0) last may.0 fails) k;
         }
     age_turn x y held (Err (age.Halted since)) a stands = idle_turn x y held a.refused.1
 
@@ -179,6 +211,7 @@ module _ {D : Type 0} (log : D → Option Log) (faults home : D → ℕ) where
         let done = a.published stands.0 stands.1 stands.2 may stands.3 in
         let state : y.state ≡ published x.state s = (a.state may).1 in
         let found = stands.3.found in
+        let last : y.state.last ≡ max x.state.last s = ap (λ (s : SpoolState). s.last) state ∙ last_more x.state.last floor s (a.state may).0 in
         let long : length (published x.state s).stamps ≡ length x.state.stamps + 1 = length-append x.state.stamps (s ∷ []) in
         let size : event_count y.state ≡ event_count x.state + 1 = ap event_count state ∙ (let e : event_count (published x.state s) ≡ event_count x.state + 1 = omega arith in e) in
         let grows = told_goes_on (history_of log x) (history_of log y) (event_count x.state) (event_count y.state) (Publish (entry s (files (given (bytes pair.block)) (given (bytes pair.index))))) (published_goes_on W (log x.shelf) (log y.shelf) x.state y.state stands.0 stands.1 (entry s (files (given (bytes pair.block)) (given (bytes pair.index)))) stands.2 stands.2 stands.3 done) size in
@@ -188,7 +221,9 @@ module _ {D : Type 0} (log : D → Option Log) (faults home : D → ℕ) where
           later = a.cause.later;
           halts = ap (λ (s : SpoolState). s.halts) state;
           rose = λ (e : false ≡ true). absurd (cc);
-          keeps = λ b k. keeps_on b x y (grows.0 ∷ []) a.rest.0 (ap (λ (s : SpoolState). s.limit) state) a.cause.later grows.1 done.known k;
+          one = λ (e : false ≡ true). absurd (cc);
+          keeps = λ b k. keeps_on b x y (grows.0 ∷ []) a.rest.0 (ap (λ (s : SpoolState). s.limit) state) a.cause.later grows.1 done.known
+              (images_more W b.state x.state y.state (log b.shelf) (log x.shelf) (log y.shelf) stands.0 stands.1 stands.2 stands.3 k.images (Publish (entry s (files (given (bytes pair.block)) (given (bytes pair.index))))) stands.2 last may.0 done.known done.stands done.images) k;
         }
     publish_turn bytes x y held pair floor (Err publish.DiskFault) a stands =
         let may : MayPublish x.state = a.refused in
@@ -197,6 +232,7 @@ module _ {D : Type 0} (log : D → Option Log) (faults home : D → ℕ) where
         let size : event_count y.state ≡ event_count x.state = ⊎_elim (λ e. ap event_count e) (λ e. ap event_count e) states in
         let halts : y.state.halts ≡ next_count x.state.halts = ⊎_elim (λ e. ap (λ (s : SpoolState). s.halts) e) (λ e. ap (λ (s : SpoolState). s.halts) e) states in
         let limit : y.state.limit ≡ x.state.limit = ⊎_elim (λ e. ap (λ (s : SpoolState). s.limit) e) (λ e. ap (λ (s : SpoolState). s.limit) e) states in
+        let last : y.state.last ≡ x.state.last = ⊎_elim (λ e. ap (λ (s : SpoolState). s.last) e) (λ e. ap (λ (s : SpoolState). s.last) e) states in
         let same = told_stays (history_of log x) (history_of log y) (event_count x.state + 1) (event_count y.state + 1) (failed_stays W (log x.shelf) (log y.shelf) x.state y.state stands.0 stands.1 stands.2 (files (given (bytes pair.block)) (given (bytes pair.index))) stands.3 fails) (ap (λ n. n + 1) size) in
         record {
           history = inl same;
@@ -204,7 +240,9 @@ module _ {D : Type 0} (log : D → Option Log) (faults home : D → ℕ) where
           later = a.cause.later;
           halts = halts;
           rose = λ e. a.cause.failed refl;
-          keeps = λ b k. keeps_on b x y [] a.rest.0 limit a.cause.later (same ∙ sym (append-nil (facts_of log faults home x).history)) fails.known k;
+          one = λ e. first_stop x.state.halted x.state.doubt x.state.halts y.state.halts stands.3.calm may.0 halts;
+          keeps = λ b k. keeps_on b x y [] a.rest.0 limit a.cause.later (same ∙ sym (append-nil (facts_of log faults home x).history)) fails.known
+              (images_fault W b.state x.state y.state (log b.shelf) (log x.shelf) (log y.shelf) stands.0 stands.1 stands.2 stands.3 k.images (files (given (bytes pair.block)) (given (bytes pair.index))) last may.0 fails) k;
         }
     publish_turn bytes x y held pair floor (Err (publish.Halted since back)) a stands = idle_turn x y held a.refused.1
     publish_turn bytes x y held pair floor (Err (publish.StampsSpent last back)) a stands = idle_turn x y held a.refused.3
@@ -220,11 +258,13 @@ module _ {D : Type 0} (log : D → Option Log) (faults home : D → ℕ) where
           later = t.later;
           halts = t.halts;
           rose = t.rose;
-          keeps = λ b k. t.keeps b (record { shelf = k.shelf; limit = k.limit; later = k.later; history = k.history; known = k.known });
+          one = t.one;
+          keeps = λ b k. t.keeps b (record { shelf = k.shelf; limit = k.limit; later = k.later; history = k.history; known = k.known; images = k.images });
         }
 
     pub room_turn : (x r : SpoolView D) (n : ℕ) (held : List Span) → r ≡ record x { spare = n } → MayTurn (facts_of log faults home) (KeepsOf log faults home) x r held held false
     room_turn x r n held is = unmoved x r held held (ap (λ (s : SpoolView D). s.shelf) is) (ap (λ (s : SpoolView D). (facts_of log faults home s).history) is) (ap (λ (s : SpoolView D). s.state.limit) is) (ap (λ (s : SpoolView D). s.state.halts) is) (inl (ap (λ (s : SpoolView D). s.state.holds) is, refl))
+        (λ b first now kept. subst (λ (s : SpoolState). KeepsImages b s first now) (sym (ap (λ (s : SpoolView D). s.state) is)) kept)
 
     pub room_stands : (x r : SpoolView D) (n : ℕ) → r ≡ record x { spare = n } → Stands W (log x.shelf) x.state → Stands W (log r.shelf) r.state
     room_stands x r n is stands = subst (λ (s : SpoolView D). Stands W (log s.shelf) s.state) (sym is) stands

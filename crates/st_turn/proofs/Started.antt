@@ -3,9 +3,10 @@ use Rattle.std.proofs.Common.{◌≡◌, ℕ, zero, suc, ◌+◌, ◌<◌, ◌�
 use Rattle.atomic_table.specs.Seated.{TableId}
 use Rattle.st_disk.specs.Events.{Event}
 use Rattle.st_spool.specs.declared.state.Span.{Span}
-use Rattle.st_turn.specs.Parts.{Facts, PassState, blank}
+use Rattle.st_turn.specs.Parts.{Facts, PassState, Each, blank}
 use Rattle.st_turn.specs.Steps.{starts, gave_out, next_pass}
-use Rattle.st_turn.specs.Passes.{PassView, AreOthers, AreStarted}
+use Rattle.st_turn.specs.Passes.{PassView, AreOthers, AreStarted, HasNoLoans}
+use Rattle.st_turn.proofs.Totals.{each_append}
 
 pub blank_more : (n : ℕ) → replicate n blank ++ blank ∷ [] ≡ replicate (n + 1) blank
 blank_more n = snoc n ∙ ap (λ (k : ℕ). replicate k blank) (let e : suc n ≡ n + 1 = omega arith in e)
@@ -27,3 +28,8 @@ module _ {S : Type 0} (table : TableId) (base : S) (h : Facts Event Span) (n : �
   pub lead_is : (made : ℕ) (ps : List (PassView S)) → AreStarted table base h n made ps → (p : PassView S) × (rest : List (PassView S)) × (ps ≡ p ∷ rest) × (p.table ≡ table) × (p.state ≡ starts base h 0 n made)
   lead_is made [] started = absurd started
   lead_is made (p ∷ ps) started = (p, ps, refl, started.0, started.1)
+
+module _ {S : Type 0} where
+  pub loans_more : (ps : List (PassView S)) (l q : PassView S) → Each HasNoLoans ps → HasNoLoans l → HasNoLoans q → Each HasNoLoans (set ps 0 l ++ q ∷ [])
+  loans_more [] l q none one other = (other, tt)
+  loans_more (p ∷ ps) l q none one other = (one, each_append HasNoLoans ps (q ∷ []) none.1 (other, tt))

@@ -19,7 +19,7 @@ line_read (l ∷ ls) zero d lt = refl
 line_read (l ∷ ls) (suc n) d lt = line_read ls n d (omega arith)
 
 module _ {H : Type 0} where
-  total_removed : (f : H → ℕ) (old : List H) (k : ℕ) (h : H) → k < length old → slice_index_or old k h ≡ h → total f old ≡ f h + total f (remove old k)
+  pub total_removed : (f : H → ℕ) (old : List H) (k : ℕ) (h : H) → k < length old → slice_index_or old k h ≡ h → total f old ≡ f h + total f (remove old k)
   total_removed f [] k h lt e = absurd (omega arith)
   total_removed f (x ∷ xs) zero h lt e = ap (λ (z : H). f z + total f xs) e
   total_removed f (x ∷ xs) (suc k) h lt e = let r = total_removed f xs k h (omega arith) e in omega arith
@@ -78,6 +78,11 @@ module _ {S E H : Type 0} (facts : S → Facts E H) (Keeps : S → S → Type 0)
   stops_cases true vh wh vf wf ps pf e rose = inr (e, refl, failed_up vf wf pf (rose refl))
   stops_cases false vh wh vf wf ps pf e rose = inl (e, refl)
 
+  turn_stops : (stopped : Bool) (vh wh ps : ℕ) → wh ≡ cond stopped (next_count vh) vh → (stopped ≡ true → vh < wh)
+      → ((wh ≡ vh) × (cond stopped (next_count ps) ps ≡ ps)) ⊎ ((wh ≡ next_count vh) × (cond stopped (next_count ps) ps ≡ next_count ps) × (vh < wh))
+  turn_stops true vh wh ps e one = inr (e, refl, one refl)
+  turn_stops false vh wh ps e one = inl (e, refl)
+
   pub moves_by : (x : Booked S) (w : S) (p : PassState S E H) (next : List H) (stopped : Bool) (n : ℕ) (lines : List Line) → Learns facts Keeps x p → MayTurn facts Keeps x.spool w p.held next stopped → p.card.number ≡ Some n
       → lines ≡ set x.lines n (line_after (line_of x.lines n) (has_risen (facts x.spool).faults (facts w).faults) stopped)
       → Moves facts Keeps x (record { spool = w; lines = lines }) p (turned x.spool w p next stopped) × IsTurn facts x.spool w p (turned x.spool w p next stopped)
@@ -111,7 +116,7 @@ module _ {S E H : Type 0} (facts : S → Facts E H) (Keeps : S → S → Type 0)
           after = refl;
           own = refl;
           failed = refl;
-          stops = ⊎_elim (λ s. inl s) (λ s. inr (s.0, s.1)) stops;
+          stops = turn_stops stopped (facts v).halts (facts w).halts p.card.stops m.halts m.one;
           halts = (l.own.card.halts, refl);
           held = m.holds;
           asks = refl;

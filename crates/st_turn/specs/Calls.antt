@@ -39,7 +39,7 @@ module _ {S E H : Type 0} where
     pub failed : q.card.failed ≡ failed_after (facts v).faults (facts w).faults p.card.failed
     pub stops : (((facts w).halts ≡ (facts v).halts) × (q.card.stops ≡ p.card.stops))
         ⊎ (((facts w).halts ≡ next_count (facts v).halts)
-        × (q.card.stops ≡ next_count p.card.stops))
+        × (q.card.stops ≡ next_count p.card.stops) × ((facts v).halts < (facts w).halts))
     pub halts : (p.card.halts ≤ (facts v).halts) × (q.card.halts ≡ (facts w).halts)
     -- the holds
     pub held : HeldAfter (facts v).holds (facts w).holds p.held q.held
@@ -59,6 +59,7 @@ module _ {S E H : Type 0} where
     pub later : (facts v).faults ≤ (facts w).faults
     pub halts : (facts w).halts ≡ cond stopped (next_count (facts v).halts) (facts v).halts
     pub rose : stopped ≡ true → next_count (facts v).faults ≤ (facts w).faults
+    pub one : stopped ≡ true → (facts v).halts < (facts w).halts
     pub keeps : (b : S) → Keeps b v → Keeps b w
 
 -- a line of the book after a turn

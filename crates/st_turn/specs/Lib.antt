@@ -6,4 +6,7 @@ pub mod Calls
 pub mod Passes
 pub mod Ends
 pub mod Spools
+pub mod Files
 pub mod SpoolCalls
+pub mod Counts
+pub mod ReadingCalls

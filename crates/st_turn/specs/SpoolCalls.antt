@@ -7,8 +7,10 @@ use Rattle.st_disk.specs.Folders.{given}
 use Rattle.st_disk.specs.Pairs.{Entry, Files}
 use Rattle.st_disk.specs.Events.{Event}
 use Rattle.st_shelf.specs.Origins.{DraftOrigin}
+use Rattle.st_shelf.specs.Ends.{end_faults, TakesFaults}
 use Rattle.st_shelf.specs.Loans.{LoansView}
 use Rattle.st_shelf.specs.declared.shelves.SealedPair.{SealedPair}
+use Rattle.st_shelf.specs.declared.shelves.End.{End}
 use Rattle.st_spool.specs.declared.state.Span.{Span}
 use Rattle.st_spool.specs.declared.refusals.DiskFault.{DiskFault}
 use Rattle.st_spool.specs.declared.refusals.AgeErr.{AgeErr}
@@ -19,12 +21,13 @@ use Rattle.st_turn.specs.declared.refusals.SharedPublishErr.{SharedPublishErr}
 use Rattle.st_turn.specs.declared.refusals.SharedPublishErr.TheVariants as shared
 use Rattle.st_spool.specs.History.{set_of}
 use Rattle.st_spool.specs.States.{SpoolView, held}
-use Rattle.st_spool.specs.Standing.{StandsFor}
+use Rattle.st_spool.specs.Standing.{StandsFor, Stands}
 use Rattle.st_spool.specs.Placing.{files, entry}
 use Rattle.st_spool.specs.Publishing.{next_stamp, MayPublish, published as with_pair, FailsToPublish, Publishes, Fails, Keeps}
 use Rattle.st_spool.specs.Aging.{pair_count, MayAge, Ages, AgesTo}
 use Rattle.st_spool.specs.Refusing.{RefusesPair, RefusesAge}
-use Rattle.st_spool.specs.Holding.{whole_set, with_hold, Sweeps}
+use Rattle.st_spool.specs.Holding.{whole_set, with_hold, IsWithout, Sweeps}
+use Rattle.st_turn.specs.Spools.{KeepsOf}
 
 -- an ageing that failed, and so stopped the spool
 abbrev pub age_stopped : Result Bool AgeErr → Bool
@@ -46,6 +49,12 @@ told (Err publish.DiskFault) = Err shared.DiskFault
 told (Err (publish.Halted since pair)) = Err (shared.Halted since pair)
 told (Err (publish.StampsSpent last pair)) = Err (shared.StampsSpent last pair)
 
+-- a spool as a turn finds it: it stands for a history, and keeps what the spool was that was shared
+pub record IsAtHome {D : Type 0} (W : List ℕ → List ℕ → Type 0) (log : D → Option Log)
+    (faults home : D → ℕ) (base v : SpoolView D) : Type 0 where
+  pub stands : Stands W (log v.shelf) v.state
+  pub keeps : KeepsOf log faults home base v
+
 module _ {D : Type 0} (W : List ℕ → List ℕ → Type 0) (log : D → Option Log) (faults home : D → ℕ)
     (loans : D → LoansView) (v w : SpoolView D) where
   -- a call without an event: the spool stands for its history as before, and only its shelf changed
@@ -65,6 +74,13 @@ module _ {D : Type 0} (W : List ℕ → List ℕ → Type 0) (log : D → Option
     pub cause : HasCause (faults v.shelf) (faults w.shelf) result
     pub loans_are : loans w.shelf ≡ loans v.shelf
 
+  pub record Abandons {T S : Type 0} (draft_faults : T → ℕ) (sealed_faults : S → ℕ)
+      (end : End T S) : Type 0 where
+    pub stays : StaysAs
+    pub cause : TakesFaults (end_faults draft_faults sealed_faults end)
+        (faults v.shelf) (faults w.shelf)
+    pub loans_are : loans w.shelf ≡ loans v.shelf
+
   pub record Holds {E : Type 0} (result : Result Span E) : Type 0 where
     pub stands : (earlier h : List Event) (f : Files)
         → StandsFor W (log v.shelf) v.state earlier h f
@@ -74,6 +90,20 @@ module _ {D : Type 0} (W : List ℕ → List ℕ → Type 0) (log : D → Option
     pub state : MatchResult result
         (λ k. (k ≡ whole_set v.state) × (w ≡ record v { state = with_hold v.state }))
         (λ e. w ≡ v)
+
+  pub record Releases (hold : Span) : Type 0 where
+    pub keeps : (earlier h : List Event) (f : Files)
+        → StandsFor W (log v.shelf) v.state earlier h f
+        → Keeps W (log v.shelf) (log w.shelf) w.state earlier h f
+    pub without : IsWithout hold v.state.holds w.state.holds
+    pub state : w ≡ record v {
+      shelf = w.shelf;
+      state = record v.state { holds = w.state.holds; swept = w.state.swept };
+    }
+    pub sweeps : Sweeps (log w.shelf) v.state.stamps w.state.holds v.state.swept w.state.swept
+        v.state.removed (faults v.shelf) (faults w.shelf)
+    pub cause : faults v.shelf ≤ faults w.shelf
+    pub rest : (home w.shelf ≡ home v.shelf) × (loans w.shelf ≡ loans v.shelf)
 
   pub record AgesBy (result : Result Bool AgeErr) : Type 0 where
     pub aged : (earlier h : List Event) (f : Files) (e : Entry) (after : List Entry)

@@ -1,20 +1,43 @@
 -- A spool as the rule of turns reads it, and what a later state of it keeps of an earlier one.
-use Rattle.std.specs.Prelude.{◌≡◌, ◌≤◌, ◌+◌, ℕ, List, [], Option, Some, None, replicate}
-use mathlib.Core.Path.{refl, sym}
-use mathlib.Core.List.{append-nil}
-use native.Mathlib.Nat.{le_refl}
+use Rattle.std.specs.Prelude.{◌≡◌, ◌≤◌, ◌+◌, ◌++◌, ℕ, List, [], ◌∷◌, Option, Some, None, replicate, max}
 use Rattle.st_disk.specs.Disks.{Log}
 use Rattle.st_disk.specs.LoggedCalls.{KnownBefore}
-use Rattle.st_disk.specs.Events.{Event, Found}
+use Rattle.st_disk.specs.Events.{Event, Found, Publish, Remove, events}
 use Rattle.st_spool.specs.declared.state.Span.{Span}
-use Rattle.st_spool.specs.States.{SpoolView}
-use Rattle.st_spool.specs.Recalling.{history_of, event_count}
+use Rattle.st_spool.specs.States.{SpoolState, SpoolView}
+use Rattle.st_spool.specs.Recalling.{history, history_of, earlier, event_count}
+use Rattle.st_spool.specs.Standing.{after_found}
+use Rattle.st_spool.specs.Covers.{CoversInDoubt}
 use Rattle.st_turn.specs.Parts.{Facts, IsPrefix}
 
 -- a history; where the shelf's log is not known, nothing but its number of events
 abbrev pub told_history : Option (List Event) → ℕ → List Event
 told_history None n = replicate n (Found [])
 told_history (Some h) n = h
+
+-- the greatest of a number and of the stamps that a history published
+abbrev pub top_stamp : ℕ → List Event → ℕ
+top_stamp n [] = n
+top_stamp n (Found es ∷ h) = top_stamp n h
+top_stamp n (Publish e ∷ h) = top_stamp (max n e.stamp) h
+top_stamp n (Remove s ∷ h) = top_stamp n h
+
+-- What two states of a spool and their logs say of what lies between them: the same events came
+-- before the opening, and more events after the history of the earlier one. At every moment between
+-- them a crash leaves the pairs of the history so far; on the way to the next event, or since a
+-- call failed, that or the set with the event, and since a call failed the second only if the shelf
+-- settled that event's block or hid its index.
+pub record KeepsImages (b x : SpoolState) (first now : Log) : Type 0 where
+  pub earlier_is : earlier x now ≡ earlier b first
+  pub more : List Event
+  pub history_is : history x now ≡ history b first ++ more
+  pub last_is : x.last ≡ top_stamp b.last (history x now)
+  -- the event in doubt, if the shelf's log has one
+  pub doubt : List Event
+  pub past : events now ≡ earlier x now ++ (after_found (history x now) ++ doubt)
+  pub calm : x.halted ≡ None → doubt ≡ []
+  -- the crashes, if the earlier spool had not failed
+  pub covers : b.halted ≡ None → CoversInDoubt (history b first) more doubt first now
 
 module _ {D : Type 0} (log : D → Option Log) (faults home : D → ℕ) where
   abbrev pub facts_of : SpoolView D → Facts Event Span
@@ -34,23 +57,6 @@ module _ {D : Type 0} (log : D → Option Log) (faults home : D → ℕ) where
     pub later : faults b.shelf ≤ faults x.shelf
     pub history : IsPrefix (facts_of b).history (facts_of x).history
     pub known : KnownBefore (log b.shelf) (log x.shelf)
-
-  -- a state of a spool keeps all of itself
-  pub keeps_self : (x : SpoolView D) → KeepsOf x x
-  keeps_self x =
-      record {
-        shelf = refl;
-        limit = refl;
-        later = le_refl (faults x.shelf);
-        history = ([], sym (append-nil (facts_of x).history));
-        known = λ l e. (
-          l,
-          e,
-          record {
-            blocks = refl;
-            indexes = refl;
-            more = [];
-            calls = sym (append-nil l.calls);
-          },
-        );
-      }
+    -- where the log is known
+    pub images : (first now : Log) → log b.shelf ≡ Some first → log x.shelf ≡ Some now
+        → KeepsImages b.state x.state first now

@@ -16,6 +16,7 @@ use std::marker::PhantomData;
 use std::snapshot::Snapshot;
 use std::sync::Wait;
 use std::thread;
+use std::time::Duration;
 
 /// The rule of the table: its one word is 0 while the spool is at home in its one slot, and 1 while
 /// one pass has it.
@@ -67,6 +68,33 @@ pub type Desk<S> = Steps<Option<Home<S>>, Knowledge<S>, Snapshot<Home<S>>, Rule<
 
 pub type Place<S> = Seat<Option<Home<S>>, Knowledge<S>>;
 
+// A caller that finds the turn taken tries again at once so often, then lets others run between its
+// tries, up to so many tries, and then sleeps, each time twice as long, up to 4 milliseconds.
+const AT_ONCE: u32 = 16;
+
+const AWAKE: u32 = 32;
+
+const FIRST_SLEEP_MICROS: u64 = 64;
+
+const MOST_DOUBLINGS: u32 = 6;
+
+// Lets others have the processor after so many tries in vain. It sleeps only while the turn is
+// taken; nobody wakes it.
+fn stand_back<S: Turned, R: Wait>(rt: &R, desk: &Desk<S>, tries: u32)
+    requires { desk.now.table_id.words ≡ 1 }
+{
+    if tries < AT_ONCE {
+        return;
+    }
+    if tries < AWAKE {
+        thread::yield_now();
+        return;
+    }
+    let doublings = (tries - AWAKE).min(MOST_DOUBLINGS);
+    let micros = FIRST_SLEEP_MICROS << doublings;
+    desk.park_timeout(rt, 0, 1, Duration::from_micros(micros));
+}
+
 /// Waits for the turn, and takes the spool with its book.
 pub(crate) fn take<S: Turned, R: Wait>(rt: &R, desk: &Desk<S>, place: &mut Place<S>) -> Home<S>
     requires table { (place.old.table_id ≡ desk.now.table_id)
@@ -77,11 +105,13 @@ pub(crate) fn take<S: Turned, R: Wait>(rt: &R, desk: &Desk<S>, place: &mut Place
     ensures turn { place.new.me ≡ (turning result place.old.me.0.pass, (0, None) ∷ []) }
     ensures learns { Learns S.facts S.keeps result place.old.me.0.pass }
 {
+    let mut tries: u32 = 0;
     for _ in rt.forever() {
         if desk.compare_exchange::<TryTake<S>>(place, 0, 0, 1) == 0 {
             return desk.exchange(place, 0, None).unwrap();
         }
-        thread::yield_now();
+        stand_back(rt, desk, tries);
+        tries = tries.saturating_add(1);
     }
     unreachable!()
 }

@@ -19,7 +19,11 @@ fn merge<S: Turned>(desk: &Desk<S>, pass: &mut Pass<S>, other: Pass<S>)
     ensures { (pass.new.table ≡ pass.old.table) × (pass.new.id ≡ pass.old.id)
         × (pass.new.state ≡ joined pass.old.state other.state) }
 {
-    let Pass { place, number: _ } = other;
+    let Pass {
+        place,
+        number: _,
+        files: _,
+    } = other;
     desk.join_seat::<Merge<S>>(&mut pass.place, place);
 }
 
@@ -51,7 +55,11 @@ impl<S: Turned> Shared<S> {
     {
         let Shared { table, passes: _ } = self;
         let lead = gather(&table.shared, passes);
-        let Pass { place, number: _ } = lead;
+        let Pass {
+            place,
+            number: _,
+            files: _,
+        } = lead;
         let mut closed = table.close_with(place);
         let slot = closed.take(0);
         closed.free();

@@ -1,10 +1,10 @@
-ghost use Rattle.std.specs.Prelude.{◌≡◌};
+ghost use Rattle.std.specs.Prelude.{◌≡◌, ◌++◌, ◌∷◌, [], Contains, MatchResult};
 ghost use Rattle.st_spool.specs.States.{SpoolView};
-ghost use Rattle.st_spool.specs.Standing.{Stands};
-ghost use Rattle.st_turn.specs.Passes.{IsOf};
+ghost use Rattle.st_turn.specs.Passes.{IsOf, IsSame};
 ghost use Rattle.st_turn.specs.Spools.{facts_of};
-ghost use Rattle.st_turn.specs.Calls.{IsTurn};
-ghost use Rattle.st_turn.specs.SpoolCalls.{Holds, AgesBy, age_stopped};
+ghost use Rattle.st_turn.specs.Calls.{IsTurn, Without};
+ghost use Rattle.st_turn.specs.SpoolCalls.{IsAtHome, Holds, AgesBy, Releases, age_stopped};
+ghost use Rattle.st_turn.specs.Counts.{AgeRefuses};
 
 use crate::desk::{end, take};
 use crate::home::Home;
@@ -30,9 +30,13 @@ impl<D: Shelf, W: PairRule> Shared<Spool<D, W>> {
     /// turn. The hold must be spent, by `release`.
     pub fn hold<R: Wait>(&self, rt: &R, pass: &mut Pass<Spool<D, W>>) -> Result<Hold, NoMemory>
         requires { IsOf self.now pass.old }
-        ensures same { (pass.new.table ≡ pass.old.table) × (pass.new.id ≡ pass.old.id) }
+        ensures same { IsSame pass.old pass.new }
+        ensures holds { MatchResult result (λ k. pass.new.state.held ≡ pass.old.state.held ++ k ∷ [])
+            (λ _. pass.new.state.held ≡ pass.old.state.held) }
+        ensures loans { pass.new.loans ≡ pass.old.loans }
+        // the turn
         ensures turn { (v : SpoolView D) × (w : SpoolView D)
-            × Stands W.is_whole (D.log v.shelf) v.state
+            × IsAtHome W.is_whole D.log D.faults D.id self.now.base v
             × IsTurn (facts_of D.log D.faults D.id) v w pass.old.state pass.new.state
             × Holds W.is_whole D.log D.faults D.id D.loans v w result }
     {
@@ -58,11 +62,15 @@ impl<D: Shelf, W: PairRule> Shared<Spool<D, W>> {
     /// `DiskFault` comes only if the pass's `failed` rose, and raises its `stops`.
     pub fn age<R: Wait>(&self, rt: &R, pass: &mut Pass<Spool<D, W>>) -> Result<bool, AgeErr>
         requires { IsOf self.now pass.old }
-        ensures same { (pass.new.table ≡ pass.old.table) × (pass.new.id ≡ pass.old.id) }
+        ensures same { IsSame pass.old pass.new }
+        ensures holds { pass.new.state.held ≡ pass.old.state.held }
+        ensures loans { pass.new.loans ≡ pass.old.loans }
+        // the turn
         ensures turn { (v : SpoolView D) × (w : SpoolView D)
-            × Stands W.is_whole (D.log v.shelf) v.state
+            × IsAtHome W.is_whole D.log D.faults D.id self.now.base v
             × IsTurn (facts_of D.log D.faults D.id) v w pass.old.state pass.new.state
-            × AgesBy W.is_whole D.log D.faults D.id D.loans v w result }
+            × AgesBy W.is_whole D.log D.faults D.id D.loans v w result
+            × AgeRefuses pass.old.state.card pass.new.state.card result }
     {
         let desk = &self.table.shared;
         let Home { mut spool, lines } = take(rt, desk, &mut pass.place);
@@ -79,5 +87,34 @@ impl<D: Shelf, W: PairRule> Shared<Spool<D, W>> {
             stop,
         );
         answer
+    }
+
+    /// Ends a hold of this pass, as the spool's `release` does, in one turn.
+    pub fn release<R: Wait>(&self, rt: &R, pass: &mut Pass<Spool<D, W>>, hold: Hold)
+        requires of { IsOf self.now pass.old }
+        requires hold { Contains pass.old.state.held hold }
+        // the pass
+        ensures same { IsSame pass.old pass.new }
+        ensures holds { Without hold pass.old.state.held pass.new.state.held }
+        ensures loans { pass.new.loans ≡ pass.old.loans }
+        // the turn
+        ensures turn { (v : SpoolView D) × (w : SpoolView D)
+            × IsAtHome W.is_whole D.log D.faults D.id self.now.base v
+            × IsTurn (facts_of D.log D.faults D.id) v w pass.old.state pass.new.state
+            × Releases W.is_whole D.log D.faults D.id D.loans v w hold }
+    {
+        let desk = &self.table.shared;
+        let Home { mut spool, lines } = take(rt, desk, &mut pass.place);
+        spool.recall();
+        let before = spool.fault_count();
+        spool.release(hold);
+        end(
+            desk,
+            &mut pass.place,
+            pass.number,
+            (spool, lines),
+            before,
+            false,
+        );
     }
 }

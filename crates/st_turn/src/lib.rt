@@ -6,8 +6,10 @@
 //!
 //! # What it promises
 //!
-//! - A turn starts from the spool at home, and its answer is the spool's (`Shared::publish`, `age`,
-//!   `hold`, `create`: their clause `turn`).
+//! - A turn starts from the spool at home, and its answer is the spool's (the clause `turn` of each
+//!   call of `Shared` but `meet` and `finish`).
+//! - A pass reads and releases only sets that it holds, and counts the files that its own turns lent
+//!   and took back (the clauses `holds` and `loans` of these calls).
 //! - Two passes that meet have the longer of the two histories that they saw (`Shared::meet`).
 //! - The spool comes back with no hold out; each pass saw a beginning of its history, no two passes
 //!   own one event, and the counts of faults are those of all turns (`Shared::finish`).
@@ -19,9 +21,9 @@
 //! # Where to read
 //!
 //! `specs/Turn.antt` has the rule of turns over any value, `specs/Parts.antt` its parts for a spool
-//! and its passes, `specs/Calls.antt` what a turn makes of a pass, `specs/SpoolCalls.antt` what it
-//! makes of the spool. docs/ARCHITECTURE.md, "How callers share a spool", says which step keeps
-//! which part. Then `sharing` and `desk`.
+//! and its passes, `specs/Calls.antt` what a turn makes of a pass, `specs/SpoolCalls.antt` and
+//! `specs/ReadingCalls.antt` what it makes of the spool. docs/ARCHITECTURE.md, "How callers share a
+//! spool", says which step keeps which part. Then `sharing` and `desk`.
 #![tactic(auto)]
 
 mod book;
@@ -33,9 +35,11 @@ mod home;
 mod meeting;
 mod pass;
 mod publishing;
+mod reading;
 mod refusals;
 mod sharing;
 mod spools;
+mod trail;
 mod turned;
 
 pub use book::Line;

@@ -56,7 +56,8 @@ fn tell<S: Turned>(desk: &Desk<S>, from: &mut Pass<S>, to: &mut Pass<S>)
         × (desk.now.table_id.words ≡ 1) }
     ensures from { from.new ≡ from.old }
     ensures to { (to.new.table ≡ to.old.table) × (to.new.id ≡ to.old.id)
-        × (to.new.state ≡ joined to.old.state (visitor from.old.state.card.seen)) }
+        × (to.new.state ≡ joined to.old.state (visitor from.old.state.card.seen))
+        × (to.new.loans ≡ to.old.loans) }
 {
     let visitor = desk.split_seat::<Visit<S>>(&mut from.place);
     desk.join_seat::<Merge<S>>(&mut to.place, visitor);

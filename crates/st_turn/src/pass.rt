@@ -1,4 +1,5 @@
 use crate::desk::Place;
+use crate::trail::Trail;
 use crate::turned::Turned;
 use std::marker::Model;
 
@@ -6,6 +7,7 @@ use std::marker::Model;
 pub struct Pass<S: Turned> {
     pub(crate) place: Place<S>,
     pub(crate) number: usize,
+    pub(crate) files: Trail<S::File, bool>,
 }
 
 impl<S: Turned> Model for Pass<S> {
@@ -19,6 +21,7 @@ impl<S: Turned> Model for Pass<S> {
       table = p.place.table_id;
       id = p.place.id;
       state = p.place.me.0.pass;
+      loans = S.counted p.files.items;
     } };
 
     // between its calls it has no turn

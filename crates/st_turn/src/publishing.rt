@@ -1,13 +1,13 @@
-ghost use Rattle.std.specs.Prelude.{◌≡◌, Some};
+ghost use Rattle.std.specs.Prelude.{◌≡◌, ℕ, Some};
 ghost use Rattle.st_disk.specs.Disks.{Log};
 ghost use Rattle.st_disk.specs.Folders.{given};
 ghost use Rattle.st_spool.specs.Publishing.{IsPairOf};
 ghost use Rattle.st_spool.specs.States.{SpoolView};
-ghost use Rattle.st_spool.specs.Standing.{Stands};
-ghost use Rattle.st_turn.specs.Passes.{IsOf};
+ghost use Rattle.st_turn.specs.Passes.{IsOf, IsSame};
 ghost use Rattle.st_turn.specs.Spools.{facts_of};
 ghost use Rattle.st_turn.specs.Calls.{IsTurn};
-ghost use Rattle.st_turn.specs.SpoolCalls.{told, publish_stopped, SharedPublishes};
+ghost use Rattle.st_turn.specs.SpoolCalls.{told, IsAtHome, SharedPublishes};
+ghost use Rattle.st_turn.specs.Counts.{has_failed, PublishRefuses};
 
 use crate::desk::{end, take};
 use crate::home::Home;
@@ -18,14 +18,15 @@ use st_shelf::{Draft, SealedPair, Shelf};
 use st_spool::{PairRule, PublishErr, Spool};
 use std::sync::Wait;
 
-fn is_stopped<T: Draft>(answer: &Result<u64, PublishErr<T>>) -> bool
-    ensures { result ≡ publish_stopped answer.now }
+fn is_stopped<T: Draft>(answer: &Result<u64, SharedPublishErr<T>>) -> bool
+    ensures { result ≡ has_failed answer.now }
 {
     match answer {
         Ok(_) => false,
-        Err(PublishErr::DiskFault) => true,
-        Err(PublishErr::Halted { .. }) => false,
-        Err(PublishErr::StampsSpent { .. }) => false,
+        Err(SharedPublishErr::DiskFault) => true,
+        Err(SharedPublishErr::Halted { .. }) => false,
+        Err(SharedPublishErr::StampsSpent { .. }) => false,
+        Err(SharedPublishErr::NoMemory { .. }) => false,
     }
 }
 
@@ -40,6 +41,27 @@ fn shared_answer<T: Draft>(answer: Result<u64, PublishErr<T>>) -> Result<u64, Sh
             Err(SharedPublishErr::StampsSpent { last, pair })
         }
     }
+}
+
+// Makes room for a publication and publishes, as the spool does.
+fn publish_with_room<D: Shelf, W: PairRule>(
+    spool: &mut Spool<D, W>,
+    pair: SealedPair<D::Draft>,
+    floor: u64,
+) -> Result<u64, SharedPublishErr<D::Draft>>
+    requires pair { IsPairOf (D.id spool.old.shelf)
+        (D.Draft.sealed_origin pair.block) (D.Draft.sealed_origin pair.index) }
+    requires whole { (log : Log) → D.log spool.old.shelf ≡ Some log
+        → W.is_whole (given (D.Draft.sealed_bytes pair.block))
+        (given (D.Draft.sealed_bytes pair.index)) }
+    ensures { (room : ℕ) × SharedPublishes W.is_whole D.log D.faults D.id D.loans
+        (record spool.old { spare = room }) spool.new D.Draft.sealed_bytes pair floor result }
+{
+    if let Err(_) = spool.reserve() {
+        return Err(SharedPublishErr::NoMemory { pair });
+    }
+    let answer = spool.publish(pair, floor);
+    shared_answer(answer)
 }
 
 impl<D: Shelf, W: PairRule> Shared<Spool<D, W>> {
@@ -61,29 +83,24 @@ impl<D: Shelf, W: PairRule> Shared<Spool<D, W>> {
         requires whole { (log : Log) → D.log self.now.base.shelf ≡ Some log
             → W.is_whole (given (D.Draft.sealed_bytes pair.block))
             (given (D.Draft.sealed_bytes pair.index)) }
-        ensures same { (pass.new.table ≡ pass.old.table) × (pass.new.id ≡ pass.old.id) }
+        // the pass
+        ensures same { IsSame pass.old pass.new }
+        ensures holds { pass.new.state.held ≡ pass.old.state.held }
+        ensures loans { pass.new.loans ≡ pass.old.loans }
+        // the turn
         ensures turn { (v : SpoolView D) × (w : SpoolView D)
-            × Stands W.is_whole (D.log v.shelf) v.state
+            × IsAtHome W.is_whole D.log D.faults D.id self.now.base v
             × IsTurn (facts_of D.log D.faults D.id) v w pass.old.state pass.new.state
             × SharedPublishes W.is_whole D.log D.faults D.id D.loans v w
-            D.Draft.sealed_bytes pair floor result }
+            D.Draft.sealed_bytes pair floor result
+            × PublishRefuses D.log self.now.base.state.last v
+            pass.old.state.card pass.new.state.card result }
     {
         let desk = &self.table.shared;
         let Home { mut spool, lines } = take(rt, desk, &mut pass.place);
         spool.recall();
         let before = spool.fault_count();
-        if let Err(_) = spool.reserve() {
-            end(
-                desk,
-                &mut pass.place,
-                pass.number,
-                (spool, lines),
-                before,
-                false,
-            );
-            return Err(SharedPublishErr::NoMemory { pair });
-        }
-        let answer = spool.publish(pair, floor);
+        let answer = publish_with_room(&mut spool, pair, floor);
         let stop = is_stopped(&answer);
         end(
             desk,
@@ -93,6 +110,6 @@ impl<D: Shelf, W: PairRule> Shared<Spool<D, W>> {
             before,
             stop,
         );
-        shared_answer(answer)
+        answer
     }
 }

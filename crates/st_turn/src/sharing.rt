@@ -1,13 +1,14 @@
 ghost use Rattle.std.specs.Prelude.{◌≡◌, ◌<◌, ◌≤◌, ◌+◌, [], ◌∷◌, IfOk, IfErr, Some, length, vec_len, vec_capacity, replicate};
 ghost use Rattle.st_turn.specs.Turn.{idle};
-ghost use Rattle.st_turn.specs.Parts.{blank};
+ghost use Rattle.st_turn.specs.Parts.{blank, Each};
 ghost use Rattle.st_turn.specs.Steps.{starts, gave_out, next_pass};
-ghost use Rattle.st_turn.specs.Passes.{AreStarted};
+ghost use Rattle.st_turn.specs.Passes.{AreStarted, HasNoLoans};
 
 use crate::book::Line;
 use crate::desk::{Desk, Place, Rule};
 use crate::home::{Home, Knowledge};
 use crate::pass::Pass;
+use crate::trail::Trail;
 use crate::turned::Turned;
 use atomic_table::{Refused, Split, Table};
 use st_base::NoMemory;
@@ -78,11 +79,16 @@ fn number_next<S: Turned>(desk: &Desk<S>, lead: &mut Pass<S>, number: usize) -> 
     requires number { (lead.old.state.card.number ≡ Some 0) × (lead.old.state.made ≡ number)
         × (number < length desk.now.key.value.lines) }
     ensures lead { (lead.new.table ≡ lead.old.table) × (lead.new.id ≡ lead.old.id)
-        × (lead.new.state ≡ gave_out lead.old.state) }
-    ensures next { (result.table ≡ lead.old.table) × (result.state ≡ next_pass lead.old.state) }
+        × (lead.new.state ≡ gave_out lead.old.state) × (lead.new.loans ≡ lead.old.loans) }
+    ensures next { (result.table ≡ lead.old.table) × (result.state ≡ next_pass lead.old.state)
+        × HasNoLoans result }
 {
     let place = desk.split_seat::<Number<S>>(&mut lead.place);
-    Pass { place, number }
+    Pass {
+        place,
+        number,
+        files: Trail::new(),
+    }
 }
 
 fn number_all<S: Turned>(desk: &Desk<S>, given: &mut Vec<Pass<S>>, passes: usize)
@@ -91,8 +97,10 @@ fn number_all<S: Turned>(desk: &Desk<S>, given: &mut Vec<Pass<S>>, passes: usize
     requires room { (vec_len given.old ≡ 1) × (passes ≤ vec_capacity given.old) }
     requires lead { AreStarted desk.now.table_id desk.now.key.value.spool
         (S.facts desk.now.key.value.spool) passes 1 given.old.items }
+    requires loans { Each HasNoLoans given.old.items }
     ensures all { AreStarted desk.now.table_id desk.now.key.value.spool
         (S.facts desk.now.key.value.spool) passes passes given.new.items }
+    ensures loans { Each HasNoLoans given.new.items }
     ensures count { vec_len given.new ≡ passes }
 {
     for number in 1..passes {
@@ -115,6 +123,7 @@ fn lay<S: Turned>(alloc: Global, home: Home<S>) -> Result<(Laid<S>, Place<S>), H
         × (t.1.me ≡ (idle (starts home.spool (S.facts home.spool) 0 (length home.lines) 1), []))) }
     ensures back { IfErr result (λ h. h ≡ home) }
 {
+    home.spool.keep();
     let _fits = home.spool.failed_calls();
     let about = Snapshot::of(&home);
     let mut slots = Vec::new(alloc);
@@ -145,8 +154,12 @@ pub fn share<S: Turned>(
     requires count { (1 ≤ passes) × (passes ≤ 64) }
     requires holds { (S.facts spool).holds ≡ [] }
     ensures shared { IfOk result (λ r. (r.0.base ≡ spool) × (r.0.passes ≡ passes)) }
+    // the passes
     ensures started { IfOk result
         (λ r. AreStarted r.0.table spool (S.facts spool) passes passes r.1.items) }
+    ensures loans { IfOk result (λ r. Each HasNoLoans r.1.items) }
+    ensures all { IfOk result (λ r. length r.1.items ≡ passes) }
+    // a refusal
     ensures refused { IfErr result (λ n. n.spool ≡ spool) }
 {
     let count = passes as usize;
@@ -158,7 +171,12 @@ pub fn share<S: Turned>(
     };
     match lay(alloc, Home { spool, lines }) {
         Ok((table, place)) => {
-            let pushed = given.push(Pass { place, number: 0 });
+            let first = Pass {
+                place,
+                number: 0,
+                files: Trail::new(),
+            };
+            let pushed = given.push(first);
             let Ok(()) = pushed else { unreachable!() };
             number_all(&table.shared, &mut given, count);
             let shared = Shared {

@@ -3,9 +3,17 @@ use st_shelf::Shelf;
 use st_spool::{PairRule, Spool};
 
 impl<D: Shelf, W: PairRule> Turned for Spool<D, W> {
-    ghost use Rattle.st_turn.specs.Spools.{facts_of, KeepsOf, keeps_self};
+    type File = D::File;
+
+    ghost use Rattle.std.proofs.Common.{refl};
+    ghost use Rattle.st_turn.specs.Files.{loans_of};
+    ghost use Rattle.st_turn.specs.Spools.{facts_of, KeepsOf};
 
     ghost facts = { facts_of D.log D.faults D.id };
+
+    ghost counted = { loans_of D.file_origin D.File.reads D.File.asked };
+
+    ghost counted_none = { refl };
 
     ghost keeps = { KeepsOf D.log D.faults D.id };
 
@@ -17,5 +25,7 @@ impl<D: Shelf, W: PairRule> Turned for Spool<D, W> {
         Spool::failed_calls(self)
     }
 
-    ghost keeps_self = { keeps_self D.log D.faults D.id };
+    fn keep(&self) {
+        self.recall()
+    }
 }

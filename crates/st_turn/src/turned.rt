@@ -1,10 +1,18 @@
-ghost use Rattle.std.specs.Prelude.{◌≡◌};
+ghost use Rattle.std.specs.Prelude.{◌≡◌, List, [], Bool};
 ghost use Rattle.st_disk.specs.Events.{Event};
+ghost use Rattle.st_shelf.specs.Loans.{LoansView, no_loans};
 ghost use Rattle.st_spool.specs.declared.state.Span.{Span};
 ghost use Rattle.st_turn.specs.Parts.{Facts};
 
 /// What passes share by turns, as the rule reads it: a spool.
 pub trait Turned {
+    /// A file that it lends.
+    type File;
+
+    /// What is counted of these files, each of which was lent (true) or came back (false), in
+    /// order.
+    ghost counted: { List (Self.File × Bool) → LoansView };
+
     /// Its history, its holds and its counts.
     ghost facts: { Self → Facts Event Span };
 
@@ -19,6 +27,10 @@ pub trait Turned {
     fn failed_calls(&self) -> u64
         ensures { result ≡ (facts self.now).halts };
 
-    // a state keeps all of itself
-    ghost keeps_self: { (x : Self) → keeps x x };
+    /// Says that it keeps all of itself. It does nothing.
+    fn keep(&self)
+        ensures { keeps self.now self.now };
+
+    // of no file nothing is counted
+    ghost counted_none: { counted [] ≡ no_loans };
 }

@@ -23,4 +23,4 @@ new-requires g c =
     (subst (λ (h : Booked g.row.S.Denot). 1 ≤ length h.lines) same c.requires.lines.1)
     (subst (λ (h : Booked g.row.S.Denot). (facts h.spool).holds ≡ []) same c.requires.holds)
     fits
-    (g.met.S.Turned.keeps_self key.spool))
+    (subst (λ (h : Booked g.row.S.Denot). keeps h.spool h.spool) (c.home.view_is ∙ same) c.keep.ensures))

@@ -1,10 +1,10 @@
 use Rattle.std.proofs.Common.{rules, ◌≡◌, ◌∷◌, [], ◌++◌, ◌+◌, ◌≤◌, ◌∙◌, ap, sym, subst, List, length, set, get_or, vec_len, vec_capacity, arith}
 use Rattle.st_disk.specs.Events.{Event}
 use Rattle.st_spool.specs.declared.state.Span.{Span}
-use Rattle.st_turn.specs.Parts.{PassState}
+use Rattle.st_turn.specs.Parts.{PassState, Each}
 use Rattle.st_turn.specs.Steps.{starts, gave_out, next_pass}
-use Rattle.st_turn.specs.Passes.{PassView, AreStarted}
-use Rattle.st_turn.proofs.Started.{started_more, lead_is}
+use Rattle.st_turn.specs.Passes.{PassView, AreStarted, HasNoLoans}
+use Rattle.st_turn.proofs.Started.{started_more, lead_is, loans_more}
 use Rattle.st_turn.proofs.sharing.number_all.Goals as goal
 
 pub loop-number-preserved : goal.loop-number-preserved
@@ -23,6 +23,8 @@ loop-number-preserved g c =
     let table : old.table ≡ desk.table_id = ap (λ (p : PassView g.row.S.Denot). p.table) read ∙ is.3 in
     let lead = c.number_next-next.new.lead in
     let next = c.number_next-next.result in
+    let none : HasNoLoans is.0 = (subst (Each HasNoLoans) is.2 inv.3).0 in
+    let loans : Each HasNoLoans (set items 0 lead ++ next ∷ []) = loans_more items lead next inv.3 (c.number_next-next.ensures.lead.3 ∙ ap (λ (p : PassView g.row.S.Denot). p.loans) read ∙ none) c.number_next-next.ensures.next.2 in
     let len : length items ≡ made = omega (arith, inv.0, c.loop-number.given.ok.0) in
     let more : AreStarted desk.table_id base h n (made + 1) (set items 0 lead ++ next ∷ []) =
     started_more desk.table_id base h n made items lead next lead inv.2 len
@@ -33,4 +35,5 @@ loop-number-preserved g c =
       omega (arith, inv.0, c.in-Ok.ensures.len),
       omega (arith, inv.1, c.in-Ok.ensures.capacity),
       subst (λ (ps : List (PassView g.row.S.Denot)). AreStarted desk.table_id base h n (made + 1) ps) (sym c.in-Ok.ensures.items) more,
+      subst (λ (ps : List (PassView g.row.S.Denot)). Each HasNoLoans ps) (sym c.in-Ok.ensures.items) loans,
     )

@@ -5,6 +5,8 @@ use Rattle.st_turn.specs.Spools.{facts_of, KeepsOf}
 use Rattle.st_turn.specs.Calls.{MayTurn}
 use Rattle.st_turn.specs.SpoolCalls.{Holds, AgesBy}
 use Rattle.st_turn.proofs.Spooled.{hold_turn, age_turn}
+use Rattle.st_turn.proofs.Counted.{age_refuses}
+use Rattle.st_turn.proofs.Released.{kept_home, held_stays}
 use Rattle.st_turn.proofs.Ready.{ready, done}
 use Rattle.st_turn.proofs.holding.Shared+Spool+D+W.age.Goals as goal
 
@@ -21,17 +23,42 @@ end-requires-clause-turn g c =
     c.take.ensures.turn c.take.ensures.learns c.spool.view_is c.fault_count-before.ensures
     (subst (λ (b : Bool). MayTurn (facts_of d.log d.faults d.id) (KeepsOf d.log d.faults d.id) v w p.held p.held b) (sym c.stopped-stop.ensures) may)
 
+pub returns-clause-same : goal.returns-clause-same
+returns-clause-same g c =
+    let d = g.D.Shelf in
+    let turn = done (facts_of d.log d.faults d.id) (KeepsOf d.log d.faults d.id) c.take.new.place.me c.pass.inside.place.me.0.pass c.end.new.place.me.0.pass c.args.pass.now.state c.take.result c.spool.inside.spool c.spool.inside.lines.items c.age-answer.new.self
+    c.take.ensures.turn c.spool.view_is (ap (λ (a : PassView (SpoolView g.row.D.Denot)). a.state) c.pass.view_is) c.end.ensures.turn in (
+      c.end.ensures.same.0 ∙ c.take.ensures.same.0 ∙ ap (λ (a : PassView (SpoolView g.row.D.Denot)). a.table) c.pass.view_is,
+      c.end.ensures.same.1 ∙ c.take.ensures.same.1 ∙ ap (λ (a : PassView (SpoolView g.row.D.Denot)). a.id) c.pass.view_is,
+      turn.rest.1,
+      turn.rest.0,
+    )
+
+pub returns-clause-holds : goal.returns-clause-holds
+returns-clause-holds g c =
+    let d = g.D.Shelf in
+    let v = c.spool.inside.spool in
+    let w = c.age-answer.new.self in
+    let q = c.end.new.place.me.0.pass in
+    let turn = done (facts_of d.log d.faults d.id) (KeepsOf d.log d.faults d.id) c.take.new.place.me c.pass.inside.place.me.0.pass q c.args.pass.now.state c.take.result v c.spool.inside.lines.items w
+    c.take.ensures.turn c.spool.view_is (ap (λ (a : PassView (SpoolView g.row.D.Denot)). a.state) c.pass.view_is) c.end.ensures.turn in
+    held_stays v.state.holds w.state.holds c.args.pass.now.state.held q.held turn.held (c.age-answer.ensures.rest.3)
+
 pub returns-clause-turn : goal.returns-clause-turn
 returns-clause-turn g c =
     let d = g.D.Shelf in
     let v = c.spool.inside.spool in
     let w = c.age-answer.new.self in
     let p = c.pass.inside.place.me.0.pass in
-    let e = c.age-answer.ensures in (
+    let e = c.age-answer.ensures in
+    let keeps = kept_home (facts_of d.log d.faults d.id) (KeepsOf d.log d.faults d.id) c.take.result v c.args.self.now.base c.spool.inside.lines.items p c.args.pass.now.state c.spool.view_is c.take.ensures.learns (ap (λ (a : PassView (SpoolView g.row.D.Denot)). a.state) c.pass.view_is) c.requires.1 in
+    let ages : AgesBy g.W.PairRule.is_whole d.log d.faults d.id d.loans v w c.age-answer.result = record { aged = e.aged; state = e.state; sweeps = e.sweeps; small = e.small; same = e.same; refused = e.refused; cause = e.cause; rest = e.rest } in
+    let turn = done (facts_of d.log d.faults d.id) (KeepsOf d.log d.faults d.id) c.take.new.place.me p c.end.new.place.me.0.pass c.args.pass.now.state c.take.result v c.spool.inside.lines.items w
+    c.take.ensures.turn c.spool.view_is (ap (λ (a : PassView (SpoolView g.row.D.Denot)). a.state) c.pass.view_is) c.end.ensures.turn in (
       v,
       w,
-      c.recall.ensures,
-      done (facts_of d.log d.faults d.id) (KeepsOf d.log d.faults d.id) c.take.new.place.me p c.end.new.place.me.0.pass c.args.pass.now.state c.take.result v c.spool.inside.lines.items w
-          c.take.ensures.turn c.spool.view_is (ap (λ (a : PassView (SpoolView g.row.D.Denot)). a.state) c.pass.view_is) c.end.ensures.turn,
-      record { aged = e.aged; state = e.state; sweeps = e.sweeps; small = e.small; same = e.same; refused = e.refused; cause = e.cause; rest = e.rest },
+      record { stands = c.recall.ensures; keeps = keeps },
+      turn,
+      ages,
+      age_refuses g.W.PairRule.is_whole d.log d.faults d.id d.loans v v w c.args.pass.now.state c.end.new.place.me.0.pass turn c.recall.ensures c.age-answer.result ages,
     )

@@ -18,6 +18,8 @@ returns g c =
     let told = c.tell.ensures.to in
     let back = c.tell-2.ensures.to in
     let met = met_both c.args.a.now c.args.b.now a b
+    (back.3 ∙ ap (λ (p : PassView g.row.S.Denot). p.loans) mine)
+    (ap (λ (p : PassView g.row.S.Denot). p.loans) mid ∙ told.3)
     (ap (λ (p : PassView g.row.S.Denot). p.table) mid ∙ told.0)
     (ap (λ (p : PassView g.row.S.Denot). p.id) mid ∙ told.1)
     (ap (λ (p : PassView g.row.S.Denot). p.state) mid ∙ told.2)
