@@ -1,0 +1,3 @@
+pub mod Sides
+pub mod Rests
+pub mod Returned

@@ -1,0 +1,55 @@
+use Rattle.std.proofs.Common.{rules, ◌≡◌, ◌<◌, ℕ, length, map, List, sym, ◌∙◌, ap, subst}
+use Rattle.std.specs.List.{slice_index_or}
+use Rattle.st_spool.specs.States.{SpoolView}
+use Rattle.st_turn.specs.Passes.{PassView, AreOf, AreStarted, state_of}
+use Rattle.st_turn.specs.Ends.{AreNumbered}
+use Rattle.st_turn.specs.Spools.{facts_of}
+use Rattle.turn_threads.specs.Resting.{Rests, Rested}
+use Rattle.turn_threads.proofs.Rests.{written, started_may, started_end}
+use Rattle.turn_threads.proofs.runs.serve.Goals as goal
+
+pub all-requires-after_bounds : goal.all-requires-after_bounds
+all-requires-after_bounds g c κs within =
+    let d = g.D.Shelf in
+    let s = c.in-Ok.both.0 in
+    let all = c.in-Ok.both.1.items in
+    let n = length c.args.jobs.now in
+    let h = facts_of d.log d.faults d.id c.args.spool in
+    let slice : c.as_mut_slice.result.now ≡ all = search rules in
+    let started : AreStarted s.table s.base h n n all = subst (λ (b : SpoolView g.row.D.Denot). AreStarted s.table b h n n all) (sym c.in-Ok.ensures.shared.0) c.in-Ok.ensures.started in
+    let len : length c.args.jobs.now ≡ length c.as_mut_slice.result.now = search rules in
+    record {
+      len = len;
+      can_each = λ i e lt.
+          subst (λ (ps : List (PassView (SpoolView g.row.D.Denot))). i < length ps → Rests s (slice_index_or ps i e)) (sym slice) (λ at. started_may s h n n i all e started at) lt;
+    }
+
+pub finish-requires-clause-table : goal.finish-requires-clause-table
+finish-requires-clause-table g c =
+    let d = g.D.Shelf in
+    let s = c.in-Ok.both.0 in
+    let all = c.in-Ok.both.1.items in
+    let qs = c.all.new.passes in
+    let n = length c.args.jobs.now in
+    let h = facts_of d.log d.faults d.id c.args.spool in
+    let slice : c.as_mut_slice.result.now ≡ all = search rules in
+    let started : AreStarted s.table s.base h n n all = subst (λ (b : SpoolView g.row.D.Denot). AreStarted s.table b h n n all) (sym c.in-Ok.ensures.shared.0) c.in-Ok.ensures.started in
+    let len : length qs ≡ length all = c.all.ensures.passes ∙ ap length slice in
+    let whole = written c.in-Ok.both.1.len qs all len (search rules) in
+    subst (λ (ps : List (PassView (SpoolView g.row.D.Denot))). AreOf s.table ps) (sym whole)
+    (started_end s h n n all qs started len (λ k e lt. subst (λ (ps : List (PassView (SpoolView g.row.D.Denot))). k < length ps → Rested (slice_index_or ps k e) (slice_index_or qs k e)) slice (λ at. c.all.ensures.did_each k e at) lt)).0
+
+pub finish-requires-clause-numbers : goal.finish-requires-clause-numbers
+finish-requires-clause-numbers g c =
+    let d = g.D.Shelf in
+    let s = c.in-Ok.both.0 in
+    let all = c.in-Ok.both.1.items in
+    let qs = c.all.new.passes in
+    let n = length c.args.jobs.now in
+    let h = facts_of d.log d.faults d.id c.args.spool in
+    let slice : c.as_mut_slice.result.now ≡ all = search rules in
+    let started : AreStarted s.table s.base h n n all = subst (λ (b : SpoolView g.row.D.Denot). AreStarted s.table b h n n all) (sym c.in-Ok.ensures.shared.0) c.in-Ok.ensures.started in
+    let len : length qs ≡ length all = c.all.ensures.passes ∙ ap length slice in
+    let whole = written c.in-Ok.both.1.len qs all len (search rules) in
+    subst (λ (ps : List (PassView (SpoolView g.row.D.Denot))). AreNumbered 0 (map state_of ps)) (sym whole)
+    (started_end s h n n all qs started len (λ k e lt. subst (λ (ps : List (PassView (SpoolView g.row.D.Denot))). k < length ps → Rested (slice_index_or ps k e) (slice_index_or qs k e)) slice (λ at. c.all.ensures.did_each k e at) lt)).1
