@@ -1,0 +1,5 @@
+pub mod Grown
+pub mod Seen
+pub mod Turned
+pub mod Stored
+pub mod Sits
