@@ -1,4 +1,4 @@
-//! Threads that share a spool by turns, over a shelf in memory.
+//! Threads that share a spool by turns, over a shelf in memory and over a folder.
 //!
 //! Without arguments it tries what a spool is shared for: some threads publish small pairs and age,
 //! others hold, read and release. It prints, for each run, how many pairs were published and
@@ -20,6 +20,8 @@
 //! That the threads end, and what they print, is only tried.
 #![tactic(auto)]
 
+ghost use Rattle.std.specs.Prelude.{◌≤◌, length};
+
 mod halves;
 mod jobs;
 mod pairs;
@@ -28,13 +30,16 @@ mod speed;
 
 use jobs::{Job, Part};
 use runs::{Left, run};
+use st_folder::RealShelf;
 use st_shelf::MemShelf;
-use std::env;
 use std::io::{self, Write};
 use std::process::ExitCode;
 use std::sync::Wait;
 use std::thread::Threads;
 use std::time::Instant;
+use std::{env, fs};
+
+const FOLDER: &str = "turn_threads_spool";
 
 // One thread publishes a hundred pairs, another one reads.
 fn two() -> [Job; 2] {
@@ -81,6 +86,33 @@ fn try_memory<R: Threads + Wait + Sync>(rt: &R, host: &HostRuntime) -> io::Resul
     tell(host, "memory, four threads", &jobs, left)
 }
 
+// Runs jobs over a new folder, which is removed after it.
+fn over_folder<R: Threads + Wait + Sync>(
+    rt: &R,
+    host: &HostRuntime,
+    limit: u32,
+    jobs: &mut [Job],
+) -> io::Result<Option<Left>>
+    requires { (1 ≤ length jobs.old) × (length jobs.old ≤ 64) × (1 ≤ limit) }
+{
+    let _ = fs::remove_dir_all(host, FOLDER);
+    let Ok(shelf) = RealShelf::at(host, host.alloc(), FOLDER) else {
+        return Ok(None);
+    };
+    let left = run(rt, *host, shelf, limit, jobs);
+    fs::remove_dir_all(host, FOLDER)?;
+    Ok(left)
+}
+
+fn try_folder<R: Threads + Wait + Sync>(rt: &R, host: &HostRuntime) -> io::Result<()> {
+    let mut jobs = two();
+    let left = over_folder(rt, host, 2, &mut jobs)?;
+    tell(host, "folder, two threads", &jobs, left)?;
+    let mut jobs = four();
+    let left = over_folder(rt, host, 3, &mut jobs)?;
+    tell(host, "folder, four threads", &jobs, left)
+}
+
 // What seven callers cost that wait through one long turn.
 fn measure_wait<R: Threads + Wait + Sync>(
     rt: &R,
@@ -122,6 +154,7 @@ fn main(rt: HostRuntime) -> io::Result<ExitCode> {
     match words.as_slice() {
         [_] => {
             try_memory(&rt, &host)?;
+            try_folder(&rt, &host)?;
         }
         [_, word, pairs] if word.as_str() == "wait" => {
             measure_wait(&rt, &host, pairs.parse().unwrap_or(0))?;
