@@ -14,7 +14,7 @@ use Rattle.st_rows.specs.Positions.{Rising}
 use Rattle.st_answer.specs.declared.picked.Picked.{Picked}
 use Rattle.st_answer.specs.Packets.{Packet}
 use Rattle.st_answer.specs.Picks.{pick_of, picks_of, is_at, AreDistinct}
-use Rattle.st_answer.proofs.AnswerOrder.{in_cases}
+use Rattle.st_base.proofs.Ascending.{in_cases}
 
 -- the pick is at another position, or of another pair
 not_at : (s n : ℕ) (p : Picked) → (p.stamp ≢ s) ⊎ (p.position ≢ n) → is_at s n p ≡ 0

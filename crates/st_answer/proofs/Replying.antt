@@ -18,7 +18,8 @@ use Rattle.st_query.specs.Meaning.{Matches}
 use Rattle.st_answer.specs.declared.picked.Picked.{Picked}
 use Rattle.st_answer.specs.contracts.picked.PickedOrd.TheImpl as derived
 use Rattle.st_answer.specs.Packets.{Packet, IsPacketIn, IsWholeSet, records_of}
-use Rattle.st_answer.specs.Answer.{Precedes, IsAscending, IsAnswer}
+use Rattle.st_base.specs.Ascending.{IsAscending}
+use Rattle.st_answer.specs.Answer.{Precedes, IsAnswer}
 use Rattle.st_answer.specs.Picks.{record_in, packet_in, picked_records, IsFound, IsPlaced, blocks_of, AreDistinct, HasAllOf}
 use Rattle.st_answer.specs.Limited.{Limited}
 use Rattle.st_pcap.specs.declared.forms.Unit as unit
@@ -78,7 +79,7 @@ order_tail : (p : Picked) (ps : List Picked) → AreInOrder (p ∷ ps) → AreIn
 order_tail p ps order k d low high = let one : suc k + 1 ≡ suc (k + 1) = omega arith in subst (λ n. is_lt (derived.ghosts.cmp (get_or (p ∷ ps) n d) (get_or ps k d)) ≡ false) one (order (suc k) d (omega arith) (omega (arith, high)))
 
 -- picks in order, no two at one position, are in ascending order
-ascending : (set : List Entry) (ps : List Picked) → AreInOrder ps → AreDistinct ps → IsAscending (map (packet_in set) ps)
+ascending : (set : List Entry) (ps : List Picked) → AreInOrder ps → AreDistinct ps → IsAscending Precedes (map (packet_in set) ps)
 ascending set [] order distinct = tt
 ascending set (p ∷ []) order distinct = (All-nil (Precedes (packet_in set p)), tt)
 ascending set (p ∷ q ∷ ps) order distinct =

@@ -1,6 +1,7 @@
 -- The answer to a query over a file set: the packets that match, each once, by time, and those of
 -- one time by stamp and position.
-use Rattle.std.specs.Prelude.{◌≡◌, ◌<◌, ◌⊎◌, ◌↔◌, ⊤, ℕ, List, [], ◌∷◌, All, Contains}
+use Rattle.std.specs.Prelude.{◌≡◌, ◌<◌, ◌⊎◌, ◌↔◌, ℕ, List, Contains}
+use Rattle.st_base.specs.Ascending.{IsAscending}
 use Rattle.st_disk.specs.Pairs.{Entry}
 use Rattle.st_query.specs.declared.nodes.Node.{Node}
 use Rattle.st_query.specs.Meaning.{Matches}
@@ -14,12 +15,7 @@ Precedes a b =
     ⊎ ((a.packet.nsec ≡ b.packet.nsec) × ((a.stamp < b.stamp)
     ⊎ ((a.stamp ≡ b.stamp) × (a.position < b.position))))))
 
--- each packet of the list comes before all that follow it
-abbrev pub IsAscending : List Packet → Type 0
-IsAscending [] = ⊤
-IsAscending (p ∷ ps) = All (Precedes p) ps × IsAscending ps
-
 -- the list is in ascending order, and its members are exactly the packets of the set that match
 pub record IsAnswer (q : Node) (now : ℕ) (set : List Entry) (ps : List Packet) : Type 0 where
-  pub ascending : IsAscending ps
+  pub ascending : IsAscending Precedes ps
   pub members : (p : Packet) → Contains ps p ↔ (IsPacketIn set p × Matches q now p.packet)

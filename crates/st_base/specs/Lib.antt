@@ -7,3 +7,4 @@ pub mod PlacedReads
 pub mod KnownLength
 pub mod MemoryViews
 pub mod Damages
+pub mod Ascending

@@ -1,6 +1,7 @@
 -- The answer to a query over a list of records: the records that match, by time, and those of one
 -- time in the list's order.
-use Rattle.std.specs.Prelude.{◌≡◌, ◌<◌, ◌⊎◌, ◌↔◌, ⊤, ℕ, List, [], ◌∷◌, map, slice_get, Some, All, Contains}
+use Rattle.std.specs.Prelude.{◌≡◌, ◌<◌, ◌⊎◌, ◌↔◌, ℕ, List, map, slice_get, Some, Contains}
+use Rattle.st_base.specs.Ascending.{IsAscending}
 use Rattle.st_base.specs.Records.{Rec}
 use Rattle.st_query.specs.declared.nodes.Node.{Node}
 use Rattle.st_query.specs.Meaning.{Matches}
@@ -17,14 +18,9 @@ Precedes a b =
     ⊎ ((a.packet.sec ≡ b.packet.sec) × ((a.packet.nsec < b.packet.nsec)
     ⊎ ((a.packet.nsec ≡ b.packet.nsec) × (a.number < b.number))))
 
--- each record of the list comes before all that follow it
-abbrev pub IsAscending : List Numbered → Type 0
-IsAscending [] = ⊤
-IsAscending (p ∷ ps) = All (Precedes p) ps × IsAscending ps
-
 -- the list is in ascending order, and its members are exactly the records of rs that match
 pub record IsAnswer (q : Node) (now : ℕ) (rs : List Rec) (ps : List Numbered) : Type 0 where
-  pub ascending : IsAscending ps
+  pub ascending : IsAscending Precedes ps
   pub members : (p : Numbered)
       → Contains ps p ↔ ((slice_get rs p.number ≡ Some p.packet) × Matches q now p.packet)
 

@@ -6,8 +6,9 @@ use Rattle.std.specs.List.Sorted.{ties}
 use Rattle.std.proofs.lemmas.List.{map-append}
 use Rattle.std.proofs.lemmas.List.Elements.{filter-append, All-cons, All-head, All-tail, All-weaker, All-contains, All-contains_itself, Contains-append_cases, Contains-append_left, Contains-append_right}
 use Rattle.st_base.specs.Records.{Rec}
-use Rattle.st_query.specs.Answer.{Numbered, Precedes, IsAscending}
-use Rattle.st_query.proofs.AnswerOrder.{head_in, tail_in, none_in, in_cases}
+use Rattle.st_base.specs.Ascending.{IsAscending}
+use Rattle.st_query.specs.Answer.{Numbered, Precedes}
+use Rattle.st_base.proofs.Ascending.{head_in, tail_in, none_in, in_cases}
 use Rattle.steno.specs.Gathering.{Selects}
 use Rattle.steno.proofs.TimeOrder.{earlier, Earlier, Same, tie_then, tie_from, no_tie}
 
@@ -196,7 +197,7 @@ climbs_behind (b ∷ before) p after h = climbs_behind before p after h.1
 pub record Ordered (ys : List Rec) (ps : List Numbered) : Type 0 where
   pub qs : List Numbered
   pub same : packets qs ≡ ys
-  pub ascending : IsAscending qs
+  pub ascending : IsAscending Precedes qs
   pub there : (p : Numbered) → Contains qs p → Contains ps p
   pub back : (p : Numbered) → Contains ps p → Contains qs p
 
