@@ -1,5 +1,4 @@
 use std::alloc::AllocError;
-use std::fmt::{self, Display, Formatter};
 use std::io;
 
 /// Out of memory. What the call that returns it leaves is said at that call.
@@ -17,7 +16,7 @@ impl From<AllocError> for NoMemory {
 #[derive(Clone, Copy, Debug, PartialEq, Eq)]
 pub struct Failed;
 
-/// A call of the system, as an operator reads its name.
+/// A call of the system.
 #[derive(Clone, Copy, Debug, PartialEq, Eq)]
 pub enum Call {
     Read,
@@ -31,24 +30,6 @@ pub enum Call {
     Rename,
     Remove,
     MakeFolder,
-}
-
-impl Display for Call {
-    fn fmt<W: fmt::Write>(&self, f: &mut Formatter<W>) -> fmt::Result {
-        f.pad(match self {
-            Call::Read => "read",
-            Call::Write => "write",
-            Call::Flush => "flush",
-            Call::Sync => "sync",
-            Call::Create => "create",
-            Call::Open => "open",
-            Call::Lock => "lock",
-            Call::List => "list",
-            Call::Rename => "rename",
-            Call::Remove => "remove",
-            Call::MakeFolder => "make folder",
-        })
-    }
 }
 
 /// A call of the system that failed, and the system's error. It owns no memory, so it is kept and
