@@ -22,33 +22,28 @@ SECONDS = 60
 LONG_AGO = 978307200
 NOT_BUILT = 70
 BUILDING = b"proving and building first"
+PROVED = ["proved high", "proved low", "proved side", "proved steno"]
 
-# Writes down what it is asked for. 'run' makes a program that prints the text of its source, its
-# arguments, with SHOWS what the C library is asked for, and its input; a source with the word 'wrong'
-# is not proved. TOOLCHAIN_EDITS has it edit that source first, TOOLCHAIN_LINGERS has it stay once the
-# program is made, and TOOLCHAIN_MEETS has each library but the lowest wait until another one is being
-# proved.
+# Writes down what it is asked for, and which crates it proved. 'run' makes a program that prints the
+# text of its source, its arguments, with SHOWS what the C library is asked for, and its input; a source
+# with the word 'wrong' is not proved. TOOLCHAIN_EDITS has it write to that file first, and
+# TOOLCHAIN_LINGERS has it stay once the program is made.
 TOOLCHAIN = r"""#!/usr/bin/env bash
-crate=${PWD##*/}
-echo "$1 $crate" >>"$TOOLCHAIN_LOG"
+echo "$*, in ${PWD##*/}" >>"$TOOLCHAIN_LOG"
 case $1 in
 version) cat >/dev/null; echo 'pretended toolchain, first edition' ;;
-lib)
-  [ -z "${TOOLCHAIN_MEETS:-}" ] || [ "$crate" = low ] || {
-    : >"$TOOLCHAIN_MEETS/$crate"
-    for _ in {1..60}; do
-      [ "$(ls "$TOOLCHAIN_MEETS" | wc -l)" -ge 2 ] && break
-      sleep 0.05
-    done
-    [ "$(ls "$TOOLCHAIN_MEETS" | wc -l)" -ge 2 ] || echo "alone $crate" >>"$TOOLCHAIN_LOG"
-  }
-  sleep "${TOOLCHAIN_SLEEPS:-0}"
-  ! grep -q wrong src/*
+all)
+  for crate in *; do
+    sleep "${TOOLCHAIN_SLEEPS:-0}"
+    grep -q "^$crate[ :]" ../crates.txt || { echo 'not listed'; exit 1; }
+    ! grep -q wrong "$crate"/src/* || { echo 'not proved'; exit 1; }
+    echo "proved $crate" >>"$TOOLCHAIN_LOG"
+    echo "== $crate"
+  done
   ;;
 run)
   sleep "${TOOLCHAIN_SLEEPS:-0}"
-  ! grep -q wrong ../*/src/* || { echo 'not proved'; exit 1; }
-  [ -z "${TOOLCHAIN_EDITS:-}" ] || printf edited >src/main.rt
+  [ -z "${TOOLCHAIN_EDITS:-}" ] || printf edited >"$TOOLCHAIN_EDITS"
   mkdir -p out
   { printf '#!/usr/bin/env bash\ntext=%q\n' "$(cat src/main.rt)"
     printf '%s\n' 'printf "%s\0" "$text" "$@"; [ -z "${SHOWS:-}" ] || printf "%s\0" "$GLIBC_TUNABLES"; cat; exit 5'
@@ -106,8 +101,8 @@ def ran(seen, text, arguments=(), stdin=b""):
 
 def built(seen, text):
     """All was proved, and the program of this text ran."""
-    asked = {"lib low", "lib high", "lib side", "run steno"}
-    return ran(seen, text) and BUILDING in seen[1] and asked <= set(seen[3]) and "lib other" not in seen[3]
+    proved = [line for line in seen[3] if line.startswith("proved")]
+    return ran(seen, text) and BUILDING in seen[1] and sorted(proved) == PROVED and "run -- once , in steno" in seen[3]
 
 
 def started(seen, text):
@@ -201,7 +196,7 @@ def builds_by_content(repository):
         yield f"{name}, once it is built", started(seen, text), seen
     source.touch()
     seen = repository.start(stdin=b"input")
-    asked = [line.split()[0] for line in seen[3]]
+    asked = [line.split(",")[0] for line in seen[3]]
     good = ran(seen, "secund source", stdin=b"input") and seen[1] == b"" and asked == ["version"]
     yield "a source that was only touched is found the same, and the input is left", good, seen
     seen = repository.start()
@@ -259,7 +254,7 @@ def refuses_what_is_not_proved(repository):
 def builds_again_after_a_break(repository):
     """Where a build was killed, or its sources changed meanwhile, no program is taken for theirs."""
     repository.start()
-    for until, how in (("lib low", {"TOOLCHAIN_SLEEPS": "30"}), ("linked", {"TOOLCHAIN_LINGERS": "30"})):
+    for until, how in (("all check", {"TOOLCHAIN_SLEEPS": "30"}), ("linked", {"TOOLCHAIN_LINGERS": "30"})):
         repository.write("crates/steno/src/main.rt", "second")
         repository.log.write_text("")
         child = subprocess.Popen([repository.root / "steno"], stdin=subprocess.DEVNULL, stdout=subprocess.DEVNULL,
@@ -271,11 +266,10 @@ def builds_again_after_a_break(repository):
         seen = repository.start()
         yield f"a build that was killed at '{until}'", built(seen, "first"), seen
     repository.write("crates/steno/src/main.rt", "third")
-    seen = repository.start(TOOLCHAIN_EDITS="yes")
-    yield "a source that changes while it is built", ran(seen, "edited"), seen
-    repository.write("crates/steno/src/main.rt", "third")
+    seen = repository.start(TOOLCHAIN_EDITS=str(repository.root / "crates/steno/src/main.rt"))
+    yield "a source that changes while it is built", built(seen, "third"), seen
     seen = repository.start()
-    yield "is built again at the next start", built(seen, "third"), seen
+    yield "is built again at the next start", built(seen, "edited"), seen
 
 
 def wait_for(holds):
@@ -285,16 +279,39 @@ def wait_for(holds):
 
 
 def proves_side_by_side(repository):
-    if len(os.sched_getaffinity(0)) < 2:
-        print("left out: crates that are proved side by side (one processor)")
-        return
-    meeting = repository.root / "meeting"
-    meeting.mkdir()
-    seen = repository.start(TOOLCHAIN_MEETS=str(meeting))
-    alone = [line for line in seen[3] if line.startswith("alone")]
-    yield "two crates that stand beside each other are proved at once", built(seen, "first") and not alone, seen
-    asked = [line for line in seen[3] if line.startswith("lib")]
-    yield "after the one that both use", asked[:1] == ["lib low"], seen
+    seen = repository.start()
+    asked = [re.fullmatch(r"all check --jobs (\d+), in crates", line) for line in seen[3]]
+    jobs = [int(line[1]) for line in asked if line]
+    good = len(jobs) == 1 and 1 <= jobs[0] <= len(os.sched_getaffinity(0))
+    yield "all crates at once, as many side by side as there are processors at most", good, seen
+    repository.write("crates.txt", "low:\nhigh: low\nside: low\nother: low\nsteno: high # and no more\n")
+    seen = repository.start()
+    good = ran(seen, "first") and "proved high" in seen[3] and "proved side" not in seen[3]
+    yield "a crate that the program does not use any more", good, seen
+    repository.write("crates/high/specs/More.antt", "wrong")
+    (repository.root / "crates/high/src/lib.rt").rename(repository.root / "crates/high/src/other.rt")
+    repository.start()
+    alone = repository.root / "crates/steno/out/alone/crates/high"
+    there = sorted(str(file.relative_to(alone)) for file in alone.rglob("*") if file.is_file())
+    yield "no file that is gone", there == ["specs/Lib.antt", "specs/More.antt", "src/other.rt"], there
+
+
+def leaves_no_list(repository):
+    """The gate refuses a repository in which a second crates.txt stands."""
+    listed = repository.root / "crates/steno/out/alone/crates.txt"
+    repository.start()
+    yield "no second list of crates after a build", not listed.exists() and listed.parent.is_dir(), listed
+    repository.write("crates/low/src/lib.rt", "wrong")
+    repository.start()
+    yield "and none after a refusal", not listed.exists(), listed
+    repository.log.write_text("")
+    child = subprocess.Popen([repository.root / "steno"], stdin=subprocess.DEVNULL, stdout=subprocess.DEVNULL,
+                             stderr=subprocess.DEVNULL, env=repository.surroundings(TOOLCHAIN_SLEEPS="1"), start_new_session=True)
+    wait_for(lambda: "all check" in repository.log.read_text())
+    there = listed.exists()
+    os.killpg(child.pid, signal.SIGINT)
+    child.wait(SECONDS)
+    yield "and none after an interrupt", there and not listed.exists(), (there, listed)
 
 
 def on_terminal(repository, **more):
@@ -328,7 +345,7 @@ def says_how_far_it_is(repository):
 
 
 GROUPS = [starts, passes_arguments, asks_for_memory, takes_a_program_that_was_built, builds_by_content, builds_by_toolchain,
-          refuses_what_is_not_proved, builds_again_after_a_break, proves_side_by_side, says_how_far_it_is]
+          refuses_what_is_not_proved, builds_again_after_a_break, proves_side_by_side, leaves_no_list, says_how_far_it_is]
 
 
 def main():
