@@ -15,6 +15,8 @@ pub mod PairStands
 pub mod OneDamage
 pub mod OneFailure
 pub mod Deciding
+pub mod Ties
 pub mod KeyOrders
+pub mod KindOrders
 pub mod RowsOf
 pub mod Writing

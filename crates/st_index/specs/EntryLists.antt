@@ -18,9 +18,9 @@ lists_of_numbers key n [] = []
 lists_of_numbers key n (v ∷ vs) = list_before (key n) v.items (lists_of_numbers key (n + 1) vs)
 
 -- those of the entries of a map
-abbrev pub lists_of_entries : List (Key × Vec ℕ Global) → List KeyList
-lists_of_entries [] = []
-lists_of_entries (e ∷ es) = list_before e.0 e.1.items (lists_of_entries es)
+abbrev pub lists_of_entries : {N : Type 0} → (N → Key) → List (N × Vec ℕ Global) → List KeyList
+lists_of_entries key [] = []
+lists_of_entries key (e ∷ es) = list_before (key e.0) e.1.items (lists_of_entries key es)
 
 -- of the lists to come the first was given, or there is none
 abbrev pub GivesList : List KeyList → List KeyList → Option KeyList → Type 0

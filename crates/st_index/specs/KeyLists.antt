@@ -2,24 +2,34 @@
 use Rattle.std.specs.Prelude.{◌≡◌, ℕ, ◌+◌, ◌<◌, List, [], ◌∷◌, ◌++◌, length, IsTrue, All, Contains}
 use Rattle.std.specs.Ordering.{is_lt}
 use Rattle.st_walk.specs.declared.text.Key.{Key}
-use Rattle.st_walk.specs.declared.text.Key.TheVariants.{Proto, Port}
+use Rattle.st_walk.specs.declared.text.Key.TheVariants.{Proto, Port, Vlan, V4, Mpls, V6, Second}
 use Rattle.st_rows.specs.KeyOrder.{key_cmp}
 use Rattle.st_index.specs.PositionLists.{positions_at}
 use Rattle.st_index.specs.EntryLists.{KeyList, lists_of_numbers, lists_of_entries}
 use Rattle.st_index.specs.declared.lists.PositionLists.{PositionLists}
 use Rattle.st_index.specs.declared.key_lists.KeyLists.{KeyLists}
 
--- protocols, ports, and the other keys
+-- the lists of each kind, in the order of kinds
 abbrev pub key_lists : PositionLists → List KeyList
 key_lists l =
     lists_of_numbers (λ n. Proto n) 0 l.protos.items
-    ++ (lists_of_numbers (λ n. Port n) 0 l.ports.items ++ lists_of_entries l.others.entries)
+    ++ (lists_of_numbers (λ n. Port n) 0 l.ports.items
+    ++ (lists_of_entries (λ n. Vlan n) l.vlans.entries
+    ++ (lists_of_entries (λ n. V4 n) l.v4_addresses.entries
+    ++ (lists_of_entries (λ n. Mpls n) l.labels.entries
+    ++ (lists_of_entries (λ n. V6 n) l.v6_addresses.entries
+    ++ lists_of_entries (λ n. Second n) l.seconds.entries)))))
 
 -- the lists that are still to come
 abbrev pub lists_left : KeyLists → List KeyList
 lists_left s =
     lists_of_numbers (λ n. Proto n) s.protos.number s.protos.rest.now
-    ++ (lists_of_numbers (λ n. Port n) s.ports.number s.ports.rest.now ++ lists_of_entries s.others)
+    ++ (lists_of_numbers (λ n. Port n) s.ports.number s.ports.rest.now
+    ++ (lists_of_entries (λ n. Vlan n) s.vlans
+    ++ (lists_of_entries (λ n. V4 n) s.v4_addresses
+    ++ (lists_of_entries (λ n. Mpls n) s.labels
+    ++ (lists_of_entries (λ n. V6 n) s.v6_addresses
+    ++ lists_of_entries (λ n. Second n) s.seconds)))))
 
 -- each key is before all later ones, by kind and then by number
 abbrev pub Ascend : List KeyList → Type 0

@@ -1,7 +1,7 @@
 //! The lists of a maker that have positions, one by one, in the order of their keys.
 
 ghost use Rattle.std.specs.Prelude.{◌≡◌, ◌+◌, ◌<◌, ◌≤◌, length, option_map, IfSome};
-ghost use Rattle.st_walk.specs.KeyText.{Fits};
+ghost use Rattle.st_walk.specs.declared.text.Key.{Key};
 ghost use Rattle.st_index.specs.EntryLists.{GivesList, lists_of_entries};
 ghost use Rattle.st_index.specs.declared.lists.TheConstants.{PROTOS, PORTS};
 
@@ -46,32 +46,15 @@ impl<'a> Numbered<'a> {
     }
 }
 
-// The key as it is, whose value fits the type of its kind.
-fn fitting(key: &Key) -> Key
-    ensures same { result ≡ key.now }
-    ensures fits { Fits result }
-{
-    match key {
-        Key::Proto(number) => Key::Proto(*number),
-        Key::Port(port) => Key::Port(*port),
-        Key::Vlan(id) => Key::Vlan(*id),
-        Key::V4(address) => Key::V4(*address),
-        Key::Mpls(label) => Key::Mpls(*label),
-        Key::V6(address) => Key::V6(*address),
-        Key::Second(second) => Key::Second(*second),
-    }
-}
-
 // The next key of a map that has positions, and these.
-fn next_other<'a>(others: &mut Iter<'a, Key, Vec<u32>>) -> Option<(Key, &'a [u32])>
-    ensures list { GivesList (lists_of_entries others.old) (lists_of_entries others.new)
-        (option_map (λ x. (x.0, x.1.now)) result) }
+fn next_keyed<'a, N: Copy>(lists: &mut Iter<'a, N, Vec<u32>>) -> Option<(N, &'a [u32])>
+    ensures list { (key : N → Key) → GivesList (lists_of_entries key lists.old)
+        (lists_of_entries key lists.new) (option_map (λ x. (key x.0, x.1.now)) result) }
     ensures some { IfSome result (λ x. 0 < length x.1.now) }
-    ensures fits { IfSome result (λ x. Fits x.0) }
 {
-    'others: while let Some((key, list)) = others.next() {
+    'lists: while let Some((key, list)) = lists.next() {
         if !list.is_empty() {
-            return Some((fitting(key), list.as_slice()));
+            return Some((*key, list.as_slice()));
         }
     }
     None
@@ -82,7 +65,11 @@ fn next_other<'a>(others: &mut Iter<'a, Key, Vec<u32>>) -> Option<(Key, &'a [u32
 pub(crate) struct KeyLists<'a> {
     protos: Numbered<'a>,
     ports: Numbered<'a>,
-    others: Iter<'a, Key, Vec<u32>>,
+    vlans: Iter<'a, u16, Vec<u32>>,
+    v4_addresses: Iter<'a, u32, Vec<u32>>,
+    labels: Iter<'a, u32, Vec<u32>>,
+    v6_addresses: Iter<'a, u128, Vec<u32>>,
+    seconds: Iter<'a, u32, Vec<u32>>,
     ghost few_protos: { protos.number + length protos.rest.now ≤ PROTOS },
 }
 
@@ -106,7 +93,11 @@ impl<'a> KeyLists<'a> {
                 number: 0,
                 rest: lists.ports.as_slice(),
             },
-            others: lists.others.iter(),
+            vlans: lists.vlans.iter(),
+            v4_addresses: lists.v4_addresses.iter(),
+            labels: lists.labels.iter(),
+            v6_addresses: lists.v6_addresses.iter(),
+            seconds: lists.seconds.iter(),
         }
     }
 
@@ -123,6 +114,21 @@ impl<'a> KeyLists<'a> {
         if let Some((number, list)) = self.ports.next() {
             return Some((Key::Port(number as u16), list));
         }
-        next_other(&mut self.others)
+        if let Some((id, list)) = next_keyed(&mut self.vlans) {
+            return Some((Key::Vlan(id), list));
+        }
+        if let Some((address, list)) = next_keyed(&mut self.v4_addresses) {
+            return Some((Key::V4(address), list));
+        }
+        if let Some((label, list)) = next_keyed(&mut self.labels) {
+            return Some((Key::Mpls(label), list));
+        }
+        if let Some((address, list)) = next_keyed(&mut self.v6_addresses) {
+            return Some((Key::V6(address), list));
+        }
+        if let Some((second, list)) = next_keyed(&mut self.seconds) {
+            return Some((Key::Second(second), list));
+        }
+        None
     }
 }

@@ -50,8 +50,8 @@ impl IndexMaker {
     /// Adds a packet whose head is at `position` in the block file, in bytes: at the end of the
     /// packet before it or later, and its own body ends at 2^32 or before.
     ///
-    /// Makes all room that it needs before it puts anything: after `NoMemory` the maker has the
-    /// packets that it had, and gives the same rows.
+    /// After `NoMemory` what was put is taken out again: the maker has the packets that it had, and
+    /// gives the same rows.
     pub fn add(&mut self, r: RecordRef<'_>, position: u32) -> Result<(), NoMemory>
         requires after { self.old.end ≤ position }
         requires fits { position + (RECORD_HEAD + length r.body) ≤ 2 ^ 32 }

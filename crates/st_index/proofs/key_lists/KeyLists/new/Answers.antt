@@ -1,5 +1,10 @@
-use Rattle.st_index.proofs.KeyOrders.{are_lists}
+use Rattle.st_index.proofs.KindOrders.{are_lists}
 use Rattle.st_index.proofs.key_lists.KeyLists.new.Goals as goal
 
 pub returns-clause-all : goal.returns-clause-all
-returns-clause-all c = are_lists c.args.lists.now c.args.lists.now.no_protos c.args.lists.now.no_ports c.iter.ensures.ordered c.iter.ensures.found
+returns-clause-all c = are_lists c.args.lists.now
+    (c.iter.ensures.ordered, c.iter.ensures.found)
+    (c.iter-2.ensures.ordered, c.iter-2.ensures.found)
+    (c.iter-3.ensures.ordered, c.iter-3.ensures.found)
+    (c.iter-4.ensures.ordered, c.iter-4.ensures.found)
+    (c.iter-5.ensures.ordered, c.iter-5.ensures.found)
