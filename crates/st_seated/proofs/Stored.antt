@@ -20,7 +20,7 @@ use Rattle.st_turn.specs.Passes.{PassView, SharedView, IsOf, IsSame}
 use Rattle.st_turn.specs.SpoolCalls.{IsAtHome, StaysAs, Releases, Holds}
 use Rattle.st_turn.specs.Spools.{facts_of}
 use Rattle.st_turn.proofs.Spooled.{stays_by}
-use Rattle.st_seated.specs.Seats.{SeatView, Goes, Remains, IsKnownToo, SeesHolds, pass_holds, pass_set}
+use Rattle.st_seated.specs.Seats.{SeatView, Goes, Remains, SeesHolds, pass_holds, pass_set}
 use Rattle.st_seated.proofs.Seen.{SeesMore, keeps, stay, sees_still, takes, one_more, sees_one, gives_back, one_less, sees_less}
 use Rattle.st_seated.proofs.Turned.{asks_same, asked_same, asks_more, asked_all, seen_is, sees_more, remains, of_entry, set_of_size, whole_seen, within_seen}
 
@@ -37,14 +37,14 @@ StaysSame log home x y =
     (pass_set (log x.shared.base.shelf) x.pass.state) (pass_set (log y.shared.base.shelf) y.pass.state)
 
 module _ {D : Type 0} (W : List ℕ → List ℕ → Type 0) (log : D → Option Log) (faults home : D → ℕ) (loans : D → LoansView) (s : SharedView (SpoolView D)) (a b : PassView (SpoolView D)) (v w : SpoolView D)
-    (at : IsAtHome W log faults home s.base v) (turn : IsTurn (facts_of log faults home) v w a.state b.state) (steady : (x y : D) → IsKnownToo (log x) (log y)) (is : IsSame a b) (sees : SeesHolds (log s.base.shelf) a.state) where
+    (at : IsAtHome W log faults home s.base v) (turn : IsTurn (facts_of log faults home) v w a.state b.state) (is : IsSame a b) (sees : SeesHolds (log s.base.shelf) a.state) where
   -- a call that takes no hold and gives none back
   module _ (history : (facts_of log faults home w).history ≡ (facts_of log faults home v).history) (holds : w.state.holds ≡ v.state.holds) (halts : w.state.halts ≡ v.state.halts) (same : b.state.held ≡ a.state.held) where
     fewer : length w.state.holds ≤ length v.state.holds
     fewer = let e = ap length holds in omega (arith, e)
 
     on : SeesMore (log s.base.shelf) a.state b.state
-    on = sees_more W log faults home loans v w a.state b.state turn s.base at (steady s.base.shelf v.shelf) history
+    on = sees_more W log faults home loans v w a.state b.state turn s.base at history
 
     asks : b.state.asks ≡ a.state.asks
     asks = asks_same W log faults home loans v w a.state b.state turn fewer
@@ -53,7 +53,7 @@ module _ {D : Type 0} (W : List ℕ → List ℕ → Type 0) (log : D → Option
     asked = asked_same W log faults home loans v w a.state b.state turn fewer
 
     pub same_pass : Remains a b
-    same_pass = remains W log faults home loans v w a.state b.state turn s.base at (steady s.base.shelf v.shelf) history a b refl refl is halts
+    same_pass = remains W log faults home loans v w a.state b.state turn s.base at history a b refl refl is halts
 
     pub same_sees : SeesHolds (log s.base.shelf) b.state
     same_sees = sees_still (log s.base.shelf) a.state b.state on sees same asks asked
@@ -116,21 +116,21 @@ module _ {D : Type 0} (W : List ℕ → List ℕ → Type 0) (log : D → Option
     took_more = ap (λ (x : SpoolView D). x.state.holds) state.1 ∙ ap (λ (h : Span). v.state.holds ++ h ∷ []) (sym state.0)
 
     took_on : SeesMore (log s.base.shelf) a.state b.state
-    took_on = sees_more W log faults home loans v w a.state b.state turn s.base at (steady s.base.shelf v.shelf) took_history
+    took_on = sees_more W log faults home loans v w a.state b.state turn s.base at took_history
 
     took_asks : b.state.asks ≡ next_count a.state.asks
     took_asks = asks_more W log faults home loans v w a.state b.state turn one took_more
 
     took_asked : b.state.asked ≡ b.state.card.seen
-    took_asked = asked_all W log faults home loans v w a.state b.state turn one took_more ∙ sym (seen_is W log faults home loans v w a.state b.state turn s.base at (steady s.base.shelf v.shelf) took_history)
+    took_asked = asked_all W log faults home loans v w a.state b.state turn one took_more ∙ sym (seen_is W log faults home loans v w a.state b.state turn s.base at took_history)
 
     pub hold_pass : Remains a b
-    hold_pass = remains W log faults home loans v w a.state b.state turn s.base at (steady s.base.shelf v.shelf) took_history a b refl refl is (ap (λ (x : SpoolView D). x.state.halts) state.1)
+    hold_pass = remains W log faults home loans v w a.state b.state turn s.base at took_history a b refl refl is (ap (λ (x : SpoolView D). x.state.halts) state.1)
 
     pub hold_takes : {E : Type 0} → Holds W log faults home loans v w {E = E} (Ok one) → TakesHold (pass_set (log s.base.shelf) b.state one) (pass_holds (log s.base.shelf) a.state) (pass_holds (log s.base.shelf) b.state)
     hold_takes by =
         takes (log s.base.shelf) a.state b.state took_on sees one more took_asks took_asked
-        (whole_seen W log faults home loans v w a.state b.state turn s.base at (steady s.base.shelf v.shelf) took_history one by.held_is)
+        (whole_seen W log faults home loans v w a.state b.state turn s.base at took_history one by.held_is)
 
     pub hold_more : HoldsOneMore one (times_in a.state.held) (times_in b.state.held) size_of size_of (pass_set (log s.base.shelf) a.state) (pass_set (log s.base.shelf) b.state)
     hold_more = one_more (log s.base.shelf) a.state b.state took_on sees one more took_asks took_asked
@@ -138,7 +138,7 @@ module _ {D : Type 0} (W : List ℕ → List ℕ → Type 0) (log : D → Option
     pub hold_sees : {E : Type 0} → Holds W log faults home loans v w {E = E} (Ok one) → SeesHolds (log s.base.shelf) b.state
     hold_sees by =
         sees_one (log s.base.shelf) a.state b.state took_on sees one more took_asks took_asked
-        (within_seen W log faults home loans v w a.state b.state turn s.base at (steady s.base.shelf v.shelf) took_history one took_more by.stands)
+        (within_seen W log faults home loans v w a.state b.state turn s.base at took_history one took_more by.stands)
 
   -- a hold that was given back
   module _ (one : Span) (by : Releases W log faults home loans v w one) (less : Without one a.state.held b.state.held) where
@@ -149,7 +149,7 @@ module _ {D : Type 0} (W : List ℕ → List ℕ → Type 0) (log : D → Option
     gave_fewer = let shorter = length-remove v.state.holds by.without.0 by.without.1 in let e = ap length by.without.3 in omega (arith, shorter, e)
 
     gave_on : SeesMore (log s.base.shelf) a.state b.state
-    gave_on = sees_more W log faults home loans v w a.state b.state turn s.base at (steady s.base.shelf v.shelf) gave_history
+    gave_on = sees_more W log faults home loans v w a.state b.state turn s.base at gave_history
 
     gave_asks : b.state.asks ≡ a.state.asks
     gave_asks = asks_same W log faults home loans v w a.state b.state turn gave_fewer
@@ -158,7 +158,7 @@ module _ {D : Type 0} (W : List ℕ → List ℕ → Type 0) (log : D → Option
     gave_asked = asked_same W log faults home loans v w a.state b.state turn gave_fewer
 
     pub release_pass : Remains a b
-    release_pass = remains W log faults home loans v w a.state b.state turn s.base at (steady s.base.shelf v.shelf) gave_history a b refl refl is (ap (λ (x : SpoolView D). x.state.halts) by.state)
+    release_pass = remains W log faults home loans v w a.state b.state turn s.base at gave_history a b refl refl is (ap (λ (x : SpoolView D). x.state.halts) by.state)
 
     pub release_back : Contains a.state.held one → GivesBack (pass_set (log s.base.shelf) a.state one) (pass_holds (log s.base.shelf) a.state) (pass_holds (log s.base.shelf) b.state)
     release_back mine = gives_back (log s.base.shelf) a.state b.state gave_on sees one less gave_asks gave_asked mine
@@ -186,7 +186,7 @@ module _ {D : Type 0} (W : List ℕ → List ℕ → Type 0) (log : D → Option
         → OfEntry (pass_set (log x.shared.base.shelf) x.pass.state hold) i P
     entry_by history hold out i P each =
         subst (λ (y : SeatView (SpoolView D)). OfEntry (pass_set (log y.shared.base.shelf) y.pass.state hold) i P) view
-        (of_entry W log faults home loans v w a.state b.state turn s.base at (steady s.base.shelf v.shelf) history sees hold (is_mine hold out) i P each)
+        (of_entry W log faults home loans v w a.state b.state turn s.base at history sees hold (is_mine hold out) i P each)
 
     pub lent_entry : StaysAs W log faults home loans v w → (hold : Span) → 0 < times_in x.pass.state.held hold → (i : ℕ) (P : Entry → Type 0)
         → ((l : Log) (earlier h : List Event) (f : Files) (e : Entry) (after : List Entry) → log v.shelf ≡ Some l → StandsFor W (log v.shelf) v.state earlier h f → drop i (held hold h) ≡ e ∷ after → P e)
@@ -201,7 +201,7 @@ module _ {D : Type 0} (W : List ℕ → List ℕ → Type 0) (log : D → Option
     pub size_by : w ≡ v → (hold : Span) → 0 < times_in x.pass.state.held hold → IsSetOfSize (pass_set (log x.shared.base.shelf) x.pass.state hold) (size_of hold)
     size_by still hold out =
         subst (λ (y : SeatView (SpoolView D)). IsSetOfSize (pass_set (log y.shared.base.shelf) y.pass.state hold) (size_of hold)) view
-        (set_of_size W log faults home loans v w a.state b.state turn s.base at (steady s.base.shelf v.shelf) (ap (λ (y : SpoolView D). (facts_of log faults home y).history) still) sees hold (is_mine hold out))
+        (set_of_size W log faults home loans v w a.state b.state turn s.base at (ap (λ (y : SpoolView D). (facts_of log faults home y).history) still) sees hold (is_mine hold out))
 
     -- a hold, or none
     module _ {E : Type 0} where

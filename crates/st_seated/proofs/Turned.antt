@@ -16,19 +16,16 @@ use Rattle.st_spool.specs.Standing.{StandsFor}
 use Rattle.st_spool.specs.States.{SpoolView, held, IsWithin}
 use Rattle.st_spool.specs.declared.state.Span.{Span}
 use Rattle.st_answer.specs.Stores.{IsSetOfSize, OfEntry}
+use Rattle.st_spool.proofs.Keeping.{by_test}
 use Rattle.st_turn.specs.Calls.{IsTurn, has_more}
 use Rattle.st_turn.specs.Parts.{PassState}
 use Rattle.st_turn.specs.Passes.{PassView, IsSame}
 use Rattle.st_turn.specs.SpoolCalls.{IsAtHome}
 use Rattle.st_turn.specs.Spools.{facts_of, told_history}
 use Rattle.st_turn.specs.Steps.{has_risen}
-use Rattle.st_seated.specs.Seats.{pass_set, pass_faults, IsKnownToo, Remains, SeesHolds}
+use Rattle.st_seated.specs.Seats.{pass_set, pass_faults, Remains, SeesHolds}
 use Rattle.st_seated.proofs.Grown.{entries_more, held_on, set_drop, set_take}
 use Rattle.st_seated.proofs.Seen.{SeesMore}
-
-by_test : (b : Bool) (P : Bool → Type 0) → (b ≡ true → P true) → (b ≡ false → P false) → P b
-by_test true P t f = t refl
-by_test false P t f = f refl
 
 -- a list that isn't longer, and one that is
 module _ {A : Type 0} where
@@ -78,7 +75,7 @@ module _ {D : Type 0} (W : List ℕ → List ℕ → Type 0) (log : D → Option
     asked_all = turn.asked ∙ ap (λ (b : Bool). cond b (facts_of log faults home v).history p.asked) (more_by_one v.state.holds w.state.holds one more)
 
   -- the history stayed
-  module _ (base : SpoolView D) (at : IsAtHome W log faults home base v) (steady : IsKnownToo (log base.shelf) (log v.shelf))
+  module _ (base : SpoolView D) (at : IsAtHome W log faults home base v)
       (same : (facts_of log faults home w).history ≡ (facts_of log faults home v).history) where
     pub seen_is : q.card.seen ≡ (facts_of log faults home v).history
     seen_is = turn.after ∙ same
@@ -86,7 +83,7 @@ module _ {D : Type 0} (W : List ℕ → List ℕ → Type 0) (log : D → Option
     -- the history at home, where it is known
     pub at_home : (l : Log) → log base.shelf ≡ Some l → (facts_of log faults home v).history ≡ at.stands.1
     at_home l is =
-        let k = steady l is in
+        let k = at.keeps.still_known l is in
         ap (λ (o : Option Log). told_history (option_map (history v.state) o) (event_count v.state + 1)) k.1
         ∙ (at.stands.3.disk k.0 k.1).recalls
 
@@ -130,7 +127,7 @@ module _ {D : Type 0} (W : List ℕ → List ℕ → Type 0) (log : D → Option
       where
         l_known : (l : Log) → log base.shelf ≡ Some l → held hold p.card.seen ≡ set → P (get_or set i d)
         l_known l known here =
-            let k = steady l known in
+            let k = at.keeps.still_known l known in
             each k.0 at.stands.0 at.stands.1 at.stands.2 (get_or set i d) (drop (suc i) set) k.1 at.stands.3
             (ap (drop i) (held_home l known sees hold mine ∙ here) ∙ drop-cons set i d below)
 

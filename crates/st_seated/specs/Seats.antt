@@ -68,7 +68,3 @@ pub record SeatView (S : Type 0) : Type 0 where
 pub record Goes {S : Type 0} (a b : SeatView S) : Type 0 where
   pub shared : b.shared ≡ a.shared
   pub pass : Remains a.pass b.pass
-
--- a log is known of this shelf, if it is of that one
-abbrev pub IsKnownToo : Option Log → Option Log → Type 0
-IsKnownToo one other = (log : Log) → one ≡ Some log → (known : Log) × (other ≡ Some known)

@@ -6,22 +6,23 @@ ghost use Rattle.st_turn.specs.Passes.{IsOf};
 ghost use Rattle.st_seated.specs.Seats.{IsSeatable, Remains, pass_faults, pass_holds};
 
 use crate::seated::Seated;
-use crate::steady::Steady;
 use st_answer::{AnswerErr, Told, answer};
 use st_base::{Limits, Outlet};
 use st_pcap::Unit;
 use st_query::Query;
+use st_shelf::Shelf;
 use st_spool::{PairRule, Spool};
 use st_turn::{Pass, Shared};
 use std::alloc::Global;
 use std::sync::Wait;
 
 /// Sends the packets that match `query`, of all pairs that are published when it takes its hold, as
-/// `answer` does, by turns of this pass, which comes back.
+/// `answer` does, by turns of this pass. The pass comes back, with the hold released and all files
+/// closed.
 ///
-/// The clock stands at `now` microseconds since 1970. `DiskFault` comes only if the shelf or a file
-/// of it failed in a turn of this pass.
-pub fn answer_shared<R: Wait, D: Steady, W: PairRule, O: Outlet>(
+/// The clock is at `now` microseconds since 1970. The errors are those of `answer`: `DiskFault`
+/// comes only if the shelf failed in a turn of this pass, or a file that was lent to it.
+pub fn answer_shared<R: Wait, D: Shelf, W: PairRule, O: Outlet>(
     rt: &R,
     alloc: Global,
     shared: &Shared<Spool<D, W>>,
@@ -37,7 +38,8 @@ pub fn answer_shared<R: Wait, D: Steady, W: PairRule, O: Outlet>(
     ensures replies { RepliesFor O.after O.gone (O.state outlet.old) (O.state outlet.new)
         (record { node = query.now; now = now; limits = limits; unit = unit })
         (asked (pass_holds (D.log shared.now.base.shelf) result.0.state)) result.1 }
-    ensures blames { Blames (asked (pass_holds (D.log shared.now.base.shelf) result.0.state)) result.1 }
+    ensures blames { Blames (asked (pass_holds (D.log shared.now.base.shelf) result.0.state))
+        result.1 }
     ensures write { HasOutletCause (O.faults outlet.old) (O.faults outlet.new) result.1 }
     ensures disk { HasDiskCause (pass_faults pass.state) (pass_faults result.0.state) result.1 }
     // what the pass was asked

@@ -1,4 +1,4 @@
-//! Laws of the definitions. Its function does nothing; what it ensures is what counts.
+//! Laws of the definitions. The function does nothing; what it ensures is what counts.
 
 ghost use Rattle.st_seated.specs.Sitting.{StartsSeatable, MeetsSeatable};
 

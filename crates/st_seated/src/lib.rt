@@ -11,8 +11,8 @@
 //! - The pass comes back as its last call left it, and may be a store again (`Seated::leave`).
 //! - An answer over it is `answer`'s, and its faults, its reads and its lent files are the pass's
 //!   own (`answer_shared`).
-//! - A pass may be a store as it starts, and after it met others while it holds nothing
-//!   (`passes_sit`).
+//! - A pass may be a store as `share` gives it, and also after it met another pass, if it holds
+//!   nothing then (`passes_sit`).
 //!
 //! # What it leaves to others
 //!
@@ -21,15 +21,13 @@
 //!
 //! # Where to read
 //!
-//! `specs/Seats.antt` says what a pass has as a store. Then `seated`, `answering` and `steady`.
+//! `specs/Seats.antt` says what a pass has as a store. Then `seated` and `answering`.
 #![tactic(auto)]
 
 mod answering;
 mod laws;
 mod seated;
-mod steady;
 
 pub use answering::answer_shared;
 pub use laws::passes_sit;
 pub use seated::Seated;
-pub use steady::Steady;

@@ -1,9 +1,9 @@
 ghost use Rattle.std.specs.Prelude.{◌≡◌, length};
 ghost use Rattle.st_seated.specs.Seats.{IsSeatable};
 
-use crate::steady::Steady;
 use st_answer::Store;
 use st_base::{Failed, NoMemory};
+use st_shelf::Shelf;
 use st_spool::{Hold, PairRule, Spool};
 use st_turn::{Pass, Shared};
 use std::marker::Model;
@@ -12,14 +12,15 @@ use std::sync::Wait;
 /// A pass of a shared spool as a store of pairs, each call of which is one turn. It must be spent,
 /// by `leave`.
 ///
-/// Its pass is one of the shared spool's, and what it saw reaches as far as its holds.
-pub struct Seated<'a, R: Wait, D: Steady, W: PairRule> {
+/// Its pass is one of the shared spool's. Where the shelf's log is known, each pair that it holds
+/// was found or published in what it saw.
+pub struct Seated<'a, R: Wait, D: Shelf, W: PairRule> {
     rt: &'a R,
     shared: &'a Shared<Spool<D, W>>,
     pass: Pass<Spool<D, W>>,
 }
 
-impl<'a, R: Wait, D: Steady, W: PairRule> Model for Seated<'a, R, D, W> {
+impl<'a, R: Wait, D: Shelf, W: PairRule> Model for Seated<'a, R, D, W> {
     ghost use Rattle.st_spool.specs.States.{SpoolView};
     ghost use Rattle.st_seated.specs.Seats.{SeatView, IsSeatable};
 
@@ -33,7 +34,7 @@ impl<'a, R: Wait, D: Steady, W: PairRule> Model for Seated<'a, R, D, W> {
     ghost invariant = { λ s. IsSeatable (D.log s.shared.now.base.shelf) s.shared.now s.pass };
 }
 
-impl<'a, R: Wait, D: Steady, W: PairRule> Seated<'a, R, D, W> {
+impl<'a, R: Wait, D: Shelf, W: PairRule> Seated<'a, R, D, W> {
     /// A store over a pass of this shared spool. It takes no turn and no memory.
     pub fn over(
         rt: &'a R,
@@ -49,7 +50,8 @@ impl<'a, R: Wait, D: Steady, W: PairRule> Seated<'a, R, D, W> {
     /// The pass, as its last call left it.
     pub fn leave(self) -> Pass<Spool<D, W>>
         ensures pass { result ≡ self.entry.pass }
-        ensures seatable { IsSeatable (D.log self.entry.shared.base.shelf) self.entry.shared result }
+        ensures seatable { IsSeatable (D.log self.entry.shared.base.shelf) self.entry.shared
+            result }
     {
         let Seated {
             rt: _rt,
@@ -60,7 +62,7 @@ impl<'a, R: Wait, D: Steady, W: PairRule> Seated<'a, R, D, W> {
     }
 }
 
-impl<R: Wait, D: Steady, W: PairRule> Store for Seated<'_, R, D, W> {
+impl<R: Wait, D: Shelf, W: PairRule> Store for Seated<'_, R, D, W> {
     type Held = Hold;
 
     type File = D::File;

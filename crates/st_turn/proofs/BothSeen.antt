@@ -1,19 +1,16 @@
 -- What two passes know after they met, and what one knows that takes in all others.
-use Rattle.std.proofs.Common.{◌≡◌, ◌⊎◌, ⊎_elim, inl, inr, ℕ, zero, suc, ◌+◌, ◌<◌, ◌≤◌, List, [], ◌∷◌, ◌++◌, length, map, Option, Some, Bool, true, false, cond, nat_lt, refl, sym, ◌∙◌, ap, subst, arith, append_assoc, append-nil, length-append}
+use Rattle.std.proofs.Common.{◌≡◌, ◌⊎◌, ⊎_elim, inl, inr, ℕ, ◌+◌, ◌<◌, ◌≤◌, List, [], ◌∷◌, ◌++◌, length, map, cond, nat_lt, refl, sym, ◌∙◌, ap, subst, arith, append_assoc, append-nil, length-append}
 use Rattle.atomic_table.specs.Seated.{TableId}
 use Rattle.st_disk.specs.Events.{Event}
 use Rattle.st_spool.specs.declared.state.Span.{Span}
-use Rattle.st_turn.specs.Parts.{Facts, Card, PassState, IsPrefix, Each, is_number}
+use Rattle.st_spool.proofs.Keeping.{by_test}
+use Rattle.st_turn.specs.Parts.{PassState, IsPrefix, is_number}
 use Rattle.st_turn.specs.Steps.{visitor, longer, joined}
 use Rattle.st_turn.specs.Telling.{Saw}
 use Rattle.st_turn.specs.Passes.{PassView, state_of, Met, AreOf}
 use Rattle.st_turn.specs.Ends.{gathered, AreNumbered}
-use Rattle.st_turn.proofs.Totals.{begins_length, begins_both, same_other}
+use Rattle.st_turn.proofs.Totals.{begins_both, same_other}
 use Rattle.st_turn.proofs.Joined.{longer_is}
-
-by_test : (b : Bool) (P : Bool → Type 0) → (b ≡ true → P true) → (b ≡ false → P false) → P b
-by_test true P t f = t refl
-by_test false P t f = f refl
 
 module _ {E : Type 0} where
   is_longer : (xs ys : List E) → ((length xs < length ys) × (longer xs ys ≡ ys)) ⊎ ((length ys ≤ length xs) × (longer xs ys ≡ xs))

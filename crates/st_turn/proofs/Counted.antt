@@ -1,5 +1,5 @@
 -- The refusals of a publication and of an ageing, by the counts.
-use Rattle.std.proofs.Common.{◌≡◌, ◌⊎◌, ⊎_elim, ℕ, ◌<◌, List, [], ◌∷◌, Option, Some, None, Result, Ok, Err, Bool, true, false, cond, refl, sym, ◌∙◌, ap, subst, inl, inr, arith}
+use Rattle.std.proofs.Common.{◌≡◌, ⊎_elim, ℕ, ◌<◌, List, Option, Some, None, Result, Ok, Err, Bool, true, false, cond, refl, sym, ◌∙◌, ap, subst, arith}
 use Rattle.st_base.specs.Faults.{next_count}
 use Rattle.st_disk.specs.Disks.{Log}
 use Rattle.st_disk.specs.Events.{Event}
@@ -11,17 +11,17 @@ use Rattle.st_spool.specs.declared.refusals.PublishErr.{PublishErr}
 use Rattle.st_spool.specs.declared.refusals.PublishErr.TheVariants as publish
 use Rattle.st_spool.specs.declared.refusals.AgeErr.{AgeErr}
 use Rattle.st_spool.specs.declared.refusals.AgeErr.TheVariants as age
-use Rattle.st_spool.specs.States.{SpoolState, SpoolView}
+use Rattle.st_spool.specs.States.{SpoolView}
 use Rattle.st_spool.specs.Recalling.{history}
 use Rattle.st_spool.specs.Standing.{Stands, IsCalm}
-use Rattle.st_spool.specs.Publishing.{MayPublish, published}
+use Rattle.st_spool.specs.Publishing.{MayPublish}
 use Rattle.st_turn.specs.declared.refusals.SharedPublishErr.{SharedPublishErr}
 use Rattle.st_turn.specs.declared.refusals.SharedPublishErr.TheVariants as shared
-use Rattle.st_turn.specs.Parts.{Facts, Card, PassState}
+use Rattle.st_turn.specs.Parts.{Facts, PassState}
 use Rattle.st_turn.specs.Calls.{IsTurn, MayTurn}
 use Rattle.st_turn.specs.Spools.{facts_of, top_stamp, KeepsOf}
-use Rattle.st_turn.specs.SpoolCalls.{told, publish_stopped, age_stopped, PublishesBy, SharedPublishes, AgesBy}
-use Rattle.st_turn.specs.Counts.{has_failed, is_halted, is_spent, had_memory, age_halted, StopsBy, AgeRefuses, PublishRefuses}
+use Rattle.st_turn.specs.SpoolCalls.{told, publish_stopped, PublishesBy, SharedPublishes, AgesBy}
+use Rattle.st_turn.specs.Counts.{has_failed, AgeRefuses, PublishRefuses}
 use Rattle.st_turn.proofs.Spooled.{publish_turn, age_turn, room_turn}
 
 -- nothing failed yet of a spool that is not halted, and something of one that is
@@ -158,4 +158,4 @@ module _ {D : Type 0} (W : List ℕ → List ℕ → Type 0) (log : D → Option
   pub room_keeps : (b x r : SpoolView D) (n : ℕ) → r ≡ record x { spare = n } → KeepsOf log faults home b x → KeepsOf log faults home b r
   room_keeps b x r n is k =
       subst (λ (s : SpoolView D). KeepsOf log faults home b s) (sym is)
-      (record { shelf = k.shelf; limit = k.limit; later = k.later; history = k.history; known = k.known; images = k.images })
+      (record { shelf = k.shelf; limit = k.limit; later = k.later; history = k.history; known = k.known; still_known = k.still_known; images = k.images })

@@ -1,14 +1,14 @@
 -- The rule as a spool is shared, and what it says of all passes at the end.
-use Rattle.std.proofs.Common.{◌≡◌, ◌≢◌, ◌⊎◌, inl, inr, ⊎_elim, ℕ, zero, suc, ◌+◌, ◌-◌, ◌^◌, ◌<◌, ◌≤◌, List, [], ◌∷◌, ◌++◌, length, set, min, replicate, Option, Some, None, refl, sym, ◌∙◌, ap, ap₂, subst, arith, append_assoc, append-nil, length-append}
+use Rattle.std.proofs.Common.{◌≡◌, ℕ, zero, suc, ◌+◌, ◌^◌, ◌<◌, ◌≤◌, List, [], ◌∷◌, ◌++◌, length, replicate, Option, Some, None, refl, sym, ◌∙◌, ap, subst, arith, append_assoc, length-append}
 use mathlib.Core.Option.{some, some-injective, some-ne-none}
 use mathlib.Core.Logic.{dite}
 use native.Mathlib.Decide.{ℕ_discrete, dec_lt}
 use lib.ListN.{get_elem?}
 use Rattle.st_turn.specs.declared.book.Line.{Line}
-use Rattle.st_turn.specs.Parts.{Facts, Booked, Card, PassState, total, IsPrefix, Each, Rises, is_same, is_number, line_of, blank, numbered, owned, HasNumber, IsCard, IsPass, Parts}
-use Rattle.st_turn.specs.Steps.{seen_only, visitor, starts, longer, joined}
+use Rattle.st_turn.specs.Parts.{Facts, Booked, Card, PassState, total, IsPrefix, Each, is_same, is_number, line_of, blank, numbered, owned, HasNumber, IsCard, IsPass, Parts}
+use Rattle.st_turn.specs.Steps.{starts}
 use Rattle.st_turn.specs.Ends.{gathered, AreNumbered, Ended}
-use Rattle.st_turn.proofs.Totals.{total_append, total_at, total_two, total_none, begins_self, same_self, same_other, number_self}
+use Rattle.st_turn.proofs.Totals.{total_append, total_at, total_two, total_none, begins_self, same_other, number_self}
 
 blank_line : (n k : ℕ) → line_of (replicate n blank) k ≡ blank
 blank_line zero k = refl

@@ -8,14 +8,13 @@ use Rattle.st_disk.specs.Pairs.{Entry, Files}
 use Rattle.st_disk.proofs.Reading.{known_log}
 use Rattle.st_disk.proofs.Runs.{started}
 use Rattle.st_spool.specs.declared.state.Doubt.{Doubt}
-use Rattle.st_spool.specs.declared.state.Doubt.TheVariants.{Nothing}
 use Rattle.st_spool.specs.History.{without, entries_after, entries_of, MayFollow, Legal}
 use Rattle.st_spool.specs.States.{SpoolState, AreUpTo}
 use Rattle.st_spool.specs.Recalling.{history, earlier, event_count}
 use Rattle.st_spool.specs.Standing.{StandsFor, OnDisk, IsCalm, Gives, begun, after_found}
 use Rattle.st_spool.specs.Publishing.{RanTo, RanInDoubt, RanAsBefore, Fails, Keeps}
 use Rattle.st_spool.specs.Holding.{with_hold}
-use Rattle.st_spool.specs.Covers.{Covers, CoversInDoubt}
+use Rattle.st_spool.specs.Covers.{CoversInDoubt}
 use Rattle.st_spool.proofs.Recalled.{earlier_long}
 use Rattle.st_spool.proofs.Giving.{gives}
 use Rattle.st_spool.proofs.Covering.{covers_on, covers_fault, covers_doubt, covers_more, covers_calm}

@@ -1,18 +1,15 @@
 -- A number that is given out, a pass cut in two and a pass that takes in another one keep the rule.
-use Rattle.std.proofs.Common.{◌≡◌, ◌≢◌, ◌⊎◌, inl, inr, ⊎_elim, ℕ, zero, suc, ◌+◌, ◌-◌, ◌^◌, ◌<◌, ◌≤◌, List, [], ◌∷◌, ◌++◌, length, set, min, Option, Some, None, Bool, true, false, cond, nat_lt, refl, sym, ◌∙◌, ap, ap₂, subst, arith, append-nil, length-append}
-use mathlib.Core.Option.{some, some-injective, some-ne-none}
+use Rattle.std.proofs.Common.{◌≡◌, ◌≢◌, ◌⊎◌, inl, inr, ⊎_elim, ℕ, ◌+◌, ◌<◌, ◌≤◌, List, [], ◌∷◌, ◌++◌, length, set, Some, None, cond, nat_lt, refl, sym, ◌∙◌, ap, subst, arith}
+use mathlib.Core.Option.{some}
 use mathlib.Core.Logic.{dite}
 use native.Mathlib.Decide.{ℕ_discrete, dec_lt}
 use lib.ListN.{get_elem?}
-use Rattle.atomic_table.proofs.Lists.{at_set, at_snoc, set_here, set_else}
+use Rattle.atomic_table.proofs.Lists.{at_set, at_snoc, set_else}
+use Rattle.st_spool.proofs.Keeping.{by_test}
 use Rattle.st_turn.specs.declared.book.Line.{Line}
-use Rattle.st_turn.specs.Parts.{Facts, Booked, Card, PassState, total, IsPrefix, Each, Rises, is_same, is_number, line_of, blank, numbered, owned, HasNumber, IsCard, IsPass, Parts}
-use Rattle.st_turn.specs.Steps.{seen_only, visitor, starts, gave_out, next_pass, longer, joined}
-use Rattle.st_turn.proofs.Totals.{total_append, total_set, total_at, total_two, each_append, begins_self, begins_same, begins_on, begins_then, begins_nil, begins_length, begins_both, same_self, same_other, number_self}
-
-by_test : (b : Bool) (P : Bool → Type 0) → (b ≡ true → P true) → (b ≡ false → P false) → P b
-by_test true P t f = t refl
-by_test false P t f = f refl
+use Rattle.st_turn.specs.Parts.{Facts, Booked, Card, PassState, total, IsPrefix, Each, is_same, is_number, line_of, blank, numbered, owned, HasNumber, IsCard, IsPass, Parts}
+use Rattle.st_turn.specs.Steps.{seen_only, visitor, gave_out, next_pass, longer, joined}
+use Rattle.st_turn.proofs.Totals.{total_append, total_set, total_at, total_two, each_append, begins_self, begins_same, begins_then, begins_nil, begins_length, begins_both, same_self, same_other, number_self}
 
 module _ {E H : Type 0} where
   -- a card that only saw something

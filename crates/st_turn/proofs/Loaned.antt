@@ -1,5 +1,5 @@
 -- A file more that was lent or came back.
-use Rattle.std.proofs.Common.{◌≡◌, ℕ, List, [], ◌∷◌, ◌++◌, Bool, true, false, Result, Ok, Err, refl, sym, ◌∙◌, ap}
+use Rattle.std.proofs.Common.{◌≡◌, ℕ, List, [], ◌∷◌, ◌++◌, Bool, true, Result, Ok, Err, refl, ◌∙◌, ap}
 use Rattle.std.specs.Prelude.{MatchResult}
 use Rattle.st_shelf.specs.Loans.{LoansView, no_loans, lend}
 use Rattle.st_shelf.specs.Origins.{FileOrigin}

@@ -1,21 +1,16 @@
 -- A turn keeps the rule.
-use Rattle.std.proofs.Common.{◌≡◌, ◌≢◌, ◌⊎◌, inl, inr, ⊎_elim, ℕ, zero, suc, ◌+◌, ◌-◌, ◌^◌, ◌<◌, ◌≤◌, List, [], ◌∷◌, ◌++◌, length, set, min, Option, Some, None, Bool, true, false, cond, refl, sym, ◌∙◌, ap, ap₂, subst, arith, append_assoc, append-nil, length-append, length-set}
-use mathlib.Core.Option.{some, some-injective, some-ne-none}
+use Rattle.std.proofs.Common.{◌≡◌, ◌≢◌, ◌⊎◌, inl, inr, ⊎_elim, ℕ, ◌+◌, ◌-◌, ◌^◌, ◌<◌, ◌≤◌, List, [], ◌∷◌, ◌++◌, length, set, min, Option, Some, None, cond, refl, sym, ◌∙◌, ap, ap₂, subst, arith, length-append, length-set}
+use mathlib.Core.Option.{some}
 use mathlib.Core.Logic.{dite}
 use native.Mathlib.Decide.{ℕ_discrete, dec_lt}
 use lib.ListN.{get_elem?}
-use Rattle.atomic_table.proofs.Lists.{at_set, set_here}
+use Rattle.atomic_table.proofs.Lists.{at_set}
 use Rattle.st_base.specs.Faults.{next_count}
+use Rattle.st_spool.proofs.Keeping.{by_test}
 use Rattle.st_turn.specs.declared.book.Line.{Line}
-use Rattle.st_turn.specs.Parts.{Facts, Booked, Card, PassState, total, IsPrefix, Each, Rises, is_same, is_number, line_of, blank, numbered, owned, HasNumber, IsCard, IsPass, Parts}
+use Rattle.st_turn.specs.Parts.{Facts, Booked, Card, PassState, total, IsPrefix, Each, Rises, is_same, is_number, line_of, numbered, owned, IsCard, IsPass, Parts}
 use Rattle.st_turn.specs.Steps.{failed_after, has_risen, Moves}
-use Rattle.st_turn.proofs.Turns.{at_length}
-use Rattle.st_turn.proofs.Totals.{total_append, total_set, total_at, total_two, total_none, each_append, each_on, each_where, each_none, begins_self, begins_same, begins_on, begins_then, begins_nil, begins_length, same_self, same_other, number_other, number_self, below_none, rises_more, line_here, line_else, line_total, line_within}
-
--- by what a test says
-by_test : (b : Bool) (P : Bool → Type 0) → (b ≡ true → P true) → (b ≡ false → P false) → P b
-by_test true P t f = t refl
-by_test false P t f = f refl
+use Rattle.st_turn.proofs.Totals.{total_append, total_set, total_at, total_two, total_none, each_append, each_on, each_where, each_none, begins_same, begins_on, begins_then, begins_length, same_self, same_other, number_other, number_self, below_none, rises_more, line_here, line_else, line_total, line_within}
 
 -- a count of turns stays or goes up by one, and only if the count that it looks at rose
 counts_on : (xf yf n : ℕ) → (failed_after xf yf n ≡ n) ⊎ ((failed_after xf yf n ≡ next_count n) × (next_count xf ≤ yf))

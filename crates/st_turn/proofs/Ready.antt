@@ -1,20 +1,10 @@
 -- From the spool as it was taken to the end of the turn, in the words of the calls.
-use Rattle.std.proofs.Common.{◌≡◌, ◌⊎◌, ℕ, zero, suc, ◌+◌, ◌<◌, ◌≤◌, List, [], ◌∷◌, length, get_or, Option, Some, None, Bool, true, false, cond, nat_eq, refl, sym, ◌∙◌, ap, ap₂, subst, arith, eq-eqb, eqb-true}
-use Rattle.std.specs.List.{slice_index_or}
-use mathlib.Core.Logic.{dite}
-use native.Mathlib.Decide.{dec_lt}
-use Rattle.std.specs.Prelude.{Contains}
-use Rattle.st_spool.specs.declared.state.Span.{Span}
+use Rattle.std.proofs.Common.{◌≡◌, ℕ, List, [], ◌∷◌, Some, None, Bool, sym, ◌∙◌, ap, subst}
 use Rattle.st_turn.specs.declared.book.Line.{Line}
 use Rattle.st_turn.specs.Turn.{Seated, turning}
-use Rattle.st_turn.specs.Parts.{Facts, Booked, PassState, total}
+use Rattle.st_turn.specs.Parts.{Facts, Booked, PassState}
 use Rattle.st_turn.specs.Telling.{Learns}
 use Rattle.st_turn.specs.Calls.{IsTurn, MayTurn}
-use Rattle.st_turn.proofs.Totals.{total_at}
-
-by_test : (b : Bool) (P : Bool → Type 0) → (b ≡ true → P true) → (b ≡ false → P false) → P b
-by_test true P t f = t refl
-by_test false P t f = f refl
 
 module _ {S E H : Type 0} (facts : S → Facts E H) (Keeps : S → S → Type 0) where
   pub ready : (me : Seated (Booked S) (PassState S E H)) (p : PassState S E H) (x : Booked S) (v : S) (lines : List Line) (before : ℕ) (w : S) (next : List H) (stopped : Bool)
@@ -39,9 +29,3 @@ module _ {S E H : Type 0} (facts : S → Facts E H) (Keeps : S → S → Type 0)
       let t : IsTurn facts x.spool w me.0.pass q = turn x (ap (λ (m : Seated (Booked S) (PassState S E H)). m.0.taken) is) in
       subst (λ (s : S). IsTurn facts s w state q) (sym (ap (λ (b : Booked S). b.spool) view))
       (subst (λ (r : PassState S E H). IsTurn facts x.spool w r q) (ap (λ (m : Seated (Booked S) (PassState S E H)). m.0.pass) is ∙ same) t)
-
-  -- what the spool that was taken keeps of the spool as it was shared
-  pub kept_at : (x : Booked S) (v : S) (lines : List Line) (p : PassState S E H) (b : S) → Learns facts Keeps x p → record { spool = v; lines = lines } ≡ x → p.base ≡ Some b → Keeps b v
-  kept_at x v lines p b l view base =
-      let start : l.start ≡ b = let e : Some l.start ≡ Some b = sym l.base ∙ base in cc in
-      subst (λ (s : S). Keeps s v) start (subst (λ (s : S). Keeps l.start s) (sym (ap (λ (h : Booked S). h.spool) view)) l.keeps)

@@ -7,7 +7,6 @@ use Rattle.std.proofs.lemmas.List.Edits.{length-remove}
 use mathlib.Core.Logic.{dite}
 use native.Mathlib.Decide.{dec_lt}
 use Rattle.st_disk.specs.Disks.{Log}
-use Rattle.st_disk.specs.Events.{Event}
 use Rattle.st_shelf.specs.Loans.{LoansView}
 use Rattle.st_shelf.specs.declared.shelves.SealedPair.{SealedPair}
 use Rattle.st_spool.specs.declared.state.Span.{Span}
@@ -15,6 +14,7 @@ use Rattle.st_spool.specs.Holding.{IsWithout, whole_set, with_hold}
 use Rattle.st_spool.specs.Recalling.{event_count}
 use Rattle.st_spool.specs.Standing.{Stands}
 use Rattle.st_spool.specs.States.{SpoolView}
+use Rattle.st_spool.proofs.Keeping.{by_test}
 use Rattle.st_turn.specs.declared.book.Line.{Line}
 use Rattle.st_turn.specs.declared.refusals.SharedPublishErr.{SharedPublishErr}
 use Rattle.st_turn.specs.Parts.{Facts, Booked, PassState, total}
@@ -25,10 +25,6 @@ use Rattle.st_turn.specs.Spools.{facts_of, KeepsOf}
 use Rattle.st_turn.proofs.Imaged.{images_still}
 use Rattle.st_turn.proofs.Spooled.{stays_by, keeps_on}
 use Rattle.st_turn.proofs.Taken.{total_removed}
-
-by_test : (b : Bool) (P : Bool → Type 0) → (b ≡ true → P true) → (b ≡ false → P false) → P b
-by_test true P t f = t refl
-by_test false P t f = f refl
 
 -- a hold counts for 1 as itself, and for 0 as any other
 abbrev weight : Span → Span → ℕ
@@ -132,7 +128,7 @@ module _ {D : Type 0} (log : D → Option Log) (faults home : D → ℕ) (W : Li
           halts = ap (λ (s : SpoolView D). s.state.halts) r.state;
           rose = λ (e : false ≡ true). absurd (cc);
           one = λ (e : false ≡ true). absurd (cc);
-          keeps = λ b k. keeps_on log faults home b x y [] r.rest.0 (ap (λ (s : SpoolView D). s.state.limit) r.state) r.cause (both.0 ∙ sym (append-nil (facts_of log faults home x).history)) both.1
+          keeps = λ b k. keeps_on log faults home b x y [] r.rest.0 (ap (λ (s : SpoolView D). s.state.limit) r.state) r.cause (both.0 ∙ sym (append-nil (facts_of log faults home x).history)) both.1 both.2
               (images_still W b.state x.state y.state (log b.shelf) (log x.shelf) (log y.shelf) stands.0 stands.1 stands.2 stands.3 k.images (ap (λ (s : SpoolView D). s.state.last) r.state) (r.keeps stands.0 stands.1 stands.2 stands.3)) k;
         },
       )

@@ -1,5 +1,6 @@
 -- The table is shut, once the first pass took in all others: the spool is at home.
-use Rattle.std.proofs.Common.{◌≡◌, ℕ, zero, suc, ◌≤◌, List, [], ◌∷◌, length, map, Option, Some, None, refl, sym, ◌∙◌, ap, subst, arith}
+use Rattle.std.proofs.Common.{◌≡◌, ℕ, ◌≤◌, List, [], ◌∷◌, length, map, Option, Some, sym, ◌∙◌, ap, subst, arith}
+use Rattle.std.proofs.lemmas.List.{length-map}
 use mathlib.Core.Option.{some, some-injective}
 use lib.ListN.{get_elem?}
 use Rattle.atomic_table.specs.Table.{Final, Seen}
@@ -10,10 +11,6 @@ use Rattle.st_turn.specs.Parts.{Facts, Booked, PassState, HasNumber, Parts}
 use Rattle.st_turn.specs.Passes.{PassView, state_of}
 use Rattle.st_turn.specs.Ends.{gathered_all, AreNumbered, Ended}
 use Rattle.st_turn.proofs.Stepping.{may_end}
-
-pub mapped : {A B : Type 0} (f : A → B) (l : List A) → length (map f l) ≡ length l
-mapped f [] = refl
-mapped f (x ∷ xs) = let e = mapped f xs in omega arith
 
 module _ {S : Type 0} (facts : S → Facts Event Span) (Keeps : S → S → Type 0) (key : Booked S) where
   shuts : (id : ℕ) (all : List (PassState S Event Span)) (d : Caller (Booked S) (PassState S Event Span)) (ws : List ℕ) (xs : List (Option (Booked S))) → d ≡ idle (gathered_all all) → AreNumbered 0 all → 1 ≤ length all → length all ≡ length key.lines
@@ -28,7 +25,7 @@ module _ {S : Type 0} (facts : S → Facts Event Span) (Keeps : S → S → Type
       → Final (Seen (Turning HasNumber (Parts facts Keeps key)) id me.0) ws xs → get_elem? xs 0 ≡ some slot
       → (x : Booked S) × (slot ≡ Some x) × Ended (facts base) (facts x.spool) (map state_of passes) × Keeps base x.spool
   shut id passes me ws xs slot base count inside waits state numbers len some_passes same lines is final taken =
-      let size = mapped state_of passes in
+      let size = length-map passes state_of in
       let out = shuts id (map state_of passes) me.0 ws xs (ap (λ (m : Seated (Booked S) (PassState S Event Span)). m.0) waits ∙ ap (λ (p : PassState S Event Span). idle p) state) numbers (omega arith) (omega arith) final in (
         out.0,
         some-injective slot (Some out.0) (sym taken ∙ out.1),

@@ -1,38 +1,38 @@
 -- What the calls of a spool make of its history, of its holds and of what it keeps.
-use Rattle.std.proofs.Common.{◌≡◌, ◌<◌, ◌⊎◌, max, inl, inr, ℕ, ◌+◌, ◌≤◌, zero, suc, List, [], ◌∷◌, ◌++◌, length, replicate, drop, Option, Some, None, Result, Ok, Err, Bool, true, false, ⊎_elim, ◌-◌, refl, sym, ◌∙◌, ap, ap₂, subst, arith, append-nil, add_assoc, length-drop, length-append}
+use Rattle.std.proofs.Common.{◌≡◌, ◌<◌, max, inl, inr, ℕ, ◌+◌, ◌≤◌, zero, suc, List, [], ◌∷◌, ◌++◌, length, replicate, drop, Option, Some, None, Result, Ok, Err, Bool, true, false, ⊎_elim, ◌-◌, refl, sym, ◌∙◌, ap, ap₂, subst, arith, append-nil, add_assoc, length-drop, length-append}
 use Rattle.std.specs.Prelude.{option_map, MatchResult}
+use Rattle.std.proofs.lemmas.List.{length-map}
 use mathlib.Core.Logic.{dite}
 use native.Mathlib.Decide.{dec_lt}
 use Rattle.st_base.specs.Faults.{next_count}
-use Rattle.st_disk.specs.Disks.{Log, Grew}
+use Rattle.st_disk.specs.Disks.{Log}
 use Rattle.st_disk.specs.LoggedCalls.{KnownBefore}
 use Rattle.st_disk.specs.Pairs.{Entry, Files, files_of}
 use Rattle.st_disk.specs.Events.{Event, Found, Publish, Remove}
-use Rattle.st_disk.proofs.Runs.{grew_none, grew_then}
+use Rattle.st_disk.proofs.Runs.{grew_none, known_then}
 use Rattle.st_spool.specs.declared.state.Span.{Span}
 use Rattle.st_spool.specs.declared.state.Doubt.{Doubt}
 use Rattle.st_spool.specs.States.{SpoolState, SpoolView}
 use Rattle.st_spool.specs.Standing.{StandsFor, Stands, IsCalm}
-use Rattle.st_spool.specs.Recalling.{history, history_of, event_count}
+use Rattle.st_spool.specs.Recalling.{history_of, event_count}
 use Rattle.st_disk.specs.Folders.{given}
 use Rattle.st_shelf.specs.declared.shelves.SealedPair.{SealedPair}
 use Rattle.st_spool.specs.Placing.{files, entry}
-use Rattle.st_spool.specs.Publishing.{Publishes, Fails, Keeps, MayPublish, next_stamp, published}
+use Rattle.st_spool.specs.Publishing.{Keeps, MayPublish, next_stamp, published}
 use Rattle.st_spool.specs.declared.refusals.PublishErr.{PublishErr}
 use Rattle.st_spool.specs.declared.refusals.PublishErr.TheVariants as publish
 use Rattle.st_spool.specs.History.{set_of, entries_of}
-use Rattle.st_spool.specs.Aging.{Removes, pair_count, MayAge, aged}
+use Rattle.st_spool.specs.Aging.{pair_count, MayAge, aged}
 use Rattle.st_spool.specs.Holding.{whole_set, with_hold}
 use Rattle.st_spool.specs.declared.refusals.AgeErr.{AgeErr}
 use Rattle.st_spool.specs.declared.refusals.AgeErr.TheVariants as age
 use Rattle.st_spool.proofs.Remembered.{history_stays, failed_stays, published_goes_on, removed_goes_on}
 use Rattle.st_shelf.specs.Loans.{LoansView}
-use Rattle.st_turn.specs.Parts.{Facts, PassState, IsPrefix}
+use Rattle.st_turn.specs.Parts.{PassState}
 use Rattle.st_turn.specs.Calls.{MayTurn, HeldAfter, IsTurn}
 use Rattle.st_turn.specs.SpoolCalls.{StaysAs, AgesBy, age_stopped, PublishesBy, publish_stopped}
-use Rattle.st_turn.specs.Spools.{told_history, facts_of, KeepsImages, KeepsOf}
+use Rattle.st_turn.specs.Spools.{told_history, facts_of, KeepsImages, KeepsOf, StaysKnown}
 use Rattle.st_turn.proofs.Totals.{begins_self, begins_on}
-use Rattle.st_turn.proofs.Shut.{mapped}
 use Rattle.st_turn.proofs.Imaged.{images_self, images_held, images_still, images_more, images_fault}
 
 -- the unknown history goes on by one event, too
@@ -62,22 +62,21 @@ told_goes_on : (a b : Option (List Event)) (m n : ℕ) (e : Event) → b ≡ opt
 told_goes_on None b m n e is size = (Found [], ap₂ told_history is (ap (λ k. k + 1) size) ∙ more_blank m)
 told_goes_on (Some h) b m n e is size = (e, ap (λ (o : Option (List Event)). told_history o (n + 1)) is)
 
-module _ {D : Type 0} (log : D → Option Log) (faults home : D → ℕ) where
-  known_then : (a b c : Option Log) → KnownBefore a b → KnownBefore b c → KnownBefore a c
-  known_then a b c first second l e =
-      let q = second l e in
-      let p = first q.0 q.1 in (p.0, p.1, grew_then p.0 q.0 l p.2 q.2)
+still_then : (a b c : Option Log) → StaysKnown a b → StaysKnown b c → StaysKnown a c
+still_then a b c first second l e = let p = first l e in second p.0 p.1
 
+module _ {D : Type 0} (log : D → Option Log) (faults home : D → ℕ) where
   -- a call after which the history stays or has an event more
-  pub keeps_on : (b x y : SpoolView D) (more : List Event) → home y.shelf ≡ home x.shelf → y.state.limit ≡ x.state.limit → faults x.shelf ≤ faults y.shelf → (facts_of log faults home y).history ≡ (facts_of log faults home x).history ++ more → KnownBefore (log x.shelf) (log y.shelf)
+  pub keeps_on : (b x y : SpoolView D) (more : List Event) → home y.shelf ≡ home x.shelf → y.state.limit ≡ x.state.limit → faults x.shelf ≤ faults y.shelf → (facts_of log faults home y).history ≡ (facts_of log faults home x).history ++ more → KnownBefore (log x.shelf) (log y.shelf) → StaysKnown (log x.shelf) (log y.shelf)
       → ((first now : Log) → log b.shelf ≡ Some first → log y.shelf ≡ Some now → KeepsImages b.state y.state first now) → KeepsOf log faults home b x → KeepsOf log faults home b y
-  keeps_on b x y more same limit later grows known images k =
+  keeps_on b x y more same limit later grows known still images k =
       record {
         shelf = same ∙ k.shelf;
         limit = limit ∙ k.limit;
         later = let a = k.later in omega arith;
         history = begins_on (facts_of log faults home b).history (facts_of log faults home x).history (facts_of log faults home y).history more k.history grows;
         known = known_then (log b.shelf) (log x.shelf) (log y.shelf) k.known known;
+        still_known = still_then (log b.shelf) (log x.shelf) (log y.shelf) k.still_known still;
         images = images;
       }
 
@@ -89,16 +88,17 @@ module _ {D : Type 0} (log : D → Option Log) (faults home : D → ℕ) where
     later = omega arith;
     history = begins_self (facts_of log faults home x).history;
     known = λ l e. (l, e, grew_none l);
+    still_known = λ l e. (l, e);
     images = images_self W (log x.shelf) x.state stands.0 stands.1 stands.2 stands.3;
   }
 
   module _ (W : List ℕ → List ℕ → Type 0) (loans : D → LoansView) where
     -- a call with no event
     pub stays_by : (x y : SpoolView D) → ((earlier h : List Event) (f : Files) → StandsFor W (log x.shelf) x.state earlier h f → Keeps W (log x.shelf) (log y.shelf) y.state earlier h f) → Stands W (log x.shelf) x.state → event_count y.state ≡ event_count x.state
-        → ((facts_of log faults home y).history ≡ (facts_of log faults home x).history) × KnownBefore (log x.shelf) (log y.shelf)
+        → ((facts_of log faults home y).history ≡ (facts_of log faults home x).history) × KnownBefore (log x.shelf) (log y.shelf) × StaysKnown (log x.shelf) (log y.shelf)
     stays_by x y keeps stands size =
         let k = keeps stands.0 stands.1 stands.2 stands.3 in
-        (told_stays (history_of log x) (history_of log y) (event_count x.state + 1) (event_count y.state + 1) (history_stays W (log x.shelf) (log y.shelf) x.state y.state stands.0 stands.1 stands.2 stands.2 stands.3 k) (ap (λ n. n + 1) size), k.known)
+        (told_stays (history_of log x) (history_of log y) (event_count x.state + 1) (event_count y.state + 1) (history_stays W (log x.shelf) (log y.shelf) x.state y.state stands.0 stands.1 stands.2 stands.2 stands.3 k) (ap (λ n. n + 1) size), k.known, λ l e. let run = k.images l e in (run.log, run.is))
 
     -- it may be a turn
     pub still_turn : (x y : SpoolView D) (holds : List Span) → StaysAs W log faults home loans x y → Stands W (log x.shelf) x.state → faults x.shelf ≤ faults y.shelf
@@ -113,7 +113,7 @@ module _ {D : Type 0} (log : D → Option Log) (faults home : D → ℕ) where
           halts = ap (λ (s : SpoolState). s.halts) state;
           rose = λ (e : false ≡ true). absurd (cc);
           one = λ (e : false ≡ true). absurd (cc);
-          keeps = λ b k. keeps_on b x y [] stays.shelf (ap (λ (s : SpoolState). s.limit) state) later (both.0 ∙ sym (append-nil (facts_of log faults home x).history)) both.1
+          keeps = λ b k. keeps_on b x y [] stays.shelf (ap (λ (s : SpoolState). s.limit) state) later (both.0 ∙ sym (append-nil (facts_of log faults home x).history)) both.1 both.2
               (images_still W b.state x.state y.state (log b.shelf) (log x.shelf) (log y.shelf) stands.0 stands.1 stands.2 stands.3 k.images (ap (λ (s : SpoolState). s.last) state) (stays.keeps stands.0 stands.1 stands.2 stands.3)) k;
         }
 
@@ -129,7 +129,7 @@ module _ {D : Type 0} (log : D → Option Log) (faults home : D → ℕ) where
           halts = halts;
           rose = λ (e : false ≡ true). absurd (cc);
           one = λ (e : false ≡ true). absurd (cc);
-          keeps = λ b k. keeps_on b x y [] (ap home shelf) limit (omega arith) (same ∙ sym (append-nil (facts_of log faults home x).history)) (λ l e. (l, sym (ap log shelf) ∙ e, grew_none l)) (λ first now begins is. images b.state first now (k.images first now begins (sym (ap log shelf) ∙ is))) k;
+          keeps = λ b k. keeps_on b x y [] (ap home shelf) limit (omega arith) (same ∙ sym (append-nil (facts_of log faults home x).history)) (λ l e. (l, sym (ap log shelf) ∙ e, grew_none l)) (λ l e. (l, ap log shelf ∙ e)) (λ first now begins is. images b.state first now (k.images first now begins (sym (ap log shelf) ∙ is))) k;
         }
 
     pub idle_turn : (x y : SpoolView D) (held : List Span) → y ≡ x → MayTurn (facts_of log faults home) (KeepsOf log faults home) x y held held false
@@ -154,7 +154,7 @@ module _ {D : Type 0} (log : D → Option Log) (faults home : D → ℕ) where
         by_set (e ∷ after) is = (e, after, refl)
         by_set [] is = absurd (
             let a : 0 ≡ length (entries_of h) - st.removed = ap length is ∙ length-drop st.removed (entries_of h) in
-            let b : length (entries_of h) ≡ length st.stamps = sym (mapped (λ (e : Entry). e.stamp) (entries_of h)) ∙ ap length s.stamps in
+            let b : length (entries_of h) ≡ length st.stamps = sym (length-map (entries_of h) (λ (e : Entry). e.stamp)) ∙ ap length s.stamps in
             let c = may.1 in omega arith)
 
     pub age_turn : (x y : SpoolView D) (held : List Span) (result : Result Bool AgeErr) → AgesBy W log faults home loans x y result → Stands W (log x.shelf) x.state
@@ -173,7 +173,7 @@ module _ {D : Type 0} (log : D → Option Log) (faults home : D → ℕ) where
           halts = ap (λ (s : SpoolState). s.halts) state;
           rose = λ (e : false ≡ true). absurd (cc);
           one = λ (e : false ≡ true). absurd (cc);
-          keeps = λ b k. keeps_on b x y (grows.0 ∷ []) a.rest.0 (ap (λ (s : SpoolState). s.limit) state) a.cause.0 grows.1 removes.known
+          keeps = λ b k. keeps_on b x y (grows.0 ∷ []) a.rest.0 (ap (λ (s : SpoolState). s.limit) state) a.cause.0 grows.1 removes.known (λ l e. let run = removes.images l e in (run.log, run.is))
               (images_more W b.state x.state y.state (log b.shelf) (log x.shelf) (log y.shelf) stands.0 stands.1 stands.2 stands.3 k.images (Remove first.0.stamp) stands.2 (ap (λ (s : SpoolState). s.last) state) may.0 removes.known removes.stands removes.images) k;
         }
       where
@@ -198,7 +198,7 @@ module _ {D : Type 0} (log : D → Option Log) (faults home : D → ℕ) where
           halts = halts;
           rose = λ e. a.cause.1 refl;
           one = λ e. first_stop x.state.halted x.state.doubt x.state.halts y.state.halts stands.3.calm may.0 halts;
-          keeps = λ b k. keeps_on b x y [] a.rest.0 limit a.cause.0 (same ∙ sym (append-nil (facts_of log faults home x).history)) fails.known
+          keeps = λ b k. keeps_on b x y [] a.rest.0 limit a.cause.0 (same ∙ sym (append-nil (facts_of log faults home x).history)) fails.known (λ l e. let run = fails.images l e in (run.log, run.is))
               (images_fault W b.state x.state y.state (log b.shelf) (log x.shelf) (log y.shelf) stands.0 stands.1 stands.2 stands.3 k.images (files_of first.0) last may.0 fails) k;
         }
     age_turn x y held (Err (age.Halted since)) a stands = idle_turn x y held a.refused.1
@@ -222,7 +222,7 @@ module _ {D : Type 0} (log : D → Option Log) (faults home : D → ℕ) where
           halts = ap (λ (s : SpoolState). s.halts) state;
           rose = λ (e : false ≡ true). absurd (cc);
           one = λ (e : false ≡ true). absurd (cc);
-          keeps = λ b k. keeps_on b x y (grows.0 ∷ []) a.rest.0 (ap (λ (s : SpoolState). s.limit) state) a.cause.later grows.1 done.known
+          keeps = λ b k. keeps_on b x y (grows.0 ∷ []) a.rest.0 (ap (λ (s : SpoolState). s.limit) state) a.cause.later grows.1 done.known (λ l e. let run = done.images l e in (run.log, run.is))
               (images_more W b.state x.state y.state (log b.shelf) (log x.shelf) (log y.shelf) stands.0 stands.1 stands.2 stands.3 k.images (Publish (entry s (files (given (bytes pair.block)) (given (bytes pair.index))))) stands.2 last may.0 done.known done.stands done.images) k;
         }
     publish_turn bytes x y held pair floor (Err publish.DiskFault) a stands =
@@ -241,7 +241,7 @@ module _ {D : Type 0} (log : D → Option Log) (faults home : D → ℕ) where
           halts = halts;
           rose = λ e. a.cause.failed refl;
           one = λ e. first_stop x.state.halted x.state.doubt x.state.halts y.state.halts stands.3.calm may.0 halts;
-          keeps = λ b k. keeps_on b x y [] a.rest.0 limit a.cause.later (same ∙ sym (append-nil (facts_of log faults home x).history)) fails.known
+          keeps = λ b k. keeps_on b x y [] a.rest.0 limit a.cause.later (same ∙ sym (append-nil (facts_of log faults home x).history)) fails.known (λ l e. let run = fails.images l e in (run.log, run.is))
               (images_fault W b.state x.state y.state (log b.shelf) (log x.shelf) (log y.shelf) stands.0 stands.1 stands.2 stands.3 k.images (files (given (bytes pair.block)) (given (bytes pair.index))) last may.0 fails) k;
         }
     publish_turn bytes x y held pair floor (Err (publish.Halted since back)) a stands = idle_turn x y held a.refused.1
@@ -259,7 +259,7 @@ module _ {D : Type 0} (log : D → Option Log) (faults home : D → ℕ) where
           halts = t.halts;
           rose = t.rose;
           one = t.one;
-          keeps = λ b k. t.keeps b (record { shelf = k.shelf; limit = k.limit; later = k.later; history = k.history; known = k.known; images = k.images });
+          keeps = λ b k. t.keeps b (record { shelf = k.shelf; limit = k.limit; later = k.later; history = k.history; known = k.known; still_known = k.still_known; images = k.images });
         }
 
     pub room_turn : (x r : SpoolView D) (n : ℕ) (held : List Span) → r ≡ record x { spare = n } → MayTurn (facts_of log faults home) (KeepsOf log faults home) x r held held false
@@ -272,4 +272,4 @@ module _ {D : Type 0} (log : D → Option Log) (faults home : D → ℕ) where
     pub room_is_turn : (x r : SpoolView D) (n : ℕ) (y : SpoolView D) (p q : PassState (SpoolView D) Event Span) → r ≡ record x { spare = n } → IsTurn (facts_of log faults home) x y p q → IsTurn (facts_of log faults home) r y p q
     room_is_turn x r n y p q is t =
         subst (λ (s : SpoolView D). IsTurn (facts_of log faults home) s y p q) (sym is)
-        (record { before = t.before; after = t.after; own = t.own; failed = t.failed; stops = t.stops; halts = t.halts; held = t.held; asks = t.asks; asked = t.asked; rest = t.rest })
+        (record { before = t.before; history = t.history; after = t.after; own = t.own; failed = t.failed; stops = t.stops; halts = t.halts; held = t.held; asks = t.asks; asked = t.asked; rest = t.rest })

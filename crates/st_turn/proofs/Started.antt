@@ -1,10 +1,10 @@
 -- The passes of a shared spool as their numbers are given out.
-use Rattle.std.proofs.Common.{◌≡◌, ℕ, zero, suc, ◌+◌, ◌<◌, ◌≤◌, List, [], ◌∷◌, ◌++◌, length, set, replicate, Some, refl, sym, ◌∙◌, ap, subst, arith, length-append}
+use Rattle.std.proofs.Common.{◌≡◌, ℕ, zero, suc, ◌+◌, List, [], ◌∷◌, ◌++◌, length, set, replicate, refl, ◌∙◌, ap, arith}
 use Rattle.atomic_table.specs.Seated.{TableId}
 use Rattle.st_disk.specs.Events.{Event}
 use Rattle.st_spool.specs.declared.state.Span.{Span}
-use Rattle.st_turn.specs.Parts.{Facts, PassState, Each, blank}
-use Rattle.st_turn.specs.Steps.{starts, gave_out, next_pass}
+use Rattle.st_turn.specs.Parts.{Facts, Each, blank}
+use Rattle.st_turn.specs.Steps.{starts}
 use Rattle.st_turn.specs.Passes.{PassView, AreOthers, AreStarted, HasNoLoans}
 use Rattle.st_turn.proofs.Totals.{each_append}
 

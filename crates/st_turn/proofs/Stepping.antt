@@ -1,11 +1,11 @@
 -- Each kind of step of a caller is allowed, in the form that the table's calls ask for.
-use Rattle.std.proofs.Common.{◌≡◌, ◌≢◌, ℕ, ◌+◌, ◌<◌, ◌≤◌, ◌^◌, List, [], ◌∷◌, ◌++◌, length, set, eqb, replicate, Option, Some, None, refl, sym, ◌∙◌, ap, subst, arith}
+use Rattle.std.proofs.Common.{◌≡◌, ℕ, ◌<◌, ◌≤◌, ◌^◌, List, [], ◌∷◌, length, eqb, replicate, Option, Some, sym, subst}
 use mathlib.Core.Option.{some, none}
 use prog.Atomic.{either}
 use lib.ListN.{get_elem?}
 use Rattle.atomic_table.specs.Table.{step, Allows, Splits, Joins, Final, Seen, opening}
-use Rattle.st_turn.specs.Turn.{Caller, Seated, idle, turning, pass_of, with_pass, Turning, Takes, Gives, Looks}
-use Rattle.st_turn.specs.Parts.{Facts, Booked, PassState, IsPass, is_number, blank, HasNumber, Parts}
+use Rattle.st_turn.specs.Turn.{Caller, Seated, idle, turning, with_pass, Turning, Takes, Gives, Looks}
+use Rattle.st_turn.specs.Parts.{Facts, Booked, PassState, is_number, blank, HasNumber, Parts}
 use Rattle.st_turn.specs.Steps.{visitor, starts, gave_out, next_pass, joined, Moves}
 use Rattle.st_turn.specs.Telling.{Learns, Saw}
 use Rattle.st_turn.specs.Ends.{gathered, AreNumbered, Ended}

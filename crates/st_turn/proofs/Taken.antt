@@ -1,17 +1,14 @@
 -- What a call of the spool makes of its pass is a turn that keeps the rule.
-use Rattle.std.proofs.Common.{◌≡◌, ◌⊎◌, inl, inr, ⊎_elim, ℕ, zero, suc, ◌+◌, ◌<◌, ◌≤◌, List, [], ◌∷◌, ◌++◌, length, set, get_or, Option, Some, Bool, true, false, cond, nat_le, nat_lt, refl, sym, ◌∙◌, ap, ap₂, subst, arith, append-nil, length-append}
+use Rattle.std.proofs.Common.{◌≡◌, ◌⊎◌, inl, inr, ⊎_elim, ℕ, zero, suc, ◌+◌, ◌<◌, ◌≤◌, List, [], ◌∷◌, ◌++◌, length, set, get_or, Some, Bool, true, false, cond, refl, sym, ◌∙◌, ap, ap₂, arith, append-nil, length-append}
 use Rattle.std.specs.List.{remove, slice_index_or}
 use Rattle.st_base.specs.Faults.{next_count}
+use Rattle.st_spool.proofs.Keeping.{by_test}
 use Rattle.st_turn.specs.declared.book.Line.{Line}
 use Rattle.st_turn.specs.Parts.{Facts, Booked, PassState, total, line_of}
 use Rattle.st_turn.specs.Steps.{failed_after, has_risen, Moves}
 use Rattle.st_turn.specs.Telling.{Learns}
-use Rattle.st_turn.specs.Calls.{has_more, own_after, Without, HeldAfter, IsTurn, MayTurn, line_after}
+use Rattle.st_turn.specs.Calls.{has_more, own_after, HeldAfter, IsTurn, MayTurn, line_after}
 use Rattle.st_turn.proofs.Totals.{total_append}
-
-by_test : (b : Bool) (P : Bool → Type 0) → (b ≡ true → P true) → (b ≡ false → P false) → P b
-by_test true P t f = t refl
-by_test false P t f = f refl
 
 pub line_read : (ls : List Line) (n : ℕ) (d : Line) → n < length ls → get_or ls n d ≡ line_of ls n
 line_read [] n d lt = absurd (omega arith)
@@ -113,6 +110,7 @@ module _ {S E H : Type 0} (facts : S → Facts E H) (Keeps : S → S → Type 0)
         },
         record {
           before = l.own.card.seen;
+          history = m.history;
           after = refl;
           own = refl;
           failed = refl;

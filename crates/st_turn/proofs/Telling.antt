@@ -1,10 +1,10 @@
 -- What the rule tells the caller that takes the turn, and one that looks.
-use Rattle.std.proofs.Common.{◌≡◌, ℕ, ◌<◌, ◌≤◌, List, [], ◌∷◌, length, Option, Some, refl, arith}
+use Rattle.std.proofs.Common.{◌≡◌, ℕ, ◌<◌, List, arith}
 use mathlib.Core.Option.{some}
 use mathlib.Core.Logic.{dite}
 use native.Mathlib.Decide.{dec_lt}
 use lib.ListN.{get_elem?}
-use Rattle.st_turn.specs.Parts.{Facts, Booked, Card, PassState, total, IsPrefix, Each, numbered, HasNumber, IsCard, Parts}
+use Rattle.st_turn.specs.Parts.{Facts, Booked, PassState, total, IsPrefix, numbered, HasNumber, IsCard, Parts}
 use Rattle.st_turn.specs.Telling.{Learns, Saw}
 use Rattle.st_turn.proofs.Totals.{total_at, each_on, number_self}
 

@@ -1,8 +1,8 @@
 -- Sums over lists, lists with a member changed, and beginnings of lists.
-use Rattle.std.proofs.Common.{◌≡◌, ◌≢◌, ◌⊎◌, inl, inr, ⊎_elim, ℕ, zero, suc, ◌+◌, ◌<◌, ◌≤◌, List, [], ◌∷◌, ◌++◌, length, set, Option, Some, None, Bool, true, false, cond, refl, sym, ◌∙◌, ap, subst, arith, append_assoc, append-nil, length-append, nat_eq, eqb, eq-eqb, eqb-true, ne_eqb}
+use Rattle.std.proofs.Common.{◌≡◌, ◌≢◌, ℕ, zero, suc, ◌+◌, ◌<◌, ◌≤◌, List, [], ◌∷◌, ◌++◌, length, set, Option, Some, Bool, cond, refl, sym, ◌∙◌, ap, subst, arith, append_assoc, append-nil, length-append, eq-eqb, ne_eqb}
 use mathlib.Core.Option.{some, some-injective, some-ne-none}
 use lib.ListN.{get_elem?}
-use Rattle.st_turn.specs.Parts.{total, IsPrefix, Each, Rises, is_same, is_number, line_of, blank}
+use Rattle.st_turn.specs.Parts.{total, IsPrefix, Each, Rises, is_same, is_number, line_of}
 use Rattle.st_turn.specs.declared.book.Line.{Line}
 
 module _ {A : Type 0} where

@@ -1,5 +1,5 @@
 -- What every turn makes of a pass, from the spool as it was taken and as it was put back.
-use Rattle.std.specs.Prelude.{◌≡◌, ◌<◌, ◌≤◌, ◌+◌, ◌⊎◌, ℕ, List, [], ◌∷◌, ◌++◌, length, Bool, true, false, cond, nat_lt}
+use Rattle.std.specs.Prelude.{◌≡◌, ◌<◌, ◌≤◌, ◌⊎◌, ℕ, List, [], ◌∷◌, ◌++◌, length, Bool, true, cond, nat_lt}
 use Rattle.std.specs.List.{remove, slice_index_or}
 use Rattle.st_base.specs.Faults.{next_count}
 use Rattle.st_turn.specs.declared.book.Line.{Line}
@@ -13,6 +13,10 @@ has_more xs ys = nat_lt (length xs) (length ys)
 -- the places of a pass's own events, with that of an event which it added
 abbrev pub own_after : {E : Type 0} → List E → List E → List ℕ → List ℕ
 own_after before now own = cond (has_more before now) (own ++ length before ∷ []) own
+
+-- a history stays, or has one event more
+abbrev pub HistoryAfter : {E : Type 0} → List E → List E → Type 0
+HistoryAfter {E} before now = (now ≡ before) ⊎ ((e : E) × (now ≡ before ++ e ∷ []))
 
 -- the second list is the first without one member, which is this one
 abbrev pub Without : {H : Type 0} → H → List H → List H → Type 0
@@ -28,11 +32,13 @@ HeldAfter {H} before now held next =
 
 module _ {S E H : Type 0} where
   -- A turn by a pass, from the spool as it was taken: what the pass saw before begins the history
-  -- at home, and what it sees is the history that the call left. An event that the call added is
-  -- its own. Its counts rose where the shelf's count rose and where the call failed, and its holds
-  -- changed by this call's hold. An Ok hold took the history at home.
+  -- at home, which the call left or added one event to, and what the pass sees is the history that
+  -- the call left. An event that the call added is the pass's own. Its counts rose where the
+  -- shelf's count rose and where the call failed, and its holds changed by this call's hold. An Ok
+  -- hold took the history at home.
   pub record IsTurn (facts : S → Facts E H) (v w : S) (p q : PassState S E H) : Type 0 where
     pub before : IsPrefix p.card.seen (facts v).history
+    pub history : HistoryAfter (facts v).history (facts w).history
     pub after : q.card.seen ≡ (facts w).history
     pub own : q.card.own ≡ own_after (facts v).history (facts w).history p.card.own
     -- the counts
@@ -53,8 +59,7 @@ module _ {S E H : Type 0} where
   -- of the pass's.
   pub record MayTurn (facts : S → Facts E H) (Keeps : S → S → Type 0) (v w : S)
       (held next : List H) (stopped : Bool) : Type 0 where
-    pub history : ((facts w).history ≡ (facts v).history)
-        ⊎ ((e : E) × ((facts w).history ≡ (facts v).history ++ e ∷ []))
+    pub history : HistoryAfter (facts v).history (facts w).history
     pub holds : HeldAfter (facts v).holds (facts w).holds held next
     pub later : (facts v).faults ≤ (facts w).faults
     pub halts : (facts w).halts ≡ cond stopped (next_count (facts v).halts) (facts v).halts

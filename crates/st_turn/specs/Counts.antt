@@ -14,8 +14,7 @@ use Rattle.st_turn.specs.Spools.{top_stamp}
 use Rattle.st_turn.specs.SpoolCalls.{age_stopped}
 
 module _ {T S : Type 0} where
-  -- a publication failed; it was refused since an earlier call had failed, or since no stamp is
-  -- left
+  -- whether a publication failed, which `DiskFault` says alone
   abbrev pub has_failed : Result ℕ (SharedPublishErr T S) → Bool
   has_failed (Ok s) = false
   has_failed (Err shared.DiskFault) = true
@@ -23,6 +22,7 @@ module _ {T S : Type 0} where
   has_failed (Err (shared.StampsSpent last pair)) = false
   has_failed (Err (shared.NoMemory pair)) = false
 
+  -- whether it was refused since an earlier call had failed
   abbrev pub is_halted : Result ℕ (SharedPublishErr T S) → Bool
   is_halted (Ok s) = false
   is_halted (Err shared.DiskFault) = false
@@ -30,6 +30,7 @@ module _ {T S : Type 0} where
   is_halted (Err (shared.StampsSpent last pair)) = false
   is_halted (Err (shared.NoMemory pair)) = false
 
+  -- whether it was refused since no stamp is left
   abbrev pub is_spent : Result ℕ (SharedPublishErr T S) → Bool
   is_spent (Ok s) = false
   is_spent (Err shared.DiskFault) = false
@@ -45,7 +46,7 @@ module _ {T S : Type 0} where
   had_memory (Err (shared.StampsSpent last pair)) = true
   had_memory (Err (shared.NoMemory pair)) = false
 
--- an ageing was refused
+-- whether an ageing was refused since an earlier call had failed
 abbrev pub age_halted : Result Bool AgeErr → Bool
 age_halted (Ok b) = false
 age_halted (Err age.DiskFault) = false
@@ -60,7 +61,7 @@ StopsBy p q failed = q.stops ≡ cond failed (next_count p.stops) p.stops
 abbrev pub HaltedBy : Card Event → Bool → Bool → Type 0
 HaltedBy q failed halted = (halted ≡ true) ↔ ((0 < q.halts) × (failed ≡ false))
 
--- an ageing
+-- how an ageing is refused, by the cards of its pass before and after
 pub record AgeRefuses (p q : Card Event) (result : Result Bool AgeErr) : Type 0 where
   pub stops : StopsBy p q (age_stopped result)
   pub halted : HaltedBy q (age_stopped result) (age_halted result)

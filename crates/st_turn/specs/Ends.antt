@@ -1,6 +1,6 @@
 -- The end: all passes are joined into the first, and the spool comes back.
-use Rattle.std.specs.Prelude.{◌≡◌, ◌<◌, ◌≤◌, ◌+◌, ◌-◌, ◌^◌, ℕ, zero, suc, List, [], ◌∷◌, length, min, Option, None, Some}
-use Rattle.st_turn.specs.Parts.{Facts, Card, PassState, total, IsPrefix, Each, is_same}
+use Rattle.std.specs.Prelude.{◌≡◌, ◌≤◌, ◌+◌, ◌-◌, ◌^◌, ℕ, List, [], ◌∷◌, min, Some}
+use Rattle.st_turn.specs.Parts.{Facts, PassState, total, IsPrefix, Each, is_same}
 use Rattle.st_turn.specs.Steps.{visitor, joined}
 
 module _ {S E H : Type 0} where

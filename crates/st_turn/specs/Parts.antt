@@ -1,7 +1,7 @@
 -- The rule of a spool that passes share: what holds, between any two steps, of the spool, of its
 -- book and of what each pass knows. The spool is meant as it is at home or, while one pass has the
 -- turn, as that pass took it.
-use Rattle.std.specs.Prelude.{◌≡◌, ◌<◌, ◌≤◌, ◌+◌, ◌-◌, ◌^◌, ◌⊎◌, ℕ, zero, suc, List, [], ◌∷◌, ◌++◌, length, min, Option, None, Some, cond, nat_eq}
+use Rattle.std.specs.Prelude.{◌≡◌, ◌<◌, ◌≤◌, ◌+◌, ◌-◌, ◌^◌, ℕ, zero, suc, List, [], ◌∷◌, ◌++◌, length, min, Option, None, Some, cond, nat_eq}
 use mathlib.Core.Option.{some}
 use lib.ListN.{get_elem?}
 use Rattle.st_turn.specs.declared.book.Line.{Line}

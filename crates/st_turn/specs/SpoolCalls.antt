@@ -1,5 +1,5 @@
 -- The calls of a spool, as its own contracts say them, of the spool before and after.
-use Rattle.std.specs.Prelude.{◌≡◌, ◌≤◌, ◌<◌, ◌+◌, ◌⊎◌, ◌↔◌, ℕ, List, [], ◌∷◌, Option, Some, None, Result, Ok, Err, IfOk, IsErrOf, MatchResult, true, false, Bool}
+use Rattle.std.specs.Prelude.{◌≡◌, ◌≤◌, ◌+◌, ◌⊎◌, ◌↔◌, ℕ, List, [], ◌∷◌, Option, None, Result, Ok, Err, IfOk, IsErrOf, MatchResult, true, false, Bool}
 use Rattle.st_base.specs.Faults.{HasCause, HasCauseOf, Rose}
 use Rattle.st_disk.specs.declared.naming.Kind.{Kind}
 use Rattle.st_disk.specs.Disks.{Log}
@@ -138,7 +138,7 @@ module _ {D : Type 0} (W : List ℕ → List ℕ → Type 0) (log : D → Option
     pub rest : (home w.shelf ≡ home v.shelf) × (loans w.shelf ≡ loans v.shelf)
         × (w.state.holds ≡ v.state.holds)
 
-  -- a shared publication: the spool's, or want of room for it
+  -- a shared publication: the spool's, or memory ran out before it, and nothing changed
   abbrev pub SharedPublishes : {T S : Type 0} → (S → Option (List ℕ)) → SealedPair T S → ℕ
       → Result ℕ (SharedPublishErr T S) → Type 0
   SharedPublishes {T} {S} bytes pair floor result =

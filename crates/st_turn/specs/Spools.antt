@@ -22,6 +22,10 @@ top_stamp n (Found es ∷ h) = top_stamp n h
 top_stamp n (Publish e ∷ h) = top_stamp (max n e.stamp) h
 top_stamp n (Remove s ∷ h) = top_stamp n h
 
+-- a log that was known is known after some calls
+abbrev pub StaysKnown : Option Log → Option Log → Type 0
+StaysKnown old new = (log : Log) → old ≡ Some log → (now : Log) × (new ≡ Some now)
+
 -- What two states of a spool and their logs say of what lies between them: the same events came
 -- before the opening, and more events after the history of the earlier one. At every moment between
 -- them a crash leaves the pairs of the history so far; on the way to the next event, or since a
@@ -48,15 +52,16 @@ module _ {D : Type 0} (log : D → Option Log) (faults home : D → ℕ) where
     halts = s.state.halts;
   }
 
-  -- The later spool has the same shelf and limit; its shelf's count never falls, its history begins
-  -- with that of the earlier one, and the calls of its shelf's log with those of the earlier log.
-  -- So up to then the images of both are the same.
+  -- The later spool has the same shelf and limit; its shelf's count never falls, and its history
+  -- begins with that of the earlier one. The log of its shelf is known just where the earlier one
+  -- was, whose calls it begins with: so up to then the images of both are the same.
   pub record KeepsOf (b x : SpoolView D) : Type 0 where
     pub shelf : home x.shelf ≡ home b.shelf
     pub limit : x.state.limit ≡ b.state.limit
     pub later : faults b.shelf ≤ faults x.shelf
     pub history : IsPrefix (facts_of b).history (facts_of x).history
     pub known : KnownBefore (log b.shelf) (log x.shelf)
+    pub still_known : StaysKnown (log b.shelf) (log x.shelf)
     -- where the log is known
     pub images : (first now : Log) → log b.shelf ≡ Some first → log x.shelf ≡ Some now
         → KeepsImages b.state x.state first now

@@ -1,6 +1,6 @@
 -- What a step makes of a pass: a turn, a number that is given out, a pass cut in two, and a pass
 -- that takes in another one.
-use Rattle.std.specs.Prelude.{◌≡◌, ◌≤◌, ◌+◌, ◌-◌, ◌^◌, ◌⊎◌, ℕ, List, [], ◌∷◌, ◌++◌, length, set, min, Option, None, Some, Bool, cond, nat_le, nat_lt}
+use Rattle.std.specs.Prelude.{◌≡◌, ◌≤◌, ◌+◌, ◌⊎◌, ℕ, List, [], ◌∷◌, ◌++◌, length, set, None, Some, Bool, cond, nat_le, nat_lt}
 use Rattle.st_base.specs.Faults.{next_count}
 use Rattle.st_turn.specs.Parts.{Facts, Booked, Card, PassState, total}
 

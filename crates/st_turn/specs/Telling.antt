@@ -1,5 +1,5 @@
 -- What a caller learns of the spool and of its pass: as it takes the turn, and as it looks.
-use Rattle.std.specs.Prelude.{◌≡◌, ◌<◌, ◌≤◌, ◌^◌, ℕ, List, length, Option, Some}
+use Rattle.std.specs.Prelude.{◌≡◌, ◌<◌, ◌≤◌, ◌^◌, ℕ, List, length, Some}
 use Rattle.st_turn.specs.Parts.{Facts, Booked, PassState, total, IsPrefix, Each, IsPass}
 
 module _ {S E H : Type 0} where

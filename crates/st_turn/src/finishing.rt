@@ -44,8 +44,9 @@ fn gather<S: Turned>(desk: &Desk<S>, passes: Vec<Pass<S>>) -> Pass<S>
 }
 
 impl<S: Turned> Shared<S> {
-    /// Gives the spool back. `passes` are all passes that `share` gave, in the order of their
-    /// numbers, and none holds anything.
+    /// Gives the spool back, with no hold out and a history that begins with what each pass saw.
+    /// `passes` are all passes that `share` gave, in the order of their numbers, and none holds
+    /// anything.
     pub fn finish(self, passes: Vec<Pass<S>>) -> S
         requires table { AreOf self.table passes.items }
         requires numbers { AreNumbered 0 (map state_of passes.items) }

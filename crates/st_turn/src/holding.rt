@@ -27,11 +27,12 @@ fn stopped(answer: Result<bool, AgeErr>) -> bool
 
 impl<D: Shelf, W: PairRule> Shared<Spool<D, W>> {
     /// Holds the set of all pairs that are published at home, as the spool's `hold` does, in one
-    /// turn. The hold must be spent, by `release`.
+    /// turn. The hold must be spent, by `release`. After `NoMemory` the pass holds what it held.
     pub fn hold<R: Wait>(&self, rt: &R, pass: &mut Pass<Spool<D, W>>) -> Result<Hold, NoMemory>
         requires { IsOf self.now pass.old }
         ensures same { IsSame pass.old pass.new }
-        ensures holds { MatchResult result (λ k. pass.new.state.held ≡ pass.old.state.held ++ k ∷ [])
+        ensures holds { MatchResult result
+            (λ k. pass.new.state.held ≡ pass.old.state.held ++ k ∷ [])
             (λ _. pass.new.state.held ≡ pass.old.state.held) }
         ensures loans { pass.new.loans ≡ pass.old.loans }
         // the turn
@@ -59,7 +60,8 @@ impl<D: Shelf, W: PairRule> Shared<Spool<D, W>> {
     /// Removes the oldest pair if there are more than the limit, as the spool's `age` does, in one
     /// turn, and answers whether it did.
     ///
-    /// `DiskFault` comes only if the pass's `failed` rose, and raises its `stops`.
+    /// `DiskFault` comes only if the pass's `failed` rose, and raises its `stops`. `Halted` comes
+    /// if an earlier publication or ageing of the spool failed.
     pub fn age<R: Wait>(&self, rt: &R, pass: &mut Pass<Spool<D, W>>) -> Result<bool, AgeErr>
         requires { IsOf self.now pass.old }
         ensures same { IsSame pass.old pass.new }

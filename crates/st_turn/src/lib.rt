@@ -8,7 +8,7 @@
 //!
 //! - A turn starts from the spool at home, and its answer is the spool's (the clause `turn` of each
 //!   call of `Shared` but `meet` and `finish`).
-//! - A pass reads and releases only sets that it holds, and counts the files that its own turns lent
+//! - A pass reads and releases only sets that it holds, and counts the files that its turns lent
 //!   and took back (the clauses `holds` and `loans` of these calls).
 //! - Two passes that meet have the longer of the two histories that they saw (`Shared::meet`).
 //! - The spool comes back with no hold out; each pass saw a beginning of its history, no two passes

@@ -12,6 +12,7 @@ use crate::turned::Turned;
 use atomic_table::{Join, Play, Split};
 use std::marker::PhantomData;
 
+// What a pass saw is cut off it, as a pass without a number.
 struct Visit<S> {
     of: PhantomData<S>,
 }
@@ -25,6 +26,7 @@ impl<S: Turned> Split<Knowledge<S>> for Visit<S> {
     ghost right = { λ d. idle (visitor d.pass.card.seen) };
 }
 
+// One pass takes in another one.
 pub(crate) struct Merge<S> {
     of: PhantomData<S>,
 }
@@ -39,6 +41,7 @@ impl<S: Turned> Join<Knowledge<S>> for Merge<S> {
     ghost spent = { idle (visitor []) };
 }
 
+// A look at the table, which changes nothing.
 struct Look<S> {
     of: PhantomData<S>,
 }
@@ -73,7 +76,7 @@ fn look_at<S: Turned>(desk: &Desk<S>, pass: &mut Pass<S>)
 }
 
 impl<S: Turned> Shared<S> {
-    /// Leaves both passes with the longer of the two histories that they saw.
+    /// Leaves both passes with the longer of the two histories that they saw. It takes no turn.
     pub fn meet(&self, a: &mut Pass<S>, b: &mut Pass<S>)
         requires { (a.old.table ≡ self.now.table) × (b.old.table ≡ self.now.table) }
         ensures a { Met a.old b.old a.new }

@@ -68,8 +68,10 @@ impl<D: Shelf, W: PairRule> Shared<Spool<D, W>> {
     /// Publishes a pair of sealed files of the shared spool's shelf, as the spool's `publish` does,
     /// in one turn, which makes room for it first.
     ///
-    /// `DiskFault` comes only if the pass's `failed` rose, and raises its `stops`. `NoMemory` hands
-    /// the pair back before anything was done.
+    /// The answer is the pair's stamp, which is `floor` or greater. `DiskFault` comes only if the
+    /// pass's `failed` rose, and raises its `stops`. Every other error hands the pair back:
+    /// `Halted` comes if an earlier publication or ageing of the spool failed, `StampsSpent` if no
+    /// stamp is left, `NoMemory` before anything was done.
     pub fn publish<R: Wait>(
         &self,
         rt: &R,

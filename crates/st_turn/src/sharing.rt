@@ -44,6 +44,7 @@ pub struct NotShared<S> {
     pub spool: S,
 }
 
+// A pass with the next number is cut off the pass with number 0.
 struct Number<S> {
     of: PhantomData<S>,
 }
@@ -144,8 +145,9 @@ fn lay<S: Turned>(alloc: Global, home: Home<S>) -> Result<(Laid<S>, Place<S>), H
     }
 }
 
-/// Shares a spool among 1 to 64 passes, which come in the order of their numbers. No hold may be
-/// out. The spool comes back if memory runs out.
+/// Shares a spool among 1 to 64 passes, which come in the order of their numbers, from 0 on. Each
+/// saw the spool's history, holds nothing and counts no file. No hold may be out. The spool comes
+/// back, as it was, if memory runs out.
 pub fn share<S: Turned>(
     alloc: Global,
     spool: S,

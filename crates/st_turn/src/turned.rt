@@ -4,7 +4,7 @@ ghost use Rattle.st_shelf.specs.Loans.{LoansView, no_loans};
 ghost use Rattle.st_spool.specs.declared.state.Span.{Span};
 ghost use Rattle.st_turn.specs.Parts.{Facts};
 
-/// What passes share by turns, as the rule reads it: a spool.
+/// What passes share by turns, as the rule of turns reads it. `Spool` is its one implementation.
 pub trait Turned {
     /// A file that it lends.
     type File;

@@ -1,4 +1,4 @@
-use Rattle.std.proofs.Common.{rules, ◌≡◌, set, cond, ap, ap₂, sym, ◌∙◌, ℕ}
+use Rattle.std.proofs.Common.{◌≡◌, set, ap, ap₂, ◌∙◌, ℕ}
 use Rattle.st_turn.specs.declared.book.Line.{Line}
 use Rattle.st_turn.specs.Parts.{line_of}
 use Rattle.st_turn.specs.Calls.{line_after}

@@ -1,4 +1,4 @@
-use Rattle.std.proofs.Common.{rules, ◌≡◌, ◌∷◌, [], Some, set, Bool, List, ◌∙◌, ap, ap₂, sym, subst}
+use Rattle.std.proofs.Common.{◌≡◌, set, Bool, List, ◌∙◌, ap₂}
 use Rattle.st_turn.specs.declared.book.Line.{Line}
 use Rattle.st_turn.specs.Parts.{line_of}
 use Rattle.st_turn.specs.Steps.{has_risen}

@@ -1,6 +1,4 @@
-use Rattle.std.proofs.Common.{◌≡◌, []}
-use Rattle.st_turn.specs.Turn.{idle}
-use Rattle.st_turn.specs.Parts.{HasNumber}
+use Rattle.std.proofs.Common.{◌≡◌}
 use Rattle.st_turn.proofs.desk.take.Given as goal
 
 abbrev pub invariant-loop : goal.invariant-loop

@@ -1,4 +1,4 @@
-use Rattle.std.proofs.Common.{rules, ◌≡◌, [], refl, ◌∙◌, ap, sym, subst}
+use Rattle.std.proofs.Common.{rules, ◌≡◌, ◌∙◌, ap, sym}
 use Rattle.st_disk.specs.Events.{Event}
 use Rattle.st_spool.specs.declared.state.Span.{Span}
 use Rattle.st_turn.specs.Turn.{Caller, Seated, idle}

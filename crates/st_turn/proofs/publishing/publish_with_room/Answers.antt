@@ -1,4 +1,4 @@
-use Rattle.std.proofs.Common.{rules, inl, subst}
+use Rattle.std.proofs.Common.{inl, subst}
 use Rattle.st_spool.specs.States.{SpoolView}
 use Rattle.st_turn.specs.SpoolCalls.{PublishesBy}
 use Rattle.st_turn.proofs.publishing.publish_with_room.Goals as goal

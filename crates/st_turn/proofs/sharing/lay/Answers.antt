@@ -1,4 +1,4 @@
-use Rattle.std.proofs.Common.{rules, ◌≡◌, ◌∷◌, [], ◌++◌, ◌<◌, ◌≤◌, ◌^◌, Some, Option, List, length, replicate, ap, sym, ◌∙◌, subst, refl}
+use Rattle.std.proofs.Common.{◌≡◌, ◌∷◌, [], ◌++◌, ◌<◌, ◌≤◌, ◌^◌, Some, Option, List, length, replicate, ap, sym, ◌∙◌, subst, refl}
 use Rattle.st_turn.specs.Turn.{Turning, idle}
 use Rattle.st_turn.specs.Parts.{Booked, Parts, HasNumber, blank}
 use Rattle.st_turn.specs.Steps.{starts}

@@ -1,7 +1,7 @@
-use Rattle.std.proofs.Common.{rules, ◌≡◌, ◌<◌, Some, length, ◌∙◌, ap, sym, subst}
+use Rattle.std.proofs.Common.{rules, ◌≡◌, ◌<◌, Some, length, ◌∙◌, ap}
 use Rattle.st_disk.specs.Events.{Event}
 use Rattle.st_spool.specs.declared.state.Span.{Span}
-use Rattle.st_turn.specs.Turn.{idle, Seated}
+use Rattle.st_turn.specs.Turn.{Seated}
 use Rattle.st_turn.specs.Parts.{Booked, PassState}
 use Rattle.st_turn.specs.Passes.{PassView}
 use Rattle.st_turn.proofs.Stepping.{may_number}

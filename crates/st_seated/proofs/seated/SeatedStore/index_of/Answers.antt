@@ -17,7 +17,7 @@ index_of-requires-clause-held g c = is_out c.args.hold.now c.self.inside.pass.st
 pub invariant_of-self : goal.invariant_of-self
 invariant_of-self g c =
     let t = c.index_of.ensures.turn in
-    record { of = still_of c.self.inside.shared.now c.self.inside.pass c.index_of.new.pass c.self.invariant.of c.index_of.ensures.same; sees = lends_sees g.W.PairRule.is_whole g.D.Shelf.log g.D.Shelf.faults g.D.Shelf.id g.D.Shelf.loans c.self.inside.shared.now c.self.inside.pass c.index_of.new.pass t.0 t.1 t.2 t.3 g.met.D.Steady.steady c.index_of.ensures.same c.self.invariant.sees t.4.stays c.index_of.ensures.holds }
+    record { of = still_of c.self.inside.shared.now c.self.inside.pass c.index_of.new.pass c.self.invariant.of c.index_of.ensures.same; sees = lends_sees g.W.PairRule.is_whole g.D.Shelf.log g.D.Shelf.faults g.D.Shelf.id g.D.Shelf.loans c.self.inside.shared.now c.self.inside.pass c.index_of.new.pass t.0 t.1 t.2 t.3 c.index_of.ensures.same c.self.invariant.sees t.4.stays c.index_of.ensures.holds }
 
 pub returns-clause-content : goal.returns-clause-content
 returns-clause-content g c =
@@ -26,7 +26,7 @@ returns-clause-content g c =
           let t = w.in-Ok.ensures.turn in
           subst (λ (r : Result g.row.D-File.Denot Failed). IfOk r (λ f. OfEntry (pass_set (g.D.Shelf.log c.args.self.now.shared.base.shelf) c.args.self.now.pass.state c.args.hold.now) c.args.i (λ (e : Entry). g.D.File.Reader.content f ≡ Some e.index)))
           (sym w.result-is)
-          (lent_entry g.W.PairRule.is_whole g.D.Shelf.log g.D.Shelf.faults g.D.Shelf.id g.D.Shelf.loans c.self.inside.shared.now c.self.inside.pass c.index_of.new.pass t.0 t.1 t.2 t.3 g.met.D.Steady.steady c.index_of.ensures.same c.self.invariant.sees c.args.self.now c.self.view_is t.4.stays c.args.hold.now c.requires.held c.args.i (λ (e : Entry). g.D.File.Reader.content w.in-Ok.index ≡ Some e.index)
+          (lent_entry g.W.PairRule.is_whole g.D.Shelf.log g.D.Shelf.faults g.D.Shelf.id g.D.Shelf.loans c.self.inside.shared.now c.self.inside.pass c.index_of.new.pass t.0 t.1 t.2 t.3 c.index_of.ensures.same c.self.invariant.sees c.args.self.now c.self.view_is t.4.stays c.args.hold.now c.requires.held c.args.i (λ (e : Entry). g.D.File.Reader.content w.in-Ok.index ≡ Some e.index)
           (λ log earlier h f e after known stands at. t.4.content_is log earlier h f e after known stands at))
       | in-Err w ↦
           subst (λ (r : Result g.row.D-File.Denot Failed). IfOk r (λ f. OfEntry (pass_set (g.D.Shelf.log c.args.self.now.shared.base.shelf) c.args.self.now.pass.state c.args.hold.now) c.args.i (λ (e : Entry). g.D.File.Reader.content f ≡ Some e.index)))
@@ -36,4 +36,4 @@ returns-clause-content g c =
 pub returns-clause-stays : goal.returns-clause-stays
 returns-clause-stays g c =
     let t = c.index_of.ensures.turn in
-    stays_by_lending g.W.PairRule.is_whole g.D.Shelf.log g.D.Shelf.faults g.D.Shelf.id g.D.Shelf.loans c.self.inside.shared.now c.self.inside.pass c.index_of.new.pass t.0 t.1 t.2 t.3 g.met.D.Steady.steady c.index_of.ensures.same c.self.invariant.sees c.args.self.now c.self.view_is t.4.stays c.index_of.ensures.holds
+    stays_by_lending g.W.PairRule.is_whole g.D.Shelf.log g.D.Shelf.faults g.D.Shelf.id g.D.Shelf.loans c.self.inside.shared.now c.self.inside.pass c.index_of.new.pass t.0 t.1 t.2 t.3 c.index_of.ensures.same c.self.invariant.sees c.args.self.now c.self.view_is t.4.stays c.index_of.ensures.holds

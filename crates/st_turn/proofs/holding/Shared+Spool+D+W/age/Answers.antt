@@ -1,10 +1,10 @@
-use Rattle.std.proofs.Common.{rules, ◌∙◌, ap, sym, subst, Bool, false}
+use Rattle.std.proofs.Common.{◌∙◌, ap, sym, subst, Bool}
 use Rattle.st_spool.specs.States.{SpoolView}
 use Rattle.st_turn.specs.Passes.{PassView}
 use Rattle.st_turn.specs.Spools.{facts_of, KeepsOf}
 use Rattle.st_turn.specs.Calls.{MayTurn}
-use Rattle.st_turn.specs.SpoolCalls.{Holds, AgesBy}
-use Rattle.st_turn.proofs.Spooled.{hold_turn, age_turn}
+use Rattle.st_turn.specs.SpoolCalls.{AgesBy}
+use Rattle.st_turn.proofs.Spooled.{age_turn}
 use Rattle.st_turn.proofs.Counted.{age_refuses}
 use Rattle.st_turn.proofs.Released.{kept_home, held_stays}
 use Rattle.st_turn.proofs.Ready.{ready, done}

@@ -1,10 +1,8 @@
-use Rattle.std.proofs.Common.{rules, ◌∙◌, ap, sym, subst, Bool, false}
+use Rattle.std.proofs.Common.{◌∙◌, ap, false}
 use Rattle.st_spool.specs.States.{SpoolView}
 use Rattle.st_turn.specs.Passes.{PassView}
 use Rattle.st_turn.specs.Spools.{facts_of, KeepsOf}
-use Rattle.st_turn.specs.Calls.{MayTurn}
-use Rattle.st_turn.specs.SpoolCalls.{Holds, AgesBy}
-use Rattle.st_turn.proofs.Spooled.{hold_turn, age_turn}
+use Rattle.st_turn.proofs.Spooled.{hold_turn}
 use Rattle.st_turn.proofs.Released.{kept_home, hold_held}
 use Rattle.st_turn.proofs.Ready.{ready, done}
 use Rattle.st_turn.proofs.holding.Shared+Spool+D+W.hold.Goals as goal

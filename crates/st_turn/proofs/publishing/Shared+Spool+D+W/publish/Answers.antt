@@ -1,13 +1,12 @@
-use Rattle.std.proofs.Common.{rules, ◌≡◌, ◌∙◌, Some, refl, ap, sym, subst, Bool, false}
+use Rattle.std.proofs.Common.{◌∙◌, refl, ap, sym, subst, Bool}
 use Rattle.st_spool.specs.States.{SpoolView}
 use Rattle.st_turn.specs.Passes.{PassView}
-use Rattle.st_turn.specs.Parts.{Booked}
 use Rattle.st_turn.specs.Spools.{facts_of, KeepsOf}
 use Rattle.st_turn.specs.Calls.{MayTurn}
 use Rattle.st_turn.proofs.Spooled.{spare_turn, room_stands, room_is_turn}
 use Rattle.st_turn.proofs.Counted.{shared_turn, shared_refuses, room_keeps}
-use Rattle.st_turn.proofs.Released.{held_stays, publish_holds}
-use Rattle.st_turn.proofs.Ready.{ready, done, kept_at}
+use Rattle.st_turn.proofs.Released.{kept_home, held_stays, publish_holds}
+use Rattle.st_turn.proofs.Ready.{ready, done}
 use Rattle.st_turn.proofs.publishing.Shared+Spool+D+W.publish.Goals as goal
 
 pub end-requires-clause-turn : goal.end-requires-clause-turn
@@ -64,8 +63,7 @@ returns-clause-turn g c =
     (done (facts_of d.log d.faults d.id) (KeepsOf d.log d.faults d.id) c.take.new.place.me p c.end.new.place.me.0.pass c.args.pass.now.state c.take.result v c.spool.inside.lines.items w
     c.take.ensures.turn c.spool.view_is (ap (λ (a : PassView (SpoolView g.row.D.Denot)). a.state) c.pass.view_is) c.end.ensures.turn) in
     let b = c.args.self.now.base in
-    let base : p.base ≡ Some b = ap (λ (a : PassView (SpoolView g.row.D.Denot)). a.state.base) c.pass.view_is ∙ c.requires.of.1 in
-    let kept = kept_at (facts_of d.log d.faults d.id) (KeepsOf d.log d.faults d.id) c.take.result v c.spool.inside.lines.items p b c.take.ensures.learns c.spool.view_is base in (
+    let kept = kept_home (facts_of d.log d.faults d.id) (KeepsOf d.log d.faults d.id) c.take.result v b c.spool.inside.lines.items p c.args.pass.now.state c.spool.view_is c.take.ensures.learns (ap (λ (a : PassView (SpoolView g.row.D.Denot)). a.state) c.pass.view_is) c.requires.of.1 in (
       r,
       w,
       record { stands = stands; keeps = room_keeps g.W.PairRule.is_whole d.log d.faults d.id d.loans b v r by.0 refl kept },

@@ -1,4 +1,4 @@
-use Rattle.std.proofs.Common.{rules, ◌∙◌, ap, sym, false}
+use Rattle.std.proofs.Common.{◌∙◌, ap, sym, false}
 use Rattle.st_spool.specs.States.{SpoolView}
 use Rattle.st_turn.specs.Passes.{PassView}
 use Rattle.st_turn.specs.Spools.{facts_of, KeepsOf}

@@ -1,9 +1,7 @@
-use Rattle.std.proofs.Common.{rules, ◌∙◌, ap, sym, refl, false}
+use Rattle.std.proofs.Common.{◌∙◌, ap, refl, false}
 use Rattle.st_spool.specs.States.{SpoolView}
 use Rattle.st_turn.specs.Passes.{PassView}
 use Rattle.st_turn.specs.Spools.{facts_of, KeepsOf}
-use Rattle.st_turn.specs.SpoolCalls.{IsAtHome}
-use Rattle.st_turn.specs.ReadingCalls.{Counts}
 use Rattle.st_turn.proofs.Spooled.{idle_turn}
 use Rattle.st_turn.proofs.Released.{held_at_home, kept_home, held_stays}
 use Rattle.st_turn.proofs.Ready.{ready, done}

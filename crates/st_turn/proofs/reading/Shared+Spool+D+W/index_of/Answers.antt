@@ -1,9 +1,8 @@
-use Rattle.std.proofs.Common.{rules, ◌∙◌, ap, sym, false}
+use Rattle.std.proofs.Common.{◌∙◌, ap, false}
 use Rattle.st_spool.specs.States.{SpoolView}
 use Rattle.st_turn.specs.Passes.{PassView}
 use Rattle.st_turn.specs.Spools.{facts_of, KeepsOf}
 use Rattle.st_turn.specs.SpoolCalls.{StaysAs}
-use Rattle.st_turn.specs.ReadingCalls.{Lends}
 use Rattle.st_turn.proofs.Spooled.{still_turn}
 use Rattle.st_turn.proofs.Released.{held_at_home, kept_home, held_stays}
 use Rattle.st_turn.proofs.Loaned.{lent_file}

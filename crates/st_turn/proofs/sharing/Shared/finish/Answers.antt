@@ -1,7 +1,5 @@
-use Rattle.std.proofs.Common.{rules, ◌≡◌, ◌∙◌, ap, sym, subst, map, refl}
-use Rattle.st_disk.specs.Events.{Event}
-use Rattle.st_spool.specs.declared.state.Span.{Span}
-use Rattle.st_turn.specs.Parts.{Booked, PassState}
+use Rattle.std.proofs.Common.{◌∙◌, ap, subst, map}
+use Rattle.st_turn.specs.Parts.{Booked}
 use Rattle.st_turn.specs.Passes.{PassView, SharedView, state_of}
 use Rattle.st_turn.specs.Ends.{Ended}
 use Rattle.st_turn.proofs.Shut.{shut, in_slot}

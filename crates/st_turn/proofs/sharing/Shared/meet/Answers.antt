@@ -1,10 +1,7 @@
 use Rattle.std.proofs.Common.{◌≡◌, ap, ap₂, sym, ◌∙◌, subst}
-use Rattle.st_disk.specs.Events.{Event}
-use Rattle.st_spool.specs.declared.state.Span.{Span}
-use Rattle.st_turn.specs.Parts.{PassState}
 use Rattle.st_turn.specs.Steps.{visitor, joined}
 use Rattle.st_turn.specs.Telling.{Saw}
-use Rattle.st_turn.specs.Passes.{PassView, Met}
+use Rattle.st_turn.specs.Passes.{PassView}
 use Rattle.st_turn.proofs.BothSeen.{met_both}
 use Rattle.st_turn.proofs.sharing.Shared.meet.Goals as goal
 

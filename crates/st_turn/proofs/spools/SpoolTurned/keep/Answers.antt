@@ -1,4 +1,3 @@
-use Rattle.std.proofs.Common.{rules}
 use Rattle.st_turn.proofs.Spooled.{keeps_self}
 use Rattle.st_turn.proofs.spools.SpoolTurned.keep.Goals as goal
 
