@@ -1,11 +1,11 @@
-ghost use Rattle.turn_threads.specs.Resting.{Rests, Rested};
+ghost use Rattle.turn_trials.specs.Resting.{Rests, Rested};
 
-use crate::halves::Work;
-use crate::pairs::{SharedSpool, SpoolPass, age, publish, read_all};
+use crate::reading::read_all;
 use crate::speed::{keep_turn, take_turns, wait_turn};
 use st_shelf::Shelf;
 use std::sync::Wait;
 use std::sync::atomic::AtomicBool;
+use turn_trials::{SharedSpool, SpoolPass, Work, age, publish};
 
 /// What one thread does.
 #[derive(Clone, Copy)]
@@ -139,7 +139,8 @@ fn publish_kept<D: Shelf, R: Wait>(
     requires { Rests shared.now pass.old }
     ensures { Rested pass.old pass.new }
 {
-    if publish(rt, shared, pass, byte) {
+    let published = publish(rt, shared, pass, &[byte], &[byte.wrapping_add(1)]);
+    if published.is_some() {
         job.published = job.published.saturating_add(1);
     } else {
         job.failed = job.failed.saturating_add(1);

@@ -22,14 +22,13 @@
 
 ghost use Rattle.std.specs.Prelude.{◌≤◌, length};
 
-mod halves;
 mod jobs;
-mod pairs;
+mod reading;
 mod runs;
 mod speed;
 
 use jobs::{Job, Part};
-use runs::{Left, run};
+use runs::run;
 use st_folder::RealShelf;
 use st_shelf::MemShelf;
 use std::io::{self, Write};
@@ -38,6 +37,7 @@ use std::sync::Wait;
 use std::thread::Threads;
 use std::time::Instant;
 use std::{env, fs};
+use turn_trials::Left;
 
 const FOLDER: &str = "turn_threads_spool";
 

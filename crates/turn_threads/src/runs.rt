@@ -6,16 +6,14 @@ ghost use Rattle.st_turn.specs.Parts.{PassState};
 ghost use Rattle.st_turn.specs.Ends.{Ended};
 ghost use Rattle.st_turn.specs.Spools.{facts_of, KeepsOf};
 
-use crate::halves::all;
 use crate::jobs::{Job, Turns};
-use crate::pairs::AnyPair;
-use st_shelf::{Draft, Name, Shelf};
-use st_spool::{NotEntered, Spool};
+use st_shelf::{Draft, Shelf};
+use st_spool::Spool;
 use st_turn::{NotShared, share};
-use std::alloc::Global;
 use std::sync::Wait;
 use std::sync::atomic::AtomicBool;
 use std::thread::Threads;
+use turn_trials::{AnyPair, Left, all, closed, opened};
 
 /// Runs each job on a thread of its own, all over one spool, which comes back as it was left; Err
 /// where memory ran out before.
@@ -52,40 +50,6 @@ where
     Ok(shared.finish(passes))
 }
 
-/// What a run left.
-#[derive(Clone, Copy)]
-pub struct Left {
-    pub pairs: usize,
-    pub parked: usize,
-}
-
-// How many pairs a spool has.
-fn pair_count<D: Shelf>(spool: &mut Spool<D, AnyPair>) -> usize
-    requires { spool.old.state.holds ≡ [] }
-    ensures { spool.new.state.holds ≡ [] }
-{
-    let Ok(hold) = spool.hold() else {
-        return 0;
-    };
-    let count = spool.count(&hold);
-    spool.release(hold);
-    count
-}
-
-// How many names of parked indexes a shelf has, if it can say.
-fn parked<D: Shelf>(alloc: Global, shelf: &mut D) -> Option<usize> {
-    let Ok(names) = shelf.list(alloc) else {
-        return None;
-    };
-    let mut count: usize = 0;
-    for name in names.items() {
-        if let Name::Parked(_) = name {
-            count = count.saturating_add(1);
-        }
-    }
-    Some(count)
-}
-
 /// Opens a spool of this limit over a shelf, runs the jobs, and says what they left.
 pub fn run<D: Shelf + Send + Drop, R: Threads + Wait + Sync>(
     rt: &R,
@@ -101,18 +65,9 @@ where
     requires { (1 ≤ length jobs.old) × (length jobs.old ≤ 64) × (1 ≤ limit) }
 {
     let alloc = host.alloc();
-    let entered: Result<Spool<D, AnyPair>, NotEntered<D>> = Spool::enter(alloc, shelf, limit);
-    let spool = match entered {
-        Ok(spool) => spool,
-        Err(NotEntered { cause: _, shelf: _ }) => return None,
-    };
+    let spool = opened(alloc, shelf, limit)?;
     match serve(rt, host, spool, jobs) {
-        Ok(mut spool) => {
-            let pairs = pair_count(&mut spool);
-            let mut shelf = spool.close();
-            let parked = parked(alloc, &mut shelf)?;
-            Some(Left { pairs, parked })
-        }
+        Ok(spool) => closed(alloc, spool),
         Err(spool) => {
             let _shelf = spool.close();
             None

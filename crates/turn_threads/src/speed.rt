@@ -3,14 +3,14 @@
 
 ghost use Rattle.std.specs.Prelude.{◌≡◌};
 ghost use Rattle.st_turn.specs.Passes.{IsOf, IsSame};
-ghost use Rattle.turn_threads.specs.Resting.{Rests, Rested};
+ghost use Rattle.turn_trials.specs.Resting.{Rests, Rested};
 
-use crate::pairs::{SharedSpool, SpoolPass, age};
 use st_shelf::Shelf;
 use std::sync::Wait;
 use std::sync::atomic::{AtomicBool, Ordering};
 use std::time::{Duration, Instant};
 use std::{fs, thread};
+use turn_trials::{SharedSpool, SpoolPass, age};
 
 // The processor's time of this thread so far, in microseconds.
 fn busy_micros(rt: &HostRuntime) -> u64 {

@@ -1,4 +1,4 @@
-use Rattle.turn_threads.specs.Resting.{Rested}
+use Rattle.turn_trials.specs.Resting.{Rested}
 use Rattle.turn_threads.proofs.jobs.publish_all.Given as goal
 
 abbrev pub invariant-loop : goal.invariant-loop

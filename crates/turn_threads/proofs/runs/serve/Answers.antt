@@ -4,8 +4,8 @@ use Rattle.st_spool.specs.States.{SpoolView}
 use Rattle.st_turn.specs.Passes.{PassView, AreOf, AreStarted, state_of}
 use Rattle.st_turn.specs.Ends.{AreNumbered}
 use Rattle.st_turn.specs.Spools.{facts_of}
-use Rattle.turn_threads.specs.Resting.{Rests, Rested}
-use Rattle.turn_threads.proofs.Rests.{written, started_may, started_end}
+use Rattle.turn_trials.specs.Resting.{Rests, Rested}
+use Rattle.turn_trials.proofs.Rests.{written, started_may, started_end}
 use Rattle.turn_threads.proofs.runs.serve.Goals as goal
 
 pub all-requires-after_bounds : goal.all-requires-after_bounds

@@ -1,4 +1,4 @@
-use Rattle.turn_threads.specs.Resting.{Rested}
+use Rattle.turn_trials.specs.Resting.{Rested}
 use Rattle.turn_threads.proofs.speed.take_turns.Given as goal
 
 abbrev pub invariant-loop : goal.invariant-loop

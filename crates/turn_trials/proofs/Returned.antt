@@ -1,5 +1,5 @@
 -- The pair that a refusal hands back is the one that was given.
-use Rattle.std.proofs.Common.{◌≡◌, ℕ, List, Option, Result, Ok, Err, ⊎_elim, refl, sym, ◌∙◌}
+use Rattle.std.proofs.Common.{◌≡◌, ℕ, List, Option, Result, Ok, Err, ⊎_elim, sym, ◌∙◌}
 use Rattle.std.specs.Prelude.{MatchResult}
 use Rattle.st_disk.specs.Disks.{Log}
 use Rattle.st_shelf.specs.Loans.{LoansView}
@@ -11,7 +11,7 @@ use Rattle.st_spool.specs.Refusing.{RefusesPair}
 use Rattle.st_spool.specs.States.{SpoolView}
 use Rattle.st_turn.specs.declared.refusals.SharedPublishErr.{SharedPublishErr}
 use Rattle.st_turn.specs.declared.refusals.SharedPublishErr.TheVariants as shared
-use Rattle.st_turn.specs.SpoolCalls.{told, PublishesBy, SharedPublishes}
+use Rattle.st_turn.specs.SpoolCalls.{told, SharedPublishes}
 
 module _ {D T S : Type 0} (v w : SpoolView D) (pair : SealedPair T S) where
   by_answer : (since : ℕ) (back : SealedPair T S) (answer : Result ℕ (PublishErr T S)) → Err (shared.Halted since back) ≡ told answer → MatchResult answer (λ s. MayPublish v.state) (λ e. RefusesPair v w pair e) → back ≡ pair

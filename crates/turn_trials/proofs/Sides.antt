@@ -1,8 +1,8 @@
 -- Two halves of a list of passes, done each by itself.
-use Rattle.std.proofs.Common.{rules, ◌≡◌, ◌<◌, ◌≤◌, ℕ, length, ◌+◌, ◌-◌, List, [], ◌∷◌, ◌++◌, sym, refl, ◌∙◌, ◌⊎◌, ⊎_elim, arith, length-append}
+use Rattle.std.proofs.Common.{◌≡◌, ◌<◌, ◌≤◌, ℕ, length, ◌-◌, List, ◌++◌, refl, ◌⊎◌, ⊎_elim, arith, length-append}
 use Rattle.std.specs.List.{slice_index_or}
 use Rattle.std.proofs.lemmas.List.{get_or_append_left, get_or-append_right}
-use Rattle.turn_threads.specs.Halves.{Done}
+use Rattle.turn_trials.specs.Halves.{Done}
 
 module _ {P Q : Type 0} (did : Q → Q → Type 0) (xs ys xs' ys' : List P) (cs ds cs' ds' : List Q) (len : length xs ≡ length cs) (one : Done did xs xs' cs cs') (two : Done did ys ys' ds ds') where
   at : (i : ℕ) (e : Q) → i < length cs → did (slice_index_or (cs ++ ds) i e) (slice_index_or (cs' ++ ds') i e)

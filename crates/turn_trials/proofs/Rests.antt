@@ -1,12 +1,12 @@
 -- A pass that holds nothing goes on to be one.
-use Rattle.std.proofs.Common.{rules, ◌≡◌, ℕ, zero, suc, ◌+◌, ◌<◌, ◌≤◌, List, [], ◌∷◌, ◌++◌, length, take, drop, map, Some, refl, sym, ◌∙◌, ap, arith}
+use Rattle.std.proofs.Common.{◌≡◌, ℕ, zero, suc, ◌+◌, ◌<◌, List, [], ◌∷◌, ◌++◌, length, take, drop, map, refl, ◌∙◌, ap, arith}
 use Rattle.std.specs.List.{slice_index_or}
 use Rattle.st_disk.specs.Events.{Event}
 use Rattle.st_spool.specs.declared.state.Span.{Span}
 use Rattle.st_turn.specs.Parts.{Facts}
 use Rattle.st_turn.specs.Passes.{PassView, SharedView, IsOf, IsSame, AreOf, AreOthers, AreStarted, state_of}
 use Rattle.st_turn.specs.Ends.{AreNumbered}
-use Rattle.turn_threads.specs.Resting.{Rests, Rested}
+use Rattle.turn_trials.specs.Resting.{Rests, Rested}
 
 -- a slice of a whole list is written back
 pub written : {A : Type 0} (n : ℕ) (qs all : List A) → length qs ≡ length all → n ≡ length all → take n (qs ++ drop (length qs) all) ≡ qs

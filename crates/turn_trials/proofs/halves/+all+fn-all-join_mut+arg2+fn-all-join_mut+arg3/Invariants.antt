@@ -1,5 +1,5 @@
 use Rattle.std.proofs.Common.{length}
-use Rattle.turn_threads.proofs.halves.+all+fn-all-join_mut+arg2+fn-all-join_mut+arg3.Given as goal
+use Rattle.turn_trials.proofs.halves.+all+fn-all-join_mut+arg2+fn-all-join_mut+arg3.Given as goal
 
 abbrev pub decreases-all : goal.decreases-all
 decreases-all g l = length l.jobs.now

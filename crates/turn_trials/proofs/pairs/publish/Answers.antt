@@ -1,8 +1,8 @@
-use Rattle.std.proofs.Common.{rules, ◌≡◌, ◌∙◌, ap, Err}
+use Rattle.std.proofs.Common.{◌≡◌, ◌∙◌, ap, Err}
 use Rattle.st_shelf.specs.declared.shelves.SealedPair.{SealedPair}
 use Rattle.st_turn.specs.declared.refusals.SharedPublishErr.TheVariants as shared
-use Rattle.turn_calls.proofs.Returned.{halted_back}
-use Rattle.turn_calls.proofs.caller.publish.Goals as goal
+use Rattle.turn_trials.proofs.Returned.{halted_back}
+use Rattle.turn_trials.proofs.pairs.publish.Goals as goal
 
 pub give_up-requires-clause-block : goal.give_up-requires-clause-block
 give_up-requires-clause-block g c =

@@ -1,4 +1,4 @@
-ghost use Rattle.turn_threads.specs.Halves.{Ready, Done};
+ghost use Rattle.turn_trials.specs.Halves.{Ready, Done};
 ghost use Rattle.std.specs.Thread.{IsSync};
 
 use std::sync::Wait;

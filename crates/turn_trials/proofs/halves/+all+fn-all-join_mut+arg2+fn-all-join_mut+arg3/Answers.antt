@@ -1,7 +1,7 @@
-use Rattle.std.proofs.Common.{rules, ◌≡◌, length, sym, ◌++◌}
-use Rattle.turn_threads.specs.Halves.{Done}
-use Rattle.turn_threads.proofs.Sides.{joins}
-use Rattle.turn_threads.proofs.halves.+all+fn-all-join_mut+arg2+fn-all-join_mut+arg3.Goals as goal
+use Rattle.std.proofs.Common.{rules, ◌≡◌, length, ◌++◌}
+use Rattle.turn_trials.specs.Halves.{Done}
+use Rattle.turn_trials.proofs.Sides.{joins}
+use Rattle.turn_trials.proofs.halves.+all+fn-all-join_mut+arg2+fn-all-join_mut+arg3.Goals as goal
 
 pub returns : goal.returns
 returns g t c =

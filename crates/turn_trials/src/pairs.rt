@@ -1,37 +1,21 @@
-//! Pairs of small files, published, aged and read in turns. The index's one byte is the block's and
-//! one more.
-
-ghost use Rattle.std.specs.Prelude.{◌≡◌, ◌<◌, [], ◌∷◌, IfSome, IfOk, Contains};
+ghost use Rattle.std.specs.Prelude.{◌≡◌, ◌<◌, ◌∷◌, IfSome, Contains};
 ghost use Rattle.st_spool.specs.Holding.{size_of};
 ghost use Rattle.st_turn.specs.Passes.{IsOf, IsSame};
-ghost use Rattle.turn_threads.specs.Resting.{Rests, Rested};
 
+use crate::spools::{SharedSpool, SpoolPass};
 use st_base::{Reader, put};
 use st_shelf::{Draft, End, Kind, SealedPair, Shelf};
-use st_spool::{Hold, PairRule, Spool};
-use st_turn::{Pass, Shared, SharedPublishErr};
+use st_spool::Hold;
+use st_turn::SharedPublishErr;
 use std::sync::Wait;
 
-/// Each pair may be published.
-pub struct AnyPair;
-
-impl PairRule for AnyPair {
-    ghost use Rattle.std.specs.Prelude.{⊤};
-
-    ghost is_whole = { λ block index. ⊤ };
-}
-
-pub type SharedSpool<D> = Shared<Spool<D, AnyPair>>;
-
-pub type SpoolPass<D> = Pass<Spool<D, AnyPair>>;
-
-// A sealed file of one byte.
+// A sealed file of these bytes.
 fn sealed<D: Shelf, R: Wait>(
     rt: &R,
     shared: &SharedSpool<D>,
     pass: &mut SpoolPass<D>,
     kind: Kind,
-    byte: u8,
+    bytes: &[u8],
 ) -> Option<<D::Draft as Draft>::Sealed>
     requires { IsOf shared.now pass.old }
     ensures origin { IfSome result (λ s. ((D.Draft.sealed_origin s).kind ≡ kind)
@@ -42,7 +26,7 @@ fn sealed<D: Shelf, R: Wait>(
     let Ok(mut draft) = shared.create(rt, pass, kind) else {
         return None;
     };
-    if let Err(_) = put(&mut draft, &[byte]) {
+    if let Err(_) = put(&mut draft, bytes) {
         shared.abandon(rt, pass, End::Unsealed(draft));
         return None;
     }
@@ -73,49 +57,52 @@ fn give_up<D: Shelf, R: Wait>(
     shared.abandon(rt, pass, End::Sealed(index));
 }
 
-/// Publishes a pair, and answers whether it did.
+/// Publishes a pair whose files have these bytes, and answers its stamp. None if a call failed or
+/// memory ran out; a pair that was not tried to publish is given up.
 pub fn publish<D: Shelf, R: Wait>(
     rt: &R,
     shared: &SharedSpool<D>,
     pass: &mut SpoolPass<D>,
-    byte: u8,
-) -> bool
-    requires { Rests shared.now pass.old }
-    ensures { Rested pass.old pass.new }
+    block: &[u8],
+    index: &[u8],
+) -> Option<u64>
+    requires { IsOf shared.now pass.old }
+    ensures same { IsSame pass.old pass.new }
+    ensures holds { pass.new.state.held ≡ pass.old.state.held }
 {
-    let Some(block) = sealed(rt, shared, pass, Kind::Block, byte) else {
-        return false;
-    };
-    let Some(index) = sealed(rt, shared, pass, Kind::Index, byte.wrapping_add(1)) else {
+    let block = sealed(rt, shared, pass, Kind::Block, block)?;
+    let Some(index) = sealed(rt, shared, pass, Kind::Index, index) else {
         shared.abandon(rt, pass, End::Sealed(block));
-        return false;
+        return None;
     };
     match shared.publish(rt, pass, SealedPair { block, index }, 0) {
-        Ok(_) => true,
-        Err(SharedPublishErr::DiskFault) => false,
+        Ok(stamp) => Some(stamp),
+        Err(SharedPublishErr::DiskFault) => None,
         Err(SharedPublishErr::Halted { since: _, pair }) => {
             give_up(rt, shared, pass, pair);
-            false
+            None
         }
         Err(SharedPublishErr::StampsSpent { last: _, pair }) => {
             give_up(rt, shared, pass, pair);
-            false
+            None
         }
         Err(SharedPublishErr::NoMemory { pair }) => {
             give_up(rt, shared, pass, pair);
-            false
+            None
         }
     }
 }
 
-/// Removes the oldest pair if there are too many, and answers whether it did; None if it failed.
+/// Removes the oldest pair if there are more than the limit, and answers whether it did. None if
+/// the call failed.
 pub fn age<D: Shelf, R: Wait>(
     rt: &R,
     shared: &SharedSpool<D>,
     pass: &mut SpoolPass<D>,
 ) -> Option<bool>
-    requires { Rests shared.now pass.old }
-    ensures { Rested pass.old pass.new }
+    requires { IsOf shared.now pass.old }
+    ensures same { IsSame pass.old pass.new }
+    ensures holds { pass.new.state.held ≡ pass.old.state.held }
 {
     match shared.age(rt, pass) {
         Ok(removed) => Some(removed),
@@ -123,8 +110,32 @@ pub fn age<D: Shelf, R: Wait>(
     }
 }
 
-// The one byte of a held block file.
-fn block_byte<D: Shelf, R: Wait>(
+// The first byte of a file that was lent, which is taken back.
+fn first_byte<D: Shelf, R: Wait>(
+    rt: &R,
+    shared: &SharedSpool<D>,
+    pass: &mut SpoolPass<D>,
+    file: D::File,
+) -> Option<u8>
+    requires of { IsOf shared.now pass.old }
+    requires home { (D.file_origin file).home ≡ D.id shared.now.base.shelf }
+    requires lent { 0 < pass.old.loans.lent }
+    ensures same { IsSame pass.old pass.new }
+    ensures holds { pass.new.state.held ≡ pass.old.state.held }
+{
+    let mut file = file;
+    let mut bytes = [0];
+    let read = file.read_at(0, &mut bytes);
+    shared.close_file(rt, pass, file);
+    match read {
+        Ok(1) => Some(bytes[0]),
+        _ => None,
+    }
+}
+
+/// The first byte of the block file of the pair with this index in a hold, from 0 on. None if a
+/// call failed or the file is empty.
+pub fn block_byte<D: Shelf, R: Wait>(
     rt: &R,
     shared: &SharedSpool<D>,
     pass: &mut SpoolPass<D>,
@@ -137,20 +148,15 @@ fn block_byte<D: Shelf, R: Wait>(
     ensures same { IsSame pass.old pass.new }
     ensures holds { pass.new.state.held ≡ pass.old.state.held }
 {
-    let Ok(mut file) = shared.block_of(rt, pass, hold, i) else {
-        return None;
-    };
-    let mut bytes = [0];
-    let read = file.read_at(0, &mut bytes);
-    shared.close_file(rt, pass, file);
-    match read {
-        Ok(1) => Some(bytes[0]),
-        _ => None,
+    match shared.block_of(rt, pass, hold, i) {
+        Ok(file) => first_byte(rt, shared, pass, file),
+        Err(_) => None,
     }
 }
 
-// The one byte of a held index.
-fn index_byte<D: Shelf, R: Wait>(
+/// The first byte of the index of the pair with this index in a hold, from 0 on. None if a call
+/// failed or the file is empty.
+pub fn index_byte<D: Shelf, R: Wait>(
     rt: &R,
     shared: &SharedSpool<D>,
     pass: &mut SpoolPass<D>,
@@ -163,55 +169,8 @@ fn index_byte<D: Shelf, R: Wait>(
     ensures same { IsSame pass.old pass.new }
     ensures holds { pass.new.state.held ≡ pass.old.state.held }
 {
-    let Ok(mut file) = shared.index_of(rt, pass, hold, i) else {
-        return None;
-    };
-    let mut bytes = [0];
-    let read = file.read_at(0, &mut bytes);
-    shared.close_file(rt, pass, file);
-    match read {
-        Ok(1) => Some(bytes[0]),
-        _ => None,
+    match shared.index_of(rt, pass, hold, i) {
+        Ok(file) => first_byte(rt, shared, pass, file),
+        Err(_) => None,
     }
-}
-
-// How many pairs of a hold are not read as they were published.
-fn unread<D: Shelf, R: Wait>(
-    rt: &R,
-    shared: &SharedSpool<D>,
-    pass: &mut SpoolPass<D>,
-    hold: &Hold,
-) -> u64
-    requires of { IsOf shared.now pass.old }
-    requires held { Contains pass.old.state.held hold.now }
-    ensures same { IsSame pass.old pass.new }
-    ensures holds { pass.new.state.held ≡ pass.old.state.held }
-{
-    let mut count: u64 = 0;
-    for i in 0..shared.count(rt, pass, hold) {
-        let block = block_byte(rt, shared, pass, hold, i);
-        let index = index_byte(rt, shared, pass, hold, i);
-        if index.is_none() || index != block.map(|byte| byte.wrapping_add(1)) {
-            count = count.saturating_add(1);
-        }
-    }
-    count
-}
-
-/// Holds the set of all pairs, reads both files of each, and releases it. It answers how many pairs
-/// were not read, and None if there was no memory to hold them.
-pub fn read_all<D: Shelf, R: Wait>(
-    rt: &R,
-    shared: &SharedSpool<D>,
-    pass: &mut SpoolPass<D>,
-) -> Option<u64>
-    requires { Rests shared.now pass.old }
-    ensures { Rested pass.old pass.new }
-{
-    let Ok(hold) = shared.hold(rt, pass) else {
-        return None;
-    };
-    let count = unread(rt, shared, pass, &hold);
-    shared.release(rt, pass, hold);
-    Some(count)
 }
