@@ -1,0 +1,3 @@
+pub mod Returned
+pub mod Rests
+pub mod Fours

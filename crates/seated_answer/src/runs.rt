@@ -1,0 +1,151 @@
+ghost use Rattle.std.specs.Prelude.{◌≡◌, ◌<◌, ◌≤◌, ◌++◌, [], List, IfOk, IfSome, IsSome, MatchResult, option_to_list, vec_len, vec_capacity};
+ghost use Rattle.st_disk.specs.Events.{Event};
+ghost use Rattle.st_spool.specs.declared.state.Span.{Span};
+ghost use Rattle.st_spool.specs.States.{SpoolView};
+ghost use Rattle.st_turn.specs.Parts.{PassState};
+ghost use Rattle.st_turn.specs.Ends.{Ended};
+ghost use Rattle.st_turn.specs.Spools.{facts_of, KeepsOf};
+
+use crate::halves::four;
+use crate::jobs::{Job, Seat, Turns};
+use crate::pairs::{AnyPair, SpoolPass};
+use st_seated::passes_sit;
+use st_shelf::{Draft, Name, Shelf};
+use st_spool::{NotEntered, Spool};
+use st_turn::{NotShared, share};
+use std::alloc::Global;
+use std::sync::Wait;
+use std::thread::Threads;
+
+// Puts the pass of a seat behind others, for which there is room, and answers the job.
+fn leave<D: Shelf>(passes: &mut Vec<SpoolPass<D>>, seat: Seat<D>) -> Job
+    requires room { vec_len passes.old < vec_capacity passes.old }
+    requires there { IsSome seat.pass }
+    ensures pass { passes.new.items ≡ passes.old.items ++ option_to_list seat.pass }
+    ensures room { vec_capacity passes.old ≤ vec_capacity passes.new }
+{
+    let Seat { job, pass } = seat;
+    let Some(pass) = pass else { unreachable!() };
+    let pushed = passes.push(pass);
+    let Ok(()) = pushed else { unreachable!() };
+    job
+}
+
+/// Does four jobs, each on a thread of its own and by a pass of its own, all over one spool, which
+/// comes back as it was left; Err where memory ran out before.
+pub fn serve<D: Shelf + Send, R: Threads + Wait + Sync>(
+    rt: &R,
+    alloc: Global,
+    spool: Spool<D, AnyPair>,
+    jobs: &mut [Job; 4],
+) -> Result<Spool<D, AnyPair>, Spool<D, AnyPair>>
+where
+    D::Draft: Send,
+    D::File: Send,
+    <D::Draft as Draft>::Sealed: Send,
+    requires { spool.state.holds ≡ [] }
+    // each pass saw a beginning of the one history
+    ensures ended { IfOk result (λ s. (ps : List (PassState (SpoolView D) Event Span))
+        × Ended (facts_of D.log D.faults D.id spool) (facts_of D.log D.faults D.id s) ps) }
+    ensures keeps { IfOk result (λ s. KeepsOf D.log D.faults D.id spool s) }
+    ensures holds { MatchResult result (λ s. s.state.holds ≡ []) (λ s. s ≡ spool) }
+{
+    let (shared, mut passes) = match share(alloc, spool, 4) {
+        Ok(both) => both,
+        Err(NotShared { spool }) => return Err(spool),
+    };
+    let fourth = passes.pop();
+    let third = passes.pop();
+    let second = passes.pop();
+    let first = passes.pop();
+    passes_sit::<Spool<D, AnyPair>>();
+    let mut a = Seat::new(jobs[0], first);
+    let mut b = Seat::new(jobs[1], second);
+    let mut c = Seat::new(jobs[2], third);
+    let mut d = Seat::new(jobs[3], fourth);
+    let turns = Turns {
+        shared: &shared,
+        alloc,
+    };
+    four(rt, &turns, &mut a, &mut b, &mut c, &mut d);
+    jobs[0] = leave(&mut passes, a);
+    jobs[1] = leave(&mut passes, b);
+    jobs[2] = leave(&mut passes, c);
+    jobs[3] = leave(&mut passes, d);
+    Ok(shared.finish(passes))
+}
+
+/// What a run left.
+#[derive(Clone, Copy)]
+pub struct Left {
+    pub pairs: usize,
+    pub parked: usize,
+}
+
+// How many pairs a spool has.
+fn pair_count<D: Shelf>(spool: &mut Spool<D, AnyPair>) -> usize
+    requires { spool.old.state.holds ≡ [] }
+    ensures { spool.new.state.holds ≡ [] }
+{
+    let Ok(hold) = spool.hold() else {
+        return 0;
+    };
+    let count = spool.count(&hold);
+    spool.release(hold);
+    count
+}
+
+// How many names of parked indexes a shelf has, if it can say.
+fn parked<D: Shelf>(alloc: Global, shelf: &mut D) -> Option<usize> {
+    let Ok(names) = shelf.list(alloc) else {
+        return None;
+    };
+    let mut count: usize = 0;
+    for name in names.items() {
+        if let Name::Parked(_) = name {
+            count = count.saturating_add(1);
+        }
+    }
+    Some(count)
+}
+
+/// A spool of this limit over a shelf; None if it can't be opened.
+pub fn opened<D: Shelf + Drop>(alloc: Global, shelf: D, limit: u32) -> Option<Spool<D, AnyPair>>
+    requires { 1 ≤ limit }
+    ensures { IfSome result (λ s. s.state.holds ≡ []) }
+{
+    let entered: Result<Spool<D, AnyPair>, NotEntered<D>> = Spool::enter(alloc, shelf, limit);
+    match entered {
+        Ok(spool) => Some(spool),
+        Err(NotEntered { cause: _, shelf: _ }) => None,
+    }
+}
+
+/// Opens a spool of this limit over a shelf, does the jobs, and says what they left.
+pub fn run<D: Shelf + Send + Drop, R: Threads + Wait + Sync>(
+    rt: &R,
+    alloc: Global,
+    shelf: D,
+    limit: u32,
+    jobs: &mut [Job; 4],
+) -> Option<Left>
+where
+    D::Draft: Send,
+    D::File: Send,
+    <D::Draft as Draft>::Sealed: Send,
+    requires { 1 ≤ limit }
+{
+    let spool = opened(alloc, shelf, limit)?;
+    match serve(rt, alloc, spool, jobs) {
+        Ok(mut spool) => {
+            let pairs = pair_count(&mut spool);
+            let mut shelf = spool.close();
+            let parked = parked(alloc, &mut shelf)?;
+            Some(Left { pairs, parked })
+        }
+        Err(spool) => {
+            let _shelf = spool.close();
+            None
+        }
+    }
+}
