@@ -6,7 +6,7 @@ use Rattle.std.proofs.lemmas.Bool.Decides.{nat_tests}
 use Rattle.std.proofs.lemmas.List.Sums.{sum_by-cons, sum_by-append}
 use Rattle.st_base.specs.Records.{Rec}
 use Rattle.st_load.specs.Acts.{Act, line_text, lines_of, happen, removals, newest}
-use Rattle.st_load.specs.Job.{Course, AddsAll, IsJob}
+use Rattle.st_load.specs.Job.{Situation, AddsAll, IsJob}
 use Rattle.st_load.specs.Loading.{Did}
 use Rattle.st_load.specs.declared.ends.LoadEnd.{LoadEnd}
 use Rattle.st_load.specs.declared.ends.LoadEnd.TheVariants as load
@@ -62,7 +62,7 @@ one_feed stamp packets =
     omega (arith, a, b, c, d, e, s, l)
 
 -- and so has what is written for a pair
-feeds_all : (limit size : ℕ) (a b : Course) (lists : List (List Rec)) (acts : List Act)
+feeds_all : (limit size : ℕ) (a b : Situation) (lists : List (List Rec)) (acts : List Act)
     → AddsAll limit size a lists acts b → feeds (lines_of acts) ≡ length lists
 feeds_all limit size a b [] acts (none, same) = ap (λ (l : List Act). feeds (lines_of l)) none
 feeds_all limit size a b (rs ∷ lists) acts (mid, first, later, is, add, adds) =
@@ -77,7 +77,7 @@ feeds_all limit size a b (rs ∷ lists) acts (mid, first, later, is, add, adds) 
     ap (λ (l : List Act). feeds (lines_of l)) is ∙ ap feeds (lines_append first later)
     ∙ omega (arith, one, rest, both)
 
-job_feeds : (limit size : ℕ) (a b : Course) (lists : List (List Rec)) (acts : List Act)
+job_feeds : (limit size : ℕ) (a b : Situation) (lists : List (List Rec)) (acts : List Act)
     → IsJob limit size a lists acts b → feeds (lines_of acts) ≡ length lists
 job_feeds limit size a b lists acts (later, is, adds) =
     let gone = happen (removals limit a.set) in
@@ -86,7 +86,7 @@ job_feeds limit size a b lists acts (later, is, adds) =
     ∙ feeds_all limit size (record a { set = newest limit a.set }) b lists later adds
 
 -- a load that did all of its job wrote a line for each pair
-did_all : (limit size : ℕ) (start : Course) (lists : List (List Rec)) (acts to_come : List Act)
+did_all : (limit size : ℕ) (start : Situation) (lists : List (List Rec)) (acts to_come : List Act)
     (times : Option (List ℕ)) (text : List ℕ)
     → Did (IsJob limit size start) load.Done lists acts to_come times (Some []) (Some text)
     → feeds text ≡ length lists
@@ -97,7 +97,7 @@ did_all limit size start lists acts to_come times text did =
     ∙ job_feeds limit size start did.final lists acts
     (subst (λ (l : List Act). IsJob limit size start lists l did.final) whole did.job)
 
-pub lines_counted : (limit size : ℕ) (start : Course) (e : LoadEnd) (lists : List (List Rec))
+pub lines_counted : (limit size : ℕ) (start : Situation) (e : LoadEnd) (lists : List (List Rec))
     (acts to_come : List Act) (times : Option (List ℕ)) (text : List ℕ)
     → Did (IsJob limit size start) e lists acts to_come times (Some []) (Some text)
     → e ≡ load.Done → count_by (nat_eq LINE_FEED) text ≡ length lists

@@ -31,7 +31,7 @@ use Rattle.st_load.proofs.Opened.{opened}
 use Rattle.st_load.proofs.ReadBack.{read_set}
 use Rattle.st_drill.specs.declared.ends.DrillEnd.{DrillEnd}
 use Rattle.st_drill.specs.declared.ends.DrillEnd.TheVariants as end
-use Rattle.st_drill.specs.Asking.{Breaks}
+use Rattle.st_drill.specs.Asking.{AnswerFails}
 use Rattle.st_drill.specs.Drilling.{layout, IsSummary, EndsLoaded, EndsUnloaded, DrillsOpened, Drills}
 use Rattle.st_drill.specs.Packets.{input}
 use Rattle.st_drill.specs.Summarizing.{EndsUnopened, EndsWriting, LoadsPackets, Summarizes}
@@ -39,7 +39,7 @@ use Rattle.st_drill.proofs.Wholes.{set_whole}
 
 -- a query that wasn't answered ends a drill so, and nothing is written
 ends_broken : (packets pairs : ℕ) (set : List Entry) (old new : Option (List ℕ))
-    (ended : DrillEnd) → Breaks set ended → new ≡ old
+    (ended : DrillEnd) → AnswerFails set ended → new ≡ old
     → EndsLoaded packets pairs set old new ended
 ends_broken packets pairs set old new end.Done breaks same = absurd breaks
 ends_broken packets pairs set old new end.WriteFault breaks same = absurd breaks
@@ -157,7 +157,7 @@ module _ (n : ℕ) (first : Log) (mid known : Option Log) (before st : SpoolStat
   }
 
   broken_so : (e : DrillEnd) (old new : Option (List ℕ)) (ended : DrillEnd)
-      → ((loaded ≡ load.Done) × Breaks set e) ⊎ EndsUnloaded loaded e
+      → ((loaded ≡ load.Done) × AnswerFails set e) ⊎ EndsUnloaded loaded e
       → (ended ≡ e) × (new ≡ old) → DrillsOpened n first known times times_now old new ended
   broken_so e old new ended (inl (done, breaks)) (is, same) = record {
     lines = p.lines;
@@ -167,7 +167,7 @@ module _ (n : ℕ) (first : Log) (mid known : Option Log) (before st : SpoolStat
       done,
       grows,
       ends_broken n (length p.loads.pairs) set old new ended
-          (subst (Breaks set) (sym is) breaks) same,
+          (subst (AnswerFails set) (sym is) breaks) same,
     );
   }
   broken_so e old new ended (inr unloaded) (is, same) = record {

@@ -33,7 +33,7 @@ use Rattle.st_drill.specs.declared.questions.Question.TheVariants.{Dns, NearTcp,
 use Rattle.st_drill.specs.declared.summary.Answers.{Answers}
 use Rattle.st_drill.specs.Summary.{told_of}
 use Rattle.st_drill.specs.Questions.{question_tree}
-use Rattle.st_drill.specs.Asking.{asked_of, Counts, Breaks, BreaksBy, IsBreak, TellsReply, HasShelfCause, StaysOpen}
+use Rattle.st_drill.specs.Asking.{asked_of, Counts, AnswerFails, AnswerFailsBy, IsAnswerFailure, TellsReply, HasShelfCause, StaysOpen}
 
 pub tells_reply : {S : Type 0} (after : S → List ℕ → S) (gone : S → List ℕ) (old new : Option S)
     (q : Asked) (known : Option (List Entry)) (r : Result Told AnswerErr)
@@ -114,26 +114,26 @@ counts_of log a b h node q told seen remains asks is tells whole =
 pub breaks_of : {D : Type 0} (log : D → Option Log) (a b : SpoolView D) (h : List Event)
     (e : AnswerErr) (ended : DrillEnd) → history_of log a ≡ Some h → Remains IsWhole log a b
     → AsksOnce {S = List ℕ} {T = Told} (holds_of log a) (holds_of log b) None None (Err e)
-    → Blames {T = Told} (option_map set_of (taken_of log b)) (Err e) → BreaksBy e ended
-    → Breaks (set_of h) ended
+    → Blames {T = Told} (option_map set_of (taken_of log b)) (Err e) → AnswerFailsBy e ended
+    → AnswerFails (set_of h) ended
 breaks_of log a b h error.WriteFault ended seen remains asks blames is =
-    subst (Breaks (set_of h)) (sym is) tt
+    subst (AnswerFails (set_of h)) (sym is) tt
 breaks_of log a b h error.DiskFault ended seen remains asks blames is =
-    subst (Breaks (set_of h)) (sym is) tt
+    subst (AnswerFails (set_of h)) (sym is) tt
 breaks_of log a b h (error.Damaged stamp d) ended seen remains asks blames is =
     let goes = goes_err (holds_of log a) (holds_of log b) (error.Damaged stamp d) (λ no. cc) asks in
     let known = asked_set log a b h seen remains goes in
-    subst (Breaks (set_of h)) (sym is) (blames (set_of h) known)
+    subst (AnswerFails (set_of h)) (sym is) (blames (set_of h) known)
 breaks_of log a b h error.NoMemory ended seen remains asks blames is =
-    subst (Breaks (set_of h)) (sym is) tt
+    subst (AnswerFails (set_of h)) (sym is) tt
 
-pub is_break : (e : AnswerErr) (ended : DrillEnd) → BreaksBy e ended → IsBreak ended
-is_break error.WriteFault ended is = subst IsBreak (sym is) tt
-is_break error.DiskFault ended is = subst IsBreak (sym is) tt
-is_break (error.Damaged stamp d) ended is = subst IsBreak (sym is) tt
-is_break error.NoMemory ended is = subst IsBreak (sym is) tt
+pub is_break : (e : AnswerErr) (ended : DrillEnd) → AnswerFailsBy e ended → IsAnswerFailure ended
+is_break error.WriteFault ended is = subst IsAnswerFailure (sym is) tt
+is_break error.DiskFault ended is = subst IsAnswerFailure (sym is) tt
+is_break (error.Damaged stamp d) ended is = subst IsAnswerFailure (sym is) tt
+is_break error.NoMemory ended is = subst IsAnswerFailure (sym is) tt
 
-pub shelf_cause : (before now : ℕ) (e : AnswerErr) (ended : DrillEnd) → BreaksBy e ended
+pub shelf_cause : (before now : ℕ) (e : AnswerErr) (ended : DrillEnd) → AnswerFailsBy e ended
     → HasDiskCause {T = Told} before now (Err e) → HasShelfCause {T = Told} before now (Err ended)
 shelf_cause before now error.WriteFault ended is cause =
     record { later = cause.later; rose = λ no. absurd (cc) }

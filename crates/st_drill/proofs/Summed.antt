@@ -21,8 +21,8 @@ use Rattle.st_spool.proofs.Covering.{covers_doubt}
 use Rattle.st_answer.specs.Packets.{IsWholeSet}
 use Rattle.st_answer.specs.Spools.{IsStill, Remains}
 use Rattle.st_load.specs.Acts.{Act, events_of, happen, removals, newest}
-use Rattle.st_load.specs.Job.{Course, IsJob}
-use Rattle.st_load.specs.Loading.{AreOf, Loads, Covered, BeginsWith, course}
+use Rattle.st_load.specs.Job.{Situation, IsJob}
+use Rattle.st_load.specs.Loading.{AreCutFrom, Loads, Covered, BeginsWith, situation}
 use Rattle.st_load.specs.declared.ends.LoadEnd.{LoadEnd}
 use Rattle.st_load.specs.declared.ends.LoadEnd.TheVariants as load
 use Rattle.st_load.proofs.Covered.{covered_none}
@@ -33,7 +33,7 @@ use Rattle.st_drill.specs.declared.numbers.TheConstants.{BLOCK_SIZE, LINE_FEED}
 use Rattle.st_drill.specs.declared.questions.Question.{Question}
 use Rattle.st_drill.specs.declared.summary.Answers.{Answers}
 use Rattle.st_shelf.specs.Loans.{LoansView}
-use Rattle.st_drill.specs.Asking.{Counts, Breaks, StaysOpen}
+use Rattle.st_drill.specs.Asking.{Counts, AnswerFails, StaysOpen}
 use Rattle.st_drill.specs.Drilling.{IsSummary, EndsUnloaded, layout}
 use Rattle.st_drill.specs.Packets.{packets, input}
 use Rattle.st_drill.specs.Summary.{told_of, summary_text}
@@ -60,14 +60,14 @@ pub nothing_loaded : (n limit : ℕ) → n ≤ MAX_PACKETS → (known : Option L
     → LoadsPackets n limit known known st st earlier h times times load.NoMemory
 nothing_loaded n limit fits known st earlier h f times runs stands =
     let quiet = calm known st earlier h f stands runs in
-    let start : Course = course h st times in
+    let start : Situation = situation h st times in
     let gone = happen (removals limit (set_of h)) ++ [] in
     let none = none_doubted st.doubt f quiet in
     record {
       lines = Some [];
       loads = record {
         pairs = [];
-        are = λ bytes is. subst (λ (b : List ℕ). AreOf layout b load.NoMemory [])
+        are = λ bytes is. subst (λ (b : List ℕ). AreCutFrom layout b load.NoMemory [])
             (known_input n bytes is) (record {
               records = packets n;
               rest = record { input = Whole; taken = packets n; others = []; left = packets n };
@@ -102,13 +102,13 @@ module _ (n limit : ℕ) (given wrote text : List ℕ)
     (input_is : given ≡ input n) (none : wrote ≡ []) (before known : Option Log)
     (old st : SpoolState) (earlier h : List Event) (times times_now : Option (List ℕ))
     (e : LoadEnd)
-    (job : Loads (IsJob limit BLOCK_SIZE (course h old times))
-    (λ pairs. (bytes : List ℕ) → Some given ≡ Some bytes → AreOf layout bytes e pairs)
+    (job : Loads (IsJob limit BLOCK_SIZE (situation h old times))
+    (λ pairs. (bytes : List ℕ) → Some given ≡ Some bytes → AreCutFrom layout bytes e pairs)
     e before known st earlier h times_now (Some wrote) (Some text))
     (runs : (e ≡ load.DiskFault → ⊥) → st.halted ≡ None) where
   abbrev Did : List ℕ → List ℕ → Type 0
-  Did i w = Loads (IsJob limit BLOCK_SIZE (course h old times))
-      (λ pairs. (bytes : List ℕ) → Some i ≡ Some bytes → AreOf layout bytes e pairs)
+  Did i w = Loads (IsJob limit BLOCK_SIZE (situation h old times))
+      (λ pairs. (bytes : List ℕ) → Some i ≡ Some bytes → AreCutFrom layout bytes e pairs)
       e before known st earlier h times_now (Some w) (Some text)
 
   abbrev moved : Did (input n) []
@@ -130,7 +130,7 @@ module _ (n limit : ℕ) (given wrote text : List ℕ)
     packed = packed;
     ends = (
       done,
-      is ∙ lines_counted limit BLOCK_SIZE (course h old times) e moved.pairs moved.acts
+      is ∙ lines_counted limit BLOCK_SIZE (situation h old times) e moved.pairs moved.acts
           moved.to_come times_now text moved.did done,
     );
   }
@@ -219,7 +219,7 @@ module _ {D : Type 0} (log : D → Option Log) (n limit pairs : ℕ) (before : O
     set = set_of (h ++ events_of l.packed.loads.acts)
 
     -- a query was not answered
-    pub sum_broken : (e : DrillEnd) → Breaks set e
+    pub sum_broken : (e : DrillEnd) → AnswerFails set e
         → Summarizes n limit before (log b.shelf) old b.state earlier h times times_now (Err e)
     sum_broken e breaks = record {
       loaded = l.loaded;

@@ -14,10 +14,10 @@ use Rattle.st_plan.specs.declared.limits.TheConstants.{MAX_PACKETS}
 use Rattle.st_drill.specs.declared.ends.DrillEnd.{DrillEnd}
 use Rattle.st_drill.specs.declared.ends.DrillEnd.TheVariants as end
 use Rattle.st_drill.specs.declared.numbers.TheConstants.{BLOCK_SIZE, FRAME_SIZE}
-use Rattle.st_drill.specs.Asking.{IsBreak}
+use Rattle.st_drill.specs.Asking.{IsAnswerFailure}
 use Rattle.st_drill.specs.Drilling.{EndsUnloaded, SaysDrill}
 use Rattle.st_drill.specs.Packets.{packets, input}
-use Rattle.st_drill.specs.Summarizing.{CanEnd, IsUnsummed}
+use Rattle.st_drill.specs.Summarizing.{LoadCanEnd, HasNoSummary}
 use Rattle.st_drill.proofs.Packets.{are_frames, is_whole_input}
 
 -- each packet fits a block
@@ -27,7 +27,7 @@ are_short n h k r less =
 
 -- so these ends never come
 pub can_end : (n : ℕ) → n ≤ MAX_PACKETS → (e : LoadEnd) → StopsInput BLOCK_SIZE (input n) e
-    → (e ≡ load.ReadFault → ⊥) → CanEnd e
+    → (e ≡ load.ReadFault → ⊥) → LoadCanEnd e
 can_end n h load.Done stops sure = tt
 can_end n h (load.BadInput e) stops sure =
     let (given, short, bad) = stops tt in
@@ -62,10 +62,10 @@ disk_by load.NoMemory ended by is = let no : end.NoMemory ≡ end.DiskFault = sy
 
 -- what an end says by itself
 abbrev SaysBy : DrillEnd → Type 0
-SaysBy ended = SaysDrill ended × IsUnsummed ended
+SaysBy ended = SaysDrill ended × HasNoSummary ended
 
 pub says_by : (loaded : LoadEnd) (ended : DrillEnd) → EndsUnloaded loaded ended
-    → Says BLOCK_SIZE loaded → SaysDrill ended × IsUnsummed ended
+    → Says BLOCK_SIZE loaded → SaysDrill ended × HasNoSummary ended
 says_by load.Done ended by says = absurd by
 says_by (load.BadInput e) ended by says = absurd by
 says_by (load.TooLong number len) ended by says = absurd by
@@ -76,7 +76,7 @@ says_by (load.StampsSpent last) ended by says = subst SaysBy (sym by) (says, tt)
 says_by load.NoMemory ended by says = subst SaysBy (sym by) (tt, tt)
 
 -- a query that wasn't answered leaves no summary
-pub break_says : (ended : DrillEnd) → IsBreak ended → SaysDrill ended × IsUnsummed ended
+pub break_says : (ended : DrillEnd) → IsAnswerFailure ended → SaysDrill ended × HasNoSummary ended
 break_says end.Done is = absurd is
 break_says end.WriteFault is = absurd is
 break_says end.DiskFault is = (tt, tt)

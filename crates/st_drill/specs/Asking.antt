@@ -43,23 +43,23 @@ pub record Counts (set : List Entry) (q : Question) (numbers : Told) : Type 0 wh
 
 -- a query that wasn't answered: the disk failed, memory ran out, or this pair of the set isn't
 -- whole
-abbrev pub Breaks : List Entry → DrillEnd → Type 0
-Breaks set end.Done = ⊥
-Breaks set end.WriteFault = ⊥
-Breaks set end.DiskFault = ⊤
-Breaks set (end.Damaged stamp damage) =
+abbrev pub AnswerFails : List Entry → DrillEnd → Type 0
+AnswerFails set end.Done = ⊥
+AnswerFails set end.WriteFault = ⊥
+AnswerFails set end.DiskFault = ⊤
+AnswerFails set (end.Damaged stamp damage) =
     (e : Entry) × Contains set e × (e.stamp ≡ stamp) × (IsWholePair e → ⊥)
-Breaks set (end.StampsSpent last) = ⊥
-Breaks set end.NoMemory = ⊤
+AnswerFails set (end.StampsSpent last) = ⊥
+AnswerFails set end.NoMemory = ⊤
 
 -- the ways in which a query isn't answered, whatever is known
-abbrev pub IsBreak : DrillEnd → Type 0
-IsBreak end.Done = ⊥
-IsBreak end.WriteFault = ⊥
-IsBreak end.DiskFault = ⊤
-IsBreak (end.Damaged stamp damage) = ⊤
-IsBreak (end.StampsSpent last) = ⊥
-IsBreak end.NoMemory = ⊤
+abbrev pub IsAnswerFailure : DrillEnd → Type 0
+IsAnswerFailure end.Done = ⊥
+IsAnswerFailure end.WriteFault = ⊥
+IsAnswerFailure end.DiskFault = ⊤
+IsAnswerFailure (end.Damaged stamp damage) = ⊤
+IsAnswerFailure (end.StampsSpent last) = ⊥
+IsAnswerFailure end.NoMemory = ⊤
 
 -- an answer that told these numbers is the reply to the question, if the set that was asked is
 -- known and all its pairs are whole
@@ -69,11 +69,11 @@ TellsReply q known result =
     → IfOk result (λ told. (rs : List Rec) × IsReply q set rs × Tells q.unit rs told)
 
 -- how a drill ends whose answer failed so; writing the answer doesn't fail
-abbrev pub BreaksBy : AnswerErr → DrillEnd → Type 0
-BreaksBy error.WriteFault ended = ended ≡ end.NoMemory
-BreaksBy error.DiskFault ended = ended ≡ end.DiskFault
-BreaksBy (error.Damaged stamp damage) ended = ended ≡ end.Damaged stamp damage
-BreaksBy error.NoMemory ended = ended ≡ end.NoMemory
+abbrev pub AnswerFailsBy : AnswerErr → DrillEnd → Type 0
+AnswerFailsBy error.WriteFault ended = ended ≡ end.NoMemory
+AnswerFailsBy error.DiskFault ended = ended ≡ end.DiskFault
+AnswerFailsBy (error.Damaged stamp damage) ended = ended ≡ end.Damaged stamp damage
+AnswerFailsBy error.NoMemory ended = ended ≡ end.NoMemory
 
 -- the shelf's count never falls, and it rose if the shelf failed
 pub record HasShelfCause {T : Type 0} (before now : ℕ) (result : Result T DrillEnd) : Type 0 where

@@ -19,7 +19,7 @@ use Rattle.st_drill.specs.declared.ends.DrillEnd.TheVariants as end
 use Rattle.st_drill.specs.declared.numbers.TheConstants.{BLOCK_SIZE, BLOCKS}
 use Rattle.st_drill.specs.declared.questions.Question.{Question}
 use Rattle.st_drill.specs.declared.summary.Answers.{Answers}
-use Rattle.st_drill.specs.Asking.{Counts, Breaks}
+use Rattle.st_drill.specs.Asking.{Counts, AnswerFails}
 use Rattle.st_drill.specs.Packets.{input}
 use Rattle.st_drill.specs.Summary.{told_of, summary_text}
 
@@ -42,7 +42,7 @@ EndsLoaded packets pairs set old new end.Done =
     (text : List ℕ) × IsSummary packets pairs set text × Appends old new text
 EndsLoaded packets pairs set old new end.WriteFault =
     (text : List ℕ) × IsSummary packets pairs set text × AppendsPrefix old new text
-EndsLoaded packets pairs set old new ended = Breaks set ended × (new ≡ old)
+EndsLoaded packets pairs set old new ended = AnswerFails set ended × (new ≡ old)
 
 -- How a drill ended whose load ended so, before all packets were loaded. Its input is whole, fits
 -- the blocks and never fails. The lines of the pairs are kept in memory, so that writing them fails
@@ -79,7 +79,8 @@ pub record DrillsOpened (packets : ℕ) (first : Log) (known : Option Log)
       × EndsLoaded packets (length loads.pairs) (set_loaded loads) old new ended)
       ⊎ (EndsUnloaded loaded ended × (new ≡ old))
 
--- or it could not open one: nothing else was touched
+-- What a drill of this many packets made of a shelf: it opened a spool over it and went on, or it
+-- could not open one, and nothing else was touched.
 abbrev pub Drills :
     ℕ → Log → Option Log → Option (List ℕ) → Option (List ℕ) → Option (List ℕ)
     → Option (List ℕ) → DrillEnd → Type 0

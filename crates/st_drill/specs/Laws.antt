@@ -14,11 +14,11 @@ IsWholeInput = (n : ℕ) → n ≤ MAX_PACKETS → Input (input n) (packets n) W
 abbrev pub HasCount : Type 0
 HasCount = (n : ℕ) → length (packets n) ≡ n
 
--- and they come in the order of their numbers
+-- the packets of a drill come in the order of their numbers, from 0 on
 abbrev pub AreNumbered : Type 0
 AreNumbered = (n k : ℕ) (d : Rec) → k < n → slice_index_or (packets n) k d ≡ packet k
 
--- each has a time that a record can have, and 64 bytes
+-- each packet of a drill has a time that a record can have, and 64 bytes
 abbrev pub AreFrames : Type 0
 AreFrames =
     (n : ℕ) → n ≤ MAX_PACKETS

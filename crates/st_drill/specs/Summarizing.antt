@@ -7,7 +7,7 @@ use Rattle.st_disk.specs.Disks.{Log}
 use Rattle.st_disk.specs.Events.{Event}
 use Rattle.st_load.specs.Acts.{events_of}
 use Rattle.st_load.specs.Job.{IsJob}
-use Rattle.st_load.specs.Loading.{AreOf, Loads, course}
+use Rattle.st_load.specs.Loading.{AreCutFrom, Loads, situation}
 use Rattle.st_load.specs.declared.ends.LoadEnd.{LoadEnd}
 use Rattle.st_load.specs.declared.ends.LoadEnd.TheVariants as load
 use Rattle.st_shelf.specs.Loans.{LoansView}
@@ -19,20 +19,20 @@ use Rattle.st_spool.specs.declared.state.Doubt.TheVariants.{Nothing}
 use Rattle.st_drill.specs.declared.ends.DrillEnd.{DrillEnd}
 use Rattle.st_drill.specs.declared.ends.DrillEnd.TheVariants as end
 use Rattle.st_drill.specs.declared.numbers.TheConstants.{BLOCK_SIZE}
-use Rattle.st_drill.specs.Asking.{Breaks}
+use Rattle.st_drill.specs.Asking.{AnswerFails}
 use Rattle.st_drill.specs.Drilling.{layout, IsSummary, EndsUnloaded}
 use Rattle.st_drill.specs.Packets.{input}
 
--- a load ended so whose input is whole, fits the blocks and never fails
-abbrev pub CanEnd : LoadEnd → Type 0
-CanEnd load.Done = ⊤
-CanEnd (load.BadInput e) = ⊥
-CanEnd (load.TooLong number len) = ⊥
-CanEnd load.ReadFault = ⊥
-CanEnd load.WriteFault = ⊤
-CanEnd load.DiskFault = ⊤
-CanEnd (load.StampsSpent last) = ⊤
-CanEnd load.NoMemory = ⊤
+-- the ways in which a load may end whose input is whole, fits the blocks and never fails
+abbrev pub LoadCanEnd : LoadEnd → Type 0
+LoadCanEnd load.Done = ⊤
+LoadCanEnd (load.BadInput e) = ⊥
+LoadCanEnd (load.TooLong number len) = ⊥
+LoadCanEnd load.ReadFault = ⊥
+LoadCanEnd load.WriteFault = ⊤
+LoadCanEnd load.DiskFault = ⊤
+LoadCanEnd (load.StampsSpent last) = ⊤
+LoadCanEnd load.NoMemory = ⊤
 
 -- The packets of a drill were loaded into a spool of this limit that stood for the history h, and
 -- the load ended so. Nothing is in doubt then unless the shelf failed.
@@ -40,13 +40,14 @@ pub record LoadsPackets (packets limit : ℕ) (before known : Option Log) (old n
     (earlier h : List Event) (times times_now : Option (List ℕ)) (loaded : LoadEnd)
     : Type 0 where
   pub lines : Option (List ℕ)
-  pub loads : Loads (IsJob limit BLOCK_SIZE (course h old times))
+  pub loads : Loads (IsJob limit BLOCK_SIZE (situation h old times))
       (λ pairs. (bytes : List ℕ) → Some (input packets) ≡ Some bytes
-      → AreOf layout bytes loaded pairs)
+      → AreCutFrom layout bytes loaded pairs)
       loaded before known new earlier h times_now (Some []) lines
   pub calm : (loaded ≡ load.DiskFault → ⊥) → new.doubt ≡ Nothing
 
--- and that is how many pairs they became, if all were loaded
+-- The packets of a drill were loaded, and the result is how many pairs they became, or how the
+-- drill ended if not all were loaded.
 pub record LoadsAll (packets limit : ℕ) (before known : Option Log) (old new : SpoolState)
     (earlier h : List Event) (times times_now : Option (List ℕ)) (result : Result ℕ DrillEnd)
     : Type 0 where
@@ -66,14 +67,14 @@ pub record Summarizes (packets limit : ℕ) (before known : Option Log) (old new
       (λ text. (loaded ≡ load.Done)
       × IsSummary packets (length packed.loads.pairs)
       (set_of (h ++ events_of packed.loads.acts)) (string_bytes text))
-      (λ ended. ((loaded ≡ load.Done) × Breaks (set_of (h ++ events_of packed.loads.acts)) ended)
+      (λ ended. ((loaded ≡ load.Done) × AnswerFails (set_of (h ++ events_of packed.loads.acts)) ended)
       ⊎ EndsUnloaded loaded ended)
 
 -- the ways in which there is no summary
-abbrev pub IsUnsummed : DrillEnd → Type 0
-IsUnsummed end.Done = ⊥
-IsUnsummed end.WriteFault = ⊥
-IsUnsummed ended = ⊤
+abbrev pub HasNoSummary : DrillEnd → Type 0
+HasNoSummary end.Done = ⊥
+HasNoSummary end.WriteFault = ⊥
+HasNoSummary ended = ⊤
 
 -- a summary was written, or a prefix of it as writing failed; or there was none to write
 abbrev pub EndsWriting : Result (String Global) DrillEnd → Option (List ℕ) → Option (List ℕ)

@@ -10,7 +10,7 @@ ghost use Rattle.st_pcap.specs.declared.forms.Unit.TheVariants.{Micro};
 ghost use Rattle.st_answer.specs.Packets.{IsWholeSet};
 ghost use Rattle.st_answer.specs.Replies.{Blames, AsksOnce, HasDiskCause};
 ghost use Rattle.st_answer.specs.Stores.{IsSpent, StayHeld, asked};
-ghost use Rattle.st_drill.specs.Asking.{asked_of, Counts, Breaks, BreaksBy, IsBreak, TellsReply, HasShelfCause, StaysOpen};
+ghost use Rattle.st_drill.specs.Asking.{asked_of, Counts, AnswerFails, AnswerFailsBy, IsAnswerFailure, TellsReply, HasShelfCause, StaysOpen};
 ghost use Rattle.st_drill.specs.Summary.{told_of};
 
 use crate::ends::DrillEnd;
@@ -52,7 +52,7 @@ fn counted<S: Store>(alloc: Global, store: &mut S, query: &Query) -> Result<Told
 
 // How a drill ends whose answer failed so; the sink of the answer never does.
 fn broken(error: AnswerErr) -> DrillEnd
-    ensures { BreaksBy error result }
+    ensures { AnswerFailsBy error result }
 {
     match error {
         AnswerErr::DiskFault => DrillEnd::DiskFault,
@@ -72,8 +72,8 @@ fn ask<D: Shelf>(
         → D.log spool.old.shelf ≡ Some log
         → StandsFor IsWholePair (D.log spool.old.shelf) spool.old.state earlier h f
         → MatchResult result
-        (λ told. IsWholeSet (set_of h) → Counts (set_of h) question told) (Breaks (set_of h)) }
-    ensures breaks { IfErr result IsBreak }
+        (λ told. IsWholeSet (set_of h) → Counts (set_of h) question told) (AnswerFails (set_of h)) }
+    ensures breaks { IfErr result IsAnswerFailure }
     ensures disk { HasShelfCause (D.faults spool.old.shelf) (D.faults spool.new.shelf) result }
     // what stays
     ensures stays { StaysOpen D.log D.id D.loans spool.old spool.new }
@@ -100,8 +100,8 @@ pub fn ask_all<D: Shelf>(alloc: Global, spool: &mut Spool<D, Indexed>) -> Result
         → MatchResult result
         (λ answers. IsWholeSet (set_of h)
         → (q : Question) → Counts (set_of h) q (told_of answers q))
-        (Breaks (set_of h)) }
-    ensures breaks { IfErr result IsBreak }
+        (AnswerFails (set_of h)) }
+    ensures breaks { IfErr result IsAnswerFailure }
     ensures disk { HasShelfCause (D.faults spool.old.shelf) (D.faults spool.new.shelf) result }
     // what stays
     ensures stays { StaysOpen D.log D.id D.loans spool.old spool.new }

@@ -8,7 +8,7 @@ ghost use Rattle.st_pairs.specs.Pairs.{IsWholePair};
 ghost use Rattle.st_spool.specs.Standing.{StandsFor};
 ghost use Rattle.st_drill.specs.Asking.{HasShelfCause};
 ghost use Rattle.st_drill.specs.Drilling.{Drills, EndsUnloaded, SaysDrill};
-ghost use Rattle.st_drill.specs.Summarizing.{CanEnd, EndsUnopened, IsUnsummed, LoadsAll, Summarizes, KeepsShelf, EndsWriting};
+ghost use Rattle.st_drill.specs.Summarizing.{LoadCanEnd, EndsUnopened, HasNoSummary, LoadsAll, Summarizes, KeepsShelf, EndsWriting};
 
 use crate::asking::ask_all;
 use crate::ends::DrillEnd;
@@ -44,7 +44,7 @@ fn unopened(cause: EnterErr) -> DrillEnd
 // The lines of the pairs are kept in memory, so that writing them fails only if memory runs out.
 // The input is whole, its packets fit a block, and it never fails, so the last three never come.
 fn unloaded(end: LoadEnd) -> Option<DrillEnd>
-    requires { CanEnd end }
+    requires { LoadCanEnd end }
     ensures { MatchOption result (end ≡ LoadEnd.Done) (EndsUnloaded end) }
 {
     match end {
@@ -88,7 +88,7 @@ fn load_packets<D: Shelf, C: Clock>(
         → LoadsAll packets spool.old.state.limit (D.log spool.old.shelf) (D.log spool.new.shelf)
         spool.old.state spool.new.state earlier h
         (C.to_come clock.old) (C.to_come clock.new) result }
-    ensures says { IfErr result (λ e. SaysDrill e × IsUnsummed e) }
+    ensures says { IfErr result (λ e. SaysDrill e × HasNoSummary e) }
     // the counts, and what stays
     ensures disk { HasShelfCause (D.faults spool.old.shelf) (D.faults spool.new.shelf) result }
     ensures stays { KeepsShelf D.id D.loans spool.old spool.new }
@@ -125,7 +125,7 @@ fn summarize<D: Shelf, C: Clock>(
         → Summarizes packets spool.old.state.limit (D.log spool.old.shelf) (D.log spool.new.shelf)
         spool.old.state spool.new.state earlier h
         (C.to_come clock.old) (C.to_come clock.new) result }
-    ensures says { IfErr result (λ e. SaysDrill e × IsUnsummed e) }
+    ensures says { IfErr result (λ e. SaysDrill e × HasNoSummary e) }
     // the counts, and what stays
     ensures disk { HasShelfCause (D.faults spool.old.shelf) (D.faults spool.new.shelf) result }
     ensures stays { KeepsShelf D.id D.loans spool.old spool.new }
@@ -146,7 +146,7 @@ fn summarize<D: Shelf, C: Clock>(
 
 // Writes the summary by one `put`, if there is one, and answers how the drill ended.
 fn written<O: Sink>(summed: Result<String, DrillEnd>, out: &mut O) -> DrillEnd
-    requires { IfErr summed IsUnsummed }
+    requires { IfErr summed HasNoSummary }
     ensures ends { EndsWriting summed (O.written out.old) (O.written out.new) result }
     ensures write { RoseJustIf (result ≡ DrillEnd.WriteFault)
         (O.faults out.old) (O.faults out.new) }
@@ -161,13 +161,15 @@ fn written<O: Sink>(summed: Result<String, DrillEnd>, out: &mut O) -> DrillEnd
     }
 }
 
-/// Makes this many packets, at most 1,000,000, and loads them into the spool of a shelf; then asks
-/// four queries over all pairs of the spool, and writes the summary to `out` by one `put`.
+/// Opens the spool of a shelf, makes this many packets, at most 1,000,000, and loads them into it;
+/// then asks four queries over all pairs of the spool, earlier ones too, and writes the summary to
+/// `out` by one `put`.
 ///
-/// The packets become pairs of at most 16 blocks of 65,536 bytes. The clock, in microseconds since
-/// 1970, is read once for each pair; its stamp is not below that. Nothing is written unless all
-/// packets were loaded and all queries answered. `WriteFault` comes only if the output's count of
-/// faults rose, `DiskFault` only if the shelf's did; `Damaged` names a pair that isn't whole.
+/// The packets become pairs of at most 16 blocks of 65,536 bytes; the spool keeps 65,535 pairs. The
+/// clock, in microseconds since 1970, is read once for each pair; its stamp is not below that.
+/// Nothing is written unless all packets were loaded and all queries answered. `WriteFault` comes
+/// only if the output's count of faults rose, `DiskFault` only if the shelf's did; `Damaged` names
+/// a pair that isn't whole.
 /// Source: docs/FORMAT.md, "Drill".
 pub fn drill<D: Shelf, O: Sink, C: Clock>(
     alloc: Global,

@@ -1,9 +1,9 @@
 //! The drill of a spool: packets that are made from their numbers, and four queries over them.
 //!
 //! Packet k, counted from 0, has 64 bytes, of which protocol, addresses and ports depend on k;
-//! there is one every ten milliseconds from 2001-09-09T01:46:40Z on. The packets come as a pcap in
-//! nanoseconds, at most 1,000,000 of them. They are loaded into a spool, and the queries asked over
-//! all of its pairs. All of it is ours: docs/FORMAT.md, "Drill".
+//! there is one every ten milliseconds from 2001-09-09T01:46:40Z on. At most 1,000,000 packets come
+//! as a pcap with times in nanoseconds. They are loaded into a spool, and the queries are asked
+//! over all of its pairs. All of it is ours: docs/FORMAT.md, "Drill".
 //!
 //! # What it promises
 //!

@@ -15,9 +15,9 @@ pub enum Question {
     Dns,
     /// Those of TCP with an address of 10.0.0.0/25.
     NearTcp,
-    /// The first 10,000.
+    /// Those before 2001-09-09T01:48:20Z: of a drill's packets the first 10,000.
     Early,
-    /// All that follow them.
+    /// Those of that second or later: of a drill's packets all others.
     Late,
 }
 
@@ -44,7 +44,7 @@ impl Question {
         parse(alloc, self.text().as_bytes())
     }
 
-    /// The query. `NoMemory` is its one error.
+    /// The query that `text` spells. `NoMemory` is the only error.
     pub fn query(self, alloc: Global) -> Result<Query, NoMemory>
         ensures { IfOk result (λ q. tree q ≡ question_tree self) }
     {

@@ -6,7 +6,7 @@ use crate::questions::Question;
 use st_answer::Told;
 use std::alloc::{AllocError, Global};
 
-/// The numbers of the answers to the four queries.
+/// For each of the four queries how many packets match, and how many bytes they are as a pcap.
 #[derive(Clone, Copy, Debug, PartialEq, Eq)]
 pub struct Answers {
     pub dns: Told,

@@ -9,7 +9,7 @@ use Rattle.st_pcap.specs.Input.{Whole, Refused}
 use Rattle.st_plan.specs.declared.jobs.LanePlan.{LanePlan}
 use Rattle.st_load.specs.Stopping.{StopsAfter}
 use Rattle.st_load.specs.Job.{AreFirstLists, Takes}
-use Rattle.st_load.specs.Loading.{Rest, EndsInput, AreOf}
+use Rattle.st_load.specs.Loading.{Rest, EndsInput, AreCutFrom}
 use Rattle.st_load.specs.declared.ends.LoadEnd.{LoadEnd}
 use Rattle.st_load.specs.declared.ends.LoadEnd.TheVariants as end
 use Rattle.st_load.proofs.Lists.{ends_longest, last_longest, one_more, all_both, all_none, all_one, some_taken}
@@ -61,7 +61,7 @@ any_ends end.NoMemory rest is = tt
 
 -- where the next record is short, whatever follows
 short_of : (layout : LanePlan) (bytes : List ℕ) (e : LoadEnd) (done : List (List Rec)) (before : List Rec) (first : Rec) → CutSoFar layout.size layout.blocks done before first → IsShort layout.size first
-    → IsInputOf bytes (before ++ first ∷ []) → ((more : List Rec) → IsAnyEnd e (first ∷ more)) → AreOf layout bytes e done
+    → IsInputOf bytes (before ++ first ∷ []) → ((more : List Rec) → IsAnyEnd e (first ∷ more)) → AreCutFrom layout bytes e done
 short_of layout bytes e done before first cut short (more, ended, input) any =
     let (taken, others, takes) = some_taken layout.size more in
     let rest : Rest = record { input = ended; taken = before ++ first ∷ taken; others = others; left = first ∷ taken } in
@@ -80,7 +80,7 @@ short_of layout bytes e done before first cut short (more, ended, input) any =
 
 -- before the first list
 first_of : (layout : LanePlan) (bytes : List ℕ) (e : LoadEnd) (before : List Rec) (first : Rec) → IsInputOf bytes (before ++ first ∷ []) → ((left : List Rec) → IsAnyEnd e left)
-    → AreOf layout bytes e []
+    → AreCutFrom layout bytes e []
 first_of layout bytes e before first (more, ended, input) any =
     let (taken, others, takes) = some_taken layout.size ((before ++ first ∷ []) ++ more) in
     let rest : Rest = record { input = ended; taken = taken; others = others; left = taken } in
@@ -92,13 +92,13 @@ IsFault e = (left : List Rec) → IsAnyEnd e left
 
 -- a load that is stopped by a fault
 pub fault_of : (layout : LanePlan) (bytes : List ℕ) (e : LoadEnd) (done : List (List Rec)) (before : List Rec) (first : Rec) → CutSoFar layout.size layout.blocks done before first
-    → IsInputOf bytes (before ++ first ∷ []) → IsFault e → AreOf layout bytes e done
+    → IsInputOf bytes (before ++ first ∷ []) → IsFault e → AreCutFrom layout bytes e done
 fault_of layout bytes e [] before first cut input fault = first_of layout bytes e before first input fault
 fault_of layout bytes e (l ∷ done) before first cut input fault = short_of layout bytes e (l ∷ done) before first cut (cut.next (omega arith)) input (λ more. fault (first ∷ more))
 
 -- a load that is stopped with a record at hand that is short
 pub left_of : (layout : LanePlan) (bytes : List ℕ) (e : LoadEnd) (done : List (List Rec)) (before : List Rec) (first : Rec) → CutSoFar layout.size layout.blocks done before first → IsShort layout.size first
-    → IsInputOf bytes (before ++ first ∷ []) → ((more : List Rec) → IsAnyEnd e (first ∷ more)) → AreOf layout bytes e done
+    → IsInputOf bytes (before ++ first ∷ []) → ((more : List Rec) → IsAnyEnd e (first ∷ more)) → AreCutFrom layout bytes e done
 left_of layout bytes e done before first cut short input any = short_of layout bytes e done before first cut short input any
 
 -- the last list, where the input stops after it
@@ -115,7 +115,7 @@ whole_takes size rs short = record { are = sym (append-nil rs); short = short; e
 -- a load of all records up to the stop; `said` is that stop or a fault
 pub ended_of : (layout : LanePlan) (bytes : List ℕ) (e said : LoadEnd) (done : List (List Rec)) (before : List Rec) (first : Rec) (more : List Rec)
     → CutSoFar layout.size layout.blocks done before first → All (IsShort layout.size) (first ∷ more) → length (blocks layout.size (first ∷ more)) ≤ layout.blocks
-    → StopsAfter layout.size bytes (before ++ first ∷ more) e → (said ≡ e) ⊎ IsFault said → AreOf layout bytes said (done ++ (first ∷ more) ∷ [])
+    → StopsAfter layout.size bytes (before ++ first ∷ more) e → (said ≡ e) ⊎ IsFault said → AreCutFrom layout bytes said (done ++ (first ∷ more) ∷ [])
 ended_of layout bytes end.Done said done before first more cut short fits stops how =
     let taken = before ++ first ∷ more in
     let rest : Rest = record { input = Whole; taken = taken; others = []; left = [] } in
@@ -163,7 +163,7 @@ none_before size most (r ∷ before) first cut =
     absurd (omega arith)
 
 -- a load that stops before it took a record
-pub stop_of : (layout : LanePlan) (bytes : List ℕ) (e : LoadEnd) → StopsAfter layout.size bytes [] e → AreOf layout bytes e []
+pub stop_of : (layout : LanePlan) (bytes : List ℕ) (e : LoadEnd) → StopsAfter layout.size bytes [] e → AreCutFrom layout bytes e []
 stop_of layout bytes end.Done input = record { records = []; rest = record { input = Whole; taken = []; others = []; left = [] }; input = input; takes = whole_takes layout.size [] (all_none (IsShort layout.size)); lists = refl; ends = (refl, refl, refl) }
 stop_of layout bytes (end.BadInput x) input = record { records = []; rest = record { input = Refused x; taken = []; others = []; left = [] }; input = input; takes = whole_takes layout.size [] (all_none (IsShort layout.size)); lists = refl; ends = (refl, refl, refl) }
 stop_of layout bytes (end.TooLong number len) (r, later, ended, input, long, size, count) = record { records = r ∷ later; rest = record { input = ended; taken = []; others = r ∷ later; left = [] }; input = input; takes = record { are = refl; short = all_none (IsShort layout.size); ends = long }; lists = refl; ends = (r, later, refl, size, count, refl) }
@@ -175,13 +175,13 @@ stop_of layout bytes end.NoMemory stops = absurd stops
 
 -- a load whose first record is too long: no list is full
 pub long_of : (layout : LanePlan) (bytes : List ℕ) (e : LoadEnd) (done : List (List Rec)) (before : List Rec) (first : Rec)
-    → CutSoFar layout.size layout.blocks done before first → (IsShort layout.size first → ⊥) → StopsAfter layout.size bytes (before ++ []) e → AreOf layout bytes e done
+    → CutSoFar layout.size layout.blocks done before first → (IsShort layout.size first → ⊥) → StopsAfter layout.size bytes (before ++ []) e → AreCutFrom layout bytes e done
 long_of layout bytes e (l ∷ done) before first cut long stops = absurd (long (cut.next (omega arith)))
 long_of layout bytes e [] before first cut long stops =
     stop_of layout bytes e (subst (λ xs. StopsAfter layout.size bytes xs e) (append-nil before ∙ none_before layout.size layout.blocks before first cut) stops)
 
 -- a load that a fault stops before it took a record
-pub unread_of : (layout : LanePlan) (bytes : List ℕ) (e : LoadEnd) → IsFault e → AreOf layout bytes e []
+pub unread_of : (layout : LanePlan) (bytes : List ℕ) (e : LoadEnd) → IsFault e → AreCutFrom layout bytes e []
 unread_of layout bytes e fault =
     let (rs, ended, input) = some_input bytes in
     let (taken, others, takes) = some_taken layout.size rs in

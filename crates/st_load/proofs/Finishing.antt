@@ -22,8 +22,8 @@ use Rattle.st_spool.specs.declared.state.Doubt.{Doubt}
 use Rattle.st_spool.specs.declared.state.Doubt.TheVariants as doubt
 use Rattle.st_spool.proofs.Histories.{set_more}
 use Rattle.st_load.specs.Acts.{Act, Happens, Writes, line_text, events_of, lines_of, happen, removals, newest}
-use Rattle.st_load.specs.Job.{Course, Adds, AddsAll}
-use Rattle.st_load.specs.Loading.{Covered, Loads, EndsJob, WritesLines, course}
+use Rattle.st_load.specs.Job.{Situation, Adds, AddsAll}
+use Rattle.st_load.specs.Loading.{Covered, Loads, EndsJob, WritesLines, situation}
 use Rattle.st_load.specs.Publishing.{Ages, AgesAll, AtMost, AddsPair, WritesLine}
 use Rattle.st_load.specs.declared.ends.LoadEnd.{LoadEnd}
 use Rattle.st_load.specs.declared.ends.LoadEnd.TheVariants as end
@@ -71,8 +71,8 @@ pub begun_none : (before known : Option Log) (h es : List Event) (d : Doubt) (f 
 begun_none before known h es d f is covered = subst (λ (x : Doubt). Covered before known h es (begun x f)) (sym is) covered
 
 -- nothing was done
-pub nothing_done : (Job : List (List Rec) → List Act → Course → Type 0) (Are : List (List Rec) → Type 0) (e : LoadEnd) (before known : Option Log) (st : SpoolState) (earlier h : List Event) (f : Files)
-    (times old new : Option (List ℕ)) (final : Course) → Job [] [] final → Are [] → EndsJob e [] final times → WritesLines e [] [] old new
+pub nothing_done : (Job : List (List Rec) → List Act → Situation → Type 0) (Are : List (List Rec) → Type 0) (e : LoadEnd) (before known : Option Log) (st : SpoolState) (earlier h : List Event) (f : Files)
+    (times old new : Option (List ℕ)) (final : Situation) → Job [] [] final → Are [] → EndsJob e [] final times → WritesLines e [] [] old new
     → StandsFor IsWholePair known st earlier h f → st.doubt ≡ doubt.Nothing → Covered before known h [] [] → Loads Job Are e before known st earlier h times old new
 nothing_done Job Are e before known st earlier h f times old new final job are ends lines stands calm covered = record {
   pairs = [];
@@ -89,8 +89,8 @@ nothing_done Job Are e before known st earlier h f times old new final job are e
 module _ (limit size : ℕ) (before : SpoolState) (earlier h : List Event) (rs : List Rec) (was times : Option (List ℕ)) (floor : ℕ) (e : Entry)
     (left : before.last < 2 ^ 64 - 1) (ticks : Ticks was times floor) (stamp : e.stamp ≡ next_stamp before.last floor)
     (whole : AreWhole size rs (Some e.block) (Some e.index)) where
-  abbrev start : Course
-  start = course h before was
+  abbrev start : Situation
+  start = situation h before was
 
   abbrev gone : List Event
   gone = removals limit (set_of h ++ e ∷ [])
@@ -98,7 +98,7 @@ module _ (limit size : ℕ) (before : SpoolState) (earlier h : List Event) (rs :
   abbrev all_acts : List Act
   all_acts = Happens (Publish e) ∷ Writes e.stamp (length rs) ∷ happen gone
 
-  abbrev final : Course
+  abbrev final : Situation
   final = record { set = newest limit (set_of h ++ e ∷ []); last = e.stamp; times = times }
 
   adds_final : Adds limit size start final rs all_acts

@@ -17,8 +17,8 @@ use Rattle.st_load.specs.Acts.{Act, line_text, events_of, lines_of, happen}
 use Rattle.st_load.specs.Causes.{IsFailure}
 use Rattle.st_load.specs.Filling.{IsFillFault}
 use Rattle.st_load.specs.Stopping.{IsInputEnd}
-use Rattle.st_load.specs.Job.{Course, AddsAll}
-use Rattle.st_load.specs.Loading.{Covered, Loads, EndsJob, WritesLines, course}
+use Rattle.st_load.specs.Job.{Situation, AddsAll}
+use Rattle.st_load.specs.Loading.{Covered, Loads, EndsJob, WritesLines, situation}
 use Rattle.st_load.specs.declared.ends.LoadEnd.{LoadEnd}
 use Rattle.st_load.specs.declared.ends.LoadEnd.TheVariants as end
 use Rattle.st_load.proofs.Covered.{covered_then}
@@ -46,9 +46,9 @@ lines_more (end.StampsSpent last) xs bs to_come a b c p q = subst (Appends a c) 
 lines_more end.NoMemory xs bs to_come a b c p q = subst (Appends a c) (sym (lines_append xs bs)) (Appends-trans a b c (lines_of xs) (lines_of bs) p q)
 
 -- what a load did after these acts and pairs
-pub loads_after : (Job Job2 : List (List Rec) → List Act → Course → Type 0) (Are Are2 : List (List Rec) → Type 0) (e : LoadEnd) (first mid known : Option Log) (st : SpoolState) (earlier h : List Event)
+pub loads_after : (Job Job2 : List (List Rec) → List Act → Situation → Type 0) (Are Are2 : List (List Rec) → Type 0) (e : LoadEnd) (first mid known : Option Log) (st : SpoolState) (earlier h : List Event)
     (times a b c : Option (List ℕ)) (done : List (List Rec)) (acts : List Act)
-    → ((p : List (List Rec)) (more : List Act) (final : Course) → Job2 p more final → Job (done ++ p) (acts ++ more) final)
+    → ((p : List (List Rec)) (more : List Act) (final : Situation) → Job2 p more final → Job (done ++ p) (acts ++ more) final)
     → ((p : List (List Rec)) → Are2 p → Are (done ++ p)) → Appends a b (lines_of acts) → Covered first mid h (events_of acts) []
     → Loads Job2 Are2 e mid known st earlier (h ++ events_of acts) times b c → Loads Job Are e first known st earlier h times a c
 loads_after Job Job2 Are Are2 e first mid known st earlier h times a b c done acts jobs ares lines covered loads = record {
@@ -80,7 +80,7 @@ IsQuiet end.DiskFault = ⊤
 IsQuiet (end.StampsSpent last) = ⊥
 IsQuiet end.NoMemory = ⊤
 
-quiet_ends : (e : LoadEnd) (c : Course) → IsQuiet e → EndsJob e [] c c.times
+quiet_ends : (e : LoadEnd) (c : Situation) → IsQuiet e → EndsJob e [] c c.times
 quiet_ends end.Done c q = (refl, refl)
 quiet_ends (end.BadInput e) c q = (refl, refl)
 quiet_ends (end.TooLong n len) c q = (refl, refl)
@@ -124,8 +124,8 @@ pub failure_fill : (e : LoadEnd) → IsFailure e → IsFillFault e
 failure_fill e is = ⊎_elim (λ disk. subst IsFillFault (sym disk) tt) (λ memory. subst IsFillFault (sym memory) tt) is
 
 -- a load that ends before a pair is begun
-pub ends_between : (Job : List (List Rec) → List Act → Course → Type 0) (Are : List (List Rec) → Type 0) (e : LoadEnd) (first known : Option Log) (st : SpoolState) (earlier h : List Event) (f : Files)
-    (times old new : Option (List ℕ)) (done : List (List Rec)) (acts : List Act) → Job done acts (course (h ++ events_of acts) st times) → Are done → IsQuiet e
+pub ends_between : (Job : List (List Rec) → List Act → Situation → Type 0) (Are : List (List Rec) → Type 0) (e : LoadEnd) (first known : Option Log) (st : SpoolState) (earlier h : List Event) (f : Files)
+    (times old new : Option (List ℕ)) (done : List (List Rec)) (acts : List Act) → Job done acts (situation (h ++ events_of acts) st times) → Are done → IsQuiet e
     → Appends old new (lines_of acts) → StandsFor IsWholePair known st earlier (h ++ events_of acts) f → st.doubt ≡ doubt.Nothing
     → Covered first known h (events_of acts) [] → Loads Job Are e first known st earlier h times old new
 ends_between Job Are e first known st earlier h f times old new done acts job are quiet lines stands calm covered = record {
@@ -134,9 +134,9 @@ ends_between Job Are e first known st earlier h f times old new done acts job ar
   acts = acts;
   to_come = [];
   did = record {
-    final = course (h ++ events_of acts) st times;
-    job = subst (λ (xs : List Act). Job done xs (course (h ++ events_of acts) st times)) (sym (append-nil acts)) job;
-    ends = quiet_ends e (course (h ++ events_of acts) st times) quiet;
+    final = situation (h ++ events_of acts) st times;
+    job = subst (λ (xs : List Act). Job done xs (situation (h ++ events_of acts) st times)) (sym (append-nil acts)) job;
+    ends = quiet_ends e (situation (h ++ events_of acts) st times) quiet;
     lines = quiet_lines e acts old new quiet lines;
   };
   f = f;
@@ -147,13 +147,13 @@ ends_between Job Are e first known st earlier h f times old new done acts job ar
 
 -- How far a load came before the pair that this record begins. `Given` are the bytes that it has,
 -- and `Read` says which records of them were read.
-pub record SoFar (limit : ℕ) (layout : LanePlan) (start : Course) (was known : Option Log) (st : SpoolState) (earlier h : List Event) (f : Files) (times old new : Option (List ℕ))
+pub record SoFar (limit : ℕ) (layout : LanePlan) (start : Situation) (was known : Option Log) (st : SpoolState) (earlier h : List Event) (f : Files) (times old new : Option (List ℕ))
     (Given : List ℕ → Type 0) (Read : List ℕ → List Rec → Type 0) (first : Rec) (number : ℕ) : Type 0 where
   pub log : Log
   pub is : known ≡ Some log
   pub done : List (List Rec)
   pub acts : List Act
-  pub adds : AddsAll limit layout.size start done acts (course (h ++ events_of acts) st times)
+  pub adds : AddsAll limit layout.size start done acts (situation (h ++ events_of acts) st times)
   pub stands : StandsFor IsWholePair known st earlier (h ++ events_of acts) f
   pub lines : Appends old new (lines_of acts)
   pub images : Covered was known h (events_of acts) []

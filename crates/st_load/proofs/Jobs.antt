@@ -6,7 +6,7 @@ use Rattle.st_base.specs.Records.{Rec}
 use Rattle.st_disk.specs.Events.{Event, Remove}
 use Rattle.st_disk.specs.Pairs.{Entry}
 use Rattle.st_load.specs.Acts.{Act, Happens, Writes, line_text, events_of, lines_of, happen, removal, removals, newest}
-use Rattle.st_load.specs.Job.{Course, Adds, AddsAll}
+use Rattle.st_load.specs.Job.{Situation, Adds, AddsAll}
 
 pub events_append : (xs bs : List Act) → events_of (xs ++ bs) ≡ events_of xs ++ events_of bs
 events_append [] bs = refl
@@ -52,12 +52,12 @@ newest_all limit set within =
     ap (λ k. drop k set) n
 
 -- pairs that are added one after the other
-pub add_more : (limit size : ℕ) (a b c : Course) (xs ys : List (List Rec)) (acts more : List Act) → AddsAll limit size a xs acts b → AddsAll limit size b ys more c
+pub add_more : (limit size : ℕ) (a b c : Situation) (xs ys : List (List Rec)) (acts more : List Act) → AddsAll limit size a xs acts b → AddsAll limit size b ys more c
     → AddsAll limit size a (xs ++ ys) (acts ++ more) c
 add_more limit size a b c [] ys acts more (none, same) adds =
-    subst (λ (l : List Act). AddsAll limit size a ys (l ++ more) c) (sym none) (subst (λ (x : Course). AddsAll limit size x ys more c) same adds)
+    subst (λ (l : List Act). AddsAll limit size a ys (l ++ more) c) (sym none) (subst (λ (x : Situation). AddsAll limit size x ys more c) same adds)
 add_more limit size a b c (rs ∷ xs) ys acts more (mid, first, later, is, add, adds) others =
     (mid, first, later ++ more, ap (λ (l : List Act). l ++ more) is ∙ append_assoc first later more, add, add_more limit size mid b c xs ys later more adds others)
 
-pub add_one : (limit size : ℕ) (a b : Course) (rs : List Rec) (acts : List Act) → Adds limit size a b rs acts → AddsAll limit size a (rs ∷ []) acts b
+pub add_one : (limit size : ℕ) (a b : Situation) (rs : List Rec) (acts : List Act) → Adds limit size a b rs acts → AddsAll limit size a (rs ∷ []) acts b
 add_one limit size a b rs acts add = (b, acts, [], sym (append-nil acts), add, (refl, refl))

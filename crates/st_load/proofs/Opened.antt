@@ -20,7 +20,7 @@ use Rattle.st_spool.proofs.Covering.{covers_opening}
 use Rattle.st_load.specs.Acts.{Act, events_of, lines_of, happen}
 use Rattle.st_load.specs.Causes.{IsFailure, EndsUnopened}
 use Rattle.st_load.specs.Job.{IsJob}
-use Rattle.st_load.specs.Loading.{Loads, EndsJob, AreOf, WritesLines, course}
+use Rattle.st_load.specs.Loading.{Loads, EndsJob, AreCutFrom, WritesLines, situation}
 use Rattle.st_load.specs.Opening.{LoadsOpened, LoadsShelf}
 use Rattle.st_load.specs.Publishing.{Runs}
 use Rattle.st_load.specs.declared.ends.LoadEnd.{LoadEnd}
@@ -50,7 +50,7 @@ is_disk end.NoMemory = inr (λ is. absurd (cc))
 
 module _ (limit : ℕ) (layout : LanePlan) (first : Log) (mid known : Option Log) (left times times_now old new : Option (List ℕ)) (e : LoadEnd) (st before : SpoolState)
     (entered : Enters IsWholePair first mid before) (lim : st.limit ≡ limit)
-    (l : Loads (IsJob limit layout.size (course (Found entered.pairs ∷ []) before times)) (λ pairs. (bytes : List ℕ) → left ≡ Some bytes → AreOf layout bytes e pairs) e mid known st (events first) (Found entered.pairs ∷ []) times_now old new) where
+    (l : Loads (IsJob limit layout.size (situation (Found entered.pairs ∷ []) before times)) (λ pairs. (bytes : List ℕ) → left ≡ Some bytes → AreCutFrom layout bytes e pairs) e mid known st (events first) (Found entered.pairs ∷ []) times_now old new) where
   abbrev h : List Event
   h = Found entered.pairs ∷ []
 
@@ -115,7 +115,7 @@ module _ (limit : ℕ) (layout : LanePlan) (first : Log) (mid known : Option Log
         to_come = later;
         did = record {
           final = l.did.final;
-          job = subst (λ (xs : List Act). IsJob limit layout.size (course h before times) l.pairs xs l.did.final)
+          job = subst (λ (xs : List Act). IsJob limit layout.size (situation h before times) l.pairs xs l.did.final)
               (ap (λ (xs : List Act). l.acts ++ xs) l.doubt.1 ∙ sym (append_assoc l.acts (happen d) later)) l.did.job;
           ends = subst (λ (x : LoadEnd). EndsJob x later l.did.final times_now) (sym disk) tt;
           lines = subst (λ (x : LoadEnd). WritesLines x (l.acts ++ happen d) later old new) (sym disk)
@@ -146,13 +146,13 @@ module _ (limit : ℕ) (layout : LanePlan) (first : Log) (mid known : Option Log
 pub load_opened : (limit : ℕ) (layout : LanePlan) (first : Log) (mid known : Option Log) (left times times_now old new : Option (List ℕ)) (e : LoadEnd) (st before : SpoolState) → Enters IsWholePair first mid before
     → before.limit ≡ limit → Runs before st → ((e ≡ end.DiskFault → ⊥) → st.halted ≡ None)
     → ((log : Log) (earlier h : List Event) (f : Files) → mid ≡ Some log → StandsFor IsWholePair mid before earlier h f
-    → Loads (IsJob before.limit layout.size (course h before times)) (λ pairs. (bytes : List ℕ) → left ≡ Some bytes → AreOf layout bytes e pairs) e mid known st earlier h times_now old new)
+    → Loads (IsJob before.limit layout.size (situation h before times)) (λ pairs. (bytes : List ℕ) → left ≡ Some bytes → AreCutFrom layout bytes e pairs) e mid known st earlier h times_now old new)
     → LoadsShelf limit layout first known left times times_now old new e
 load_opened limit layout first mid known left times times_now old new e st before entered lim keeps runs job =
     let none : Files = record { block = []; index = [] } in
     let h = Found entered.pairs ∷ [] in
     let one = job entered.images.cleared.log (events first) h none entered.images.cleared.is (entered.stands none) in
-    let l = subst (λ (n : ℕ). Loads (IsJob n layout.size (course h before times)) (λ pairs. (bytes : List ℕ) → left ≡ Some bytes → AreOf layout bytes e pairs) e mid known st (events first) h times_now old new) lim one in
+    let l = subst (λ (n : ℕ). Loads (IsJob n layout.size (situation h before times)) (λ pairs. (bytes : List ℕ) → left ≡ Some bytes → AreCutFrom layout bytes e pairs) e mid known st (events first) h times_now old new) lim one in
     inl (opened limit layout first mid known left times times_now old new e st before entered (keeps.0 ∙ lim) l (λ other. calm known st (events first) (h ++ events_of l.acts) l.f l.stands (runs other)))
 
 -- a shelf that was not opened

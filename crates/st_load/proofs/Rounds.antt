@@ -17,9 +17,9 @@ use Rattle.st_spool.specs.States.{SpoolState, SpoolView}
 use Rattle.st_load.specs.Acts.{events_of}
 use Rattle.st_load.specs.Filling.{HasReadTo, Fills, IsFillFault}
 use Rattle.st_load.specs.Stopping.{StopsAfter, IsInputEnd}
-use Rattle.st_load.specs.Job.{Course, AddsAll}
+use Rattle.st_load.specs.Job.{Situation, AddsAll}
 use Rattle.st_load.specs.Lanes.{KeepsSpool}
-use Rattle.st_load.specs.Loading.{Loads, AreOf, course}
+use Rattle.st_load.specs.Loading.{Loads, AreCutFrom, situation}
 use Rattle.st_load.specs.Publishing.{AddsPair, AtMost}
 use Rattle.st_load.specs.declared.ends.LoadEnd.{LoadEnd}
 use Rattle.st_load.specs.declared.ends.LoadEnd.TheVariants as end
@@ -60,7 +60,7 @@ no_records [] n is none = refl
 no_records (r ∷ rs) n is none = absurd (omega (arith, is, none))
 
 -- calls that change no pair
-pub round_keeps : {D : Type 0} (log : D → Option Log) (a b : SpoolView D) (limit : ℕ) (layout : LanePlan) (start : Course) (was : Option Log) (earlier h : List Event) (f : Files) (times old new : Option (List ℕ))
+pub round_keeps : {D : Type 0} (log : D → Option Log) (a b : SpoolView D) (limit : ℕ) (layout : LanePlan) (start : Situation) (was : Option Log) (earlier h : List Event) (f : Files) (times old new : Option (List ℕ))
     (Given : List ℕ → Type 0) (Read : List ℕ → List Rec → Type 0) (first : Rec) (number : ℕ)
     → SoFar limit layout start was (log a.shelf) a.state earlier h f times old new Given Read first number → a.state.halted ≡ None → KeepsSpool log a b
     → SoFar limit layout start was (log b.shelf) b.state earlier h f times old new Given Read first number
@@ -68,15 +68,15 @@ round_keeps {D} log a b limit layout start was earlier h f times old new Given R
     sofar_keeps limit layout start was earlier h f old Given (log a.shelf) (log b.shelf) a.state b.state times new Read first number s runs
     (ap (λ (v : SpoolView D). v.state) keeps.state) (keeps.keeps earlier (h ++ events_of s.acts) f s.stands)
 
-module _ (limit : ℕ) (layout : LanePlan) (start : Course) (was : Option Log) (earlier h : List Event) (f : Files) (old : Option (List ℕ)) (Given : List ℕ → Type 0)
+module _ (limit : ℕ) (layout : LanePlan) (start : Situation) (was : Option Log) (earlier h : List Event) (f : Files) (old : Option (List ℕ)) (Given : List ℕ → Type 0)
     (known : Option Log) (st : SpoolState) (times new : Option (List ℕ)) (reader : PcapReaderView) (left : Option (List ℕ)) (first : Rec) (number : ℕ)
     (s : SoFar limit layout start was known st earlier h f times old new Given (ReadBy reader left) first number) where
   abbrev Are : LoadEnd → List (List Rec) → Type 0
-  Are e pairs = (bytes : List ℕ) → Given bytes → AreOf layout bytes e pairs
+  Are e pairs = (bytes : List ℕ) → Given bytes → AreCutFrom layout bytes e pairs
 
   -- a fault while a lane is made or filled
   pub round_fails : (e : LoadEnd) → st.halted ≡ None → IsGoing reader.phase → IsFillFault e
-      → Loads (AddsAll limit layout.size start) (λ (pairs : List (List Rec)). (bytes : List ℕ) → Given bytes → AreOf layout bytes e pairs) e was known st earlier h times old new
+      → Loads (AddsAll limit layout.size start) (λ (pairs : List (List Rec)). (bytes : List ℕ) → Given bytes → AreCutFrom layout bytes e pairs) e was known st earlier h times old new
   round_fails e runs going fault =
       let (quiet, any) = fill_quiet e fault in
       sofar_ends limit layout start was earlier h f old Given known st times new (ReadBy reader left) first number s (Are e) e runs quiet
@@ -97,7 +97,7 @@ module _ (limit : ℕ) (layout : LanePlan) (start : Course) (was : Option Log) (
     -- the first record is too long
     pub round_long : (p : PcapReaderView) (now : Option (List ℕ)) (e : LoadEnd) → st.halted ≡ None → lane.filling.records ≡ 0 → IsInputEnd e
         → Fills written (λ bytes given. HasReadTo reader bytes (given ++ first ∷ []) left) first number lane p now (filled.Ended e)
-        → Loads (AddsAll limit layout.size start) (λ (pairs : List (List Rec)). (bytes : List ℕ) → Given bytes → AreOf layout bytes e pairs) e was known st earlier h times old new
+        → Loads (AddsAll limit layout.size start) (λ (pairs : List (List Rec)). (bytes : List ℕ) → Given bytes → AreCutFrom layout bytes e pairs) e was known st earlier h times old new
     round_long p now e runs none is_end (rs, has, begins, stops) =
         let nil = no_records rs lane.filling.records has.fills.count none in
         let long : IsShort layout.size first → ⊥ = ⊎_elim
@@ -110,24 +110,24 @@ module _ (limit : ℕ) (layout : LanePlan) (start : Course) (was : Option Log) (
         long_of layout bytes e s.done before first cut long (subst (λ (l : List Rec). StopsAfter layout.size bytes (before ++ l) e) nil at))
 
     module _ (lim : st.limit ≡ limit) (next : Option Log) (after : SpoolState) (later more_out : Option (List ℕ)) where
-      adds_at : (rs : List Rec) → AddsPair st.limit lane.filling.size (course (h ++ events_of s.acts) st times) rs known next after earlier (h ++ events_of s.acts) f later new more_out
-          → AddsPair limit layout.size (course (h ++ events_of s.acts) st times) rs known next after earlier (h ++ events_of s.acts) f later new more_out
+      adds_at : (rs : List Rec) → AddsPair st.limit lane.filling.size (situation (h ++ events_of s.acts) st times) rs known next after earlier (h ++ events_of s.acts) f later new more_out
+          → AddsPair limit layout.size (situation (h ++ events_of s.acts) st times) rs known next after earlier (h ++ events_of s.acts) f later new more_out
       adds_at rs pair =
-          subst (λ (n : ℕ). AddsPair n layout.size (course (h ++ events_of s.acts) st times) rs known next after earlier (h ++ events_of s.acts) f later new more_out) lim
-          (subst (λ (n : ℕ). AddsPair st.limit n (course (h ++ events_of s.acts) st times) rs known next after earlier (h ++ events_of s.acts) f later new more_out) size_is pair)
+          subst (λ (n : ℕ). AddsPair n layout.size (situation (h ++ events_of s.acts) st times) rs known next after earlier (h ++ events_of s.acts) f later new more_out) lim
+          (subst (λ (n : ℕ). AddsPair st.limit n (situation (h ++ events_of s.acts) st times) rs known next after earlier (h ++ events_of s.acts) f later new more_out) size_is pair)
 
       loads_at : (rs : List Rec) (e : LoadEnd)
-          → Loads (AddsAll st.limit lane.filling.size (course (h ++ events_of s.acts) st times)) (AtMost rs e) e known next after earlier (h ++ events_of s.acts) later new more_out
-          → Loads (AddsAll limit layout.size (course (h ++ events_of s.acts) st times)) (AtMost rs e) e known next after earlier (h ++ events_of s.acts) later new more_out
+          → Loads (AddsAll st.limit lane.filling.size (situation (h ++ events_of s.acts) st times)) (AtMost rs e) e known next after earlier (h ++ events_of s.acts) later new more_out
+          → Loads (AddsAll limit layout.size (situation (h ++ events_of s.acts) st times)) (AtMost rs e) e known next after earlier (h ++ events_of s.acts) later new more_out
       loads_at rs e loads =
-          subst (λ (n : ℕ). Loads (AddsAll n layout.size (course (h ++ events_of s.acts) st times)) (AtMost rs e) e known next after earlier (h ++ events_of s.acts) later new more_out) lim
-          (subst (λ (n : ℕ). Loads (AddsAll st.limit n (course (h ++ events_of s.acts) st times)) (AtMost rs e) e known next after earlier (h ++ events_of s.acts) later new more_out) size_is loads)
+          subst (λ (n : ℕ). Loads (AddsAll n layout.size (situation (h ++ events_of s.acts) st times)) (AtMost rs e) e known next after earlier (h ++ events_of s.acts) later new more_out) lim
+          (subst (λ (n : ℕ). Loads (AddsAll st.limit n (situation (h ++ events_of s.acts) st times)) (AtMost rs e) e known next after earlier (h ++ events_of s.acts) later new more_out) size_is loads)
 
       -- the next pair begins
       pub round_next : (p : PcapReaderView) (now : Option (List ℕ)) (r : Rec) (records : ℕ) → records ≡ lane.filling.records
           → Fills written (λ bytes given. HasReadTo reader bytes (given ++ first ∷ []) left) first number lane p now (filled.Ready r)
           → ((rs : List Rec) → Represents written lane rs
-          → AddsPair st.limit lane.filling.size (course (h ++ events_of s.acts) st times) rs known next after earlier (h ++ events_of s.acts) f later new more_out)
+          → AddsPair st.limit lane.filling.size (situation (h ++ events_of s.acts) st times) rs known next after earlier (h ++ events_of s.acts) f later new more_out)
           → SoFar limit layout start was next after earlier h f later old more_out Given (ReadBy p now) r (number + records)
       round_next p now r records count (more, has, short, ends, reads) fin =
           sofar_next limit layout start was earlier h f old Given known st times new (ReadBy reader left) first number s next after later more_out (ReadBy p now) more r records
@@ -138,8 +138,8 @@ module _ (limit : ℕ) (layout : LanePlan) (start : Course) (was : Option Log) (
       pub round_stops : (p : PcapReaderView) (now : Option (List ℕ)) (r : Rec) (e : LoadEnd) → IsGoing p.phase
           → Fills written (λ bytes given. HasReadTo reader bytes (given ++ first ∷ []) left) first number lane p now (filled.Ready r)
           → ((rs : List Rec) → Represents written lane rs
-          → Loads (AddsAll st.limit lane.filling.size (course (h ++ events_of s.acts) st times)) (AtMost rs e) e known next after earlier (h ++ events_of s.acts) later new more_out)
-          → Loads (AddsAll limit layout.size start) (λ (pairs : List (List Rec)). (bytes : List ℕ) → Given bytes → AreOf layout bytes e pairs) e was next after earlier h later old more_out
+          → Loads (AddsAll st.limit lane.filling.size (situation (h ++ events_of s.acts) st times)) (AtMost rs e) e known next after earlier (h ++ events_of s.acts) later new more_out)
+          → Loads (AddsAll limit layout.size start) (λ (pairs : List (List Rec)). (bytes : List ℕ) → Given bytes → AreCutFrom layout bytes e pairs) e was next after earlier h later old more_out
       round_stops p now r e goes (more, has, short, ends, reads) fin =
           let all = short_at (first ∷ more) has in
           sofar_fails limit layout start was earlier h f old Given known st times new (ReadBy reader left) first number s (Are e) e next after later more_out (first ∷ more)
@@ -147,9 +147,9 @@ module _ (limit : ℕ) (layout : LanePlan) (start : Course) (was : Option Log) (
           (λ pairs are bytes given.
           let (before, read, is, cut) = s.input bytes given in
           ⊎_elim
-          (λ (none, any). subst (λ (x : List (List Rec)). AreOf layout bytes e (s.done ++ x)) (sym none) (subst (λ (x : List (List Rec)). AreOf layout bytes e x) (sym (append-nil s.done))
+          (λ (none, any). subst (λ (x : List (List Rec)). AreCutFrom layout bytes e (s.done ++ x)) (sym none) (subst (λ (x : List (List Rec)). AreCutFrom layout bytes e x) (sym (append-nil s.done))
           (left_of layout bytes e s.done before first cut (first_short layout.size first more all) (read_input reader left bytes (before ++ first ∷ []) going read) (λ others. any (first ∷ others) (omega arith)))))
-          (λ (one, fault). subst (λ (x : List (List Rec)). AreOf layout bytes e (s.done ++ x)) (sym one)
+          (λ (one, fault). subst (λ (x : List (List Rec)). AreCutFrom layout bytes e (s.done ++ x)) (sym one)
           (fault_of layout bytes e (s.done ++ (first ∷ more) ∷ []) (before ++ first ∷ more) r
           (cut_on layout.size layout.blocks s.done before first more r cut all (few_at (first ∷ more) has) (ends_at (first ∷ more) r ends) (subst (λ (n : ℕ). IsShort n r) size_is short))
           (subst (λ (l : List Rec). IsInputOf bytes l) (sym (append_assoc before (first ∷ more) (r ∷ []))) (read_input p now bytes (before ++ (first ∷ more ++ r ∷ [])) goes (reads bytes before read))) fault))
@@ -159,8 +159,8 @@ module _ (limit : ℕ) (layout : LanePlan) (start : Course) (was : Option Log) (
       pub round_last : (p : PcapReaderView) (now : Option (List ℕ)) (e : LoadEnd) → after.halted ≡ None → (lane.filling.records ≡ 0 → ⊥) → IsInputEnd e
           → Fills written (λ bytes given. HasReadTo reader bytes (given ++ first ∷ []) left) first number lane p now (filled.Ended e)
           → ((rs : List Rec) → Represents written lane rs
-          → AddsPair st.limit lane.filling.size (course (h ++ events_of s.acts) st times) rs known next after earlier (h ++ events_of s.acts) f later new more_out)
-          → Loads (AddsAll limit layout.size start) (λ (pairs : List (List Rec)). (bytes : List ℕ) → Given bytes → AreOf layout bytes e pairs) e was next after earlier h later old more_out
+          → AddsPair st.limit lane.filling.size (situation (h ++ events_of s.acts) st times) rs known next after earlier (h ++ events_of s.acts) f later new more_out)
+          → Loads (AddsAll limit layout.size start) (λ (pairs : List (List Rec)). (bytes : List ℕ) → Given bytes → AreCutFrom layout bytes e pairs) e was next after earlier h later old more_out
       round_last p now e runs some is_end (rs, has, inl (nil, long), stops) fin = absurd (some (has.fills.count ∙ ap length nil))
       round_last p now e runs some is_end (rs, has, inr (more, is), stops) fin =
           let here = subst (Represents written lane) is has in
@@ -176,8 +176,8 @@ module _ (limit : ℕ) (layout : LanePlan) (start : Course) (was : Option Log) (
       pub round_ends : (p : PcapReaderView) (now : Option (List ℕ)) (e failed : LoadEnd) → (lane.filling.records ≡ 0 → ⊥)
           → Fills written (λ bytes given. HasReadTo reader bytes (given ++ first ∷ []) left) first number lane p now (filled.Ended e)
           → ((rs : List Rec) → Represents written lane rs
-          → Loads (AddsAll st.limit lane.filling.size (course (h ++ events_of s.acts) st times)) (AtMost rs failed) failed known next after earlier (h ++ events_of s.acts) later new more_out)
-          → Loads (AddsAll limit layout.size start) (λ (pairs : List (List Rec)). (bytes : List ℕ) → Given bytes → AreOf layout bytes failed pairs) failed was next after earlier h later old more_out
+          → Loads (AddsAll st.limit lane.filling.size (situation (h ++ events_of s.acts) st times)) (AtMost rs failed) failed known next after earlier (h ++ events_of s.acts) later new more_out)
+          → Loads (AddsAll limit layout.size start) (λ (pairs : List (List Rec)). (bytes : List ℕ) → Given bytes → AreCutFrom layout bytes failed pairs) failed was next after earlier h later old more_out
       round_ends p now e failed some (rs, has, inl (nil, long), stops) fin = absurd (some (has.fills.count ∙ ap length nil))
       round_ends p now e failed some (rs, has, inr (more, is), stops) fin =
           let here = subst (Represents written lane) is has in
@@ -188,9 +188,9 @@ module _ (limit : ℕ) (layout : LanePlan) (start : Course) (was : Option Log) (
           let (before, read, at, cut) = s.input bytes given in
           let stop = subst (λ (n : ℕ). StopsAfter n bytes (before ++ rs) e) size_is (stops bytes before read at) in
           ⊎_elim
-          (λ (none, any). subst (λ (x : List (List Rec)). AreOf layout bytes failed (s.done ++ x)) (sym none) (subst (λ (x : List (List Rec)). AreOf layout bytes failed x) (sym (append-nil s.done))
+          (λ (none, any). subst (λ (x : List (List Rec)). AreCutFrom layout bytes failed (s.done ++ x)) (sym none) (subst (λ (x : List (List Rec)). AreCutFrom layout bytes failed x) (sym (append-nil s.done))
           (left_of layout bytes failed s.done before first cut (first_short layout.size first more all) (read_input reader left bytes (before ++ first ∷ []) going read) (λ others. any (first ∷ others) (omega arith)))))
-          (λ (one, fault). subst (λ (x : List (List Rec)). AreOf layout bytes failed (s.done ++ x)) (sym one)
+          (λ (one, fault). subst (λ (x : List (List Rec)). AreCutFrom layout bytes failed (s.done ++ x)) (sym one)
           (ended_of layout bytes e failed s.done before first more cut all (few_at (first ∷ more) here)
           (subst (λ (l : List Rec). StopsAfter layout.size bytes (before ++ l) e) is stop) (inr fault)))
           (at_most (first ∷ more) failed pairs are))
@@ -198,7 +198,7 @@ module _ (limit : ℕ) (layout : LanePlan) (start : Course) (was : Option Log) (
 -- before the first round
 pub round_none : (limit : ℕ) (layout : LanePlan) (known : Option Log) (log : Log) (st : SpoolState) (earlier h : List Event) (f : Files) (times old : Option (List ℕ)) (reader : PcapReaderView) (left : Option (List ℕ)) (first : Rec)
     → known ≡ Some log → StandsFor IsWholePair known st earlier h f → st.halted ≡ None
-    → SoFar limit layout (course h st times) known known st earlier h f times old old (λ bytes. HasReadTo reader bytes (first ∷ []) left) (ReadBy reader left) first 1
+    → SoFar limit layout (situation h st times) known known st earlier h f times old old (λ bytes. HasReadTo reader bytes (first ∷ []) left) (ReadBy reader left) first 1
 round_none limit layout known log st earlier h f times old reader left first is stands runs =
     let same : h ++ [] ≡ h = append-nil h in
     record {
@@ -206,7 +206,7 @@ round_none limit layout known log st earlier h f times old reader left first is 
       is = is;
       done = [];
       acts = [];
-      adds = (refl, ap (λ x. course x st times) same);
+      adds = (refl, ap (λ x. situation x st times) same);
       stands = subst (λ x. StandsFor IsWholePair known st earlier x f) (sym same) stands;
       lines = Appends-nil old;
       images = covered_none known st earlier h f stands (calm known st earlier h f stands runs);

@@ -18,8 +18,8 @@ use Rattle.st_spool.specs.States.{SpoolState}
 use Rattle.st_spool.specs.declared.state.Doubt.TheVariants as doubt
 use Rattle.st_load.specs.Acts.{Act, events_of, lines_of, happen, removals, newest}
 use Rattle.st_load.specs.Causes.{EndsUnread}
-use Rattle.st_load.specs.Job.{Course, AddsAll, IsJob}
-use Rattle.st_load.specs.Loading.{Covered, Loads, AreOf, course}
+use Rattle.st_load.specs.Job.{Situation, AddsAll, IsJob}
+use Rattle.st_load.specs.Loading.{Covered, Loads, AreCutFrom, situation}
 use Rattle.st_load.specs.Publishing.{Ages, AgesAll}
 use Rattle.st_load.specs.declared.ends.LoadEnd.{LoadEnd}
 use Rattle.st_load.specs.declared.ends.LoadEnd.TheVariants as end
@@ -39,21 +39,21 @@ module _ (limit size : ℕ) (first mid : Option Log) (st before : SpoolState) (e
   abbrev acts : List Act
   acts = happen gone
 
-  abbrev start : Course
-  start = course h before times
+  abbrev start : Situation
+  start = situation h before times
 
   history : h ++ events_of acts ≡ h ++ gone
   history = ap (λ es. h ++ es) (events_happen gone)
 
   -- what the load goes on from
-  same_course : course (h ++ events_of acts) st times ≡ record start { set = newest limit start.set }
+  same_course : situation (h ++ events_of acts) st times ≡ record start { set = newest limit start.set }
   same_course =
-      ap (λ (x : List Entry). let c : Course = record { set = x; last = st.last; times = times } in c) (ap set_of history ∙ a.set ∙ ap (λ n. newest n (set_of h)) lim)
-      ∙ ap (λ (n : ℕ). let c : Course = record { set = newest limit (set_of h); last = n; times = times } in c) last
+      ap (λ (x : List Entry). let c : Situation = record { set = x; last = st.last; times = times } in c) (ap set_of history ∙ a.set ∙ ap (λ n. newest n (set_of h)) lim)
+      ∙ ap (λ (n : ℕ). let c : Situation = record { set = newest limit (set_of h); last = n; times = times } in c) last
 
-  job : (p : List (List Rec)) (more : List Act) (final : Course) → AddsAll limit size (course (h ++ events_of acts) st times) p more final → IsJob limit size start ([] ++ p) (acts ++ more) final
+  job : (p : List (List Rec)) (more : List Act) (final : Situation) → AddsAll limit size (situation (h ++ events_of acts) st times) p more final → IsJob limit size start ([] ++ p) (acts ++ more) final
   job p more final adds =
-      (more, ap (λ n. happen (removals n (set_of h)) ++ more) lim, subst (λ (c : Course). AddsAll limit size c p more final) same_course adds)
+      (more, ap (λ n. happen (removals n (set_of h)) ++ more) lim, subst (λ (c : Situation). AddsAll limit size c p more final) same_course adds)
 
   covered : Covered first mid h (events_of acts) []
   covered = subst (λ es. Covered first mid h es []) (sym (events_happen gone)) a.images
@@ -61,28 +61,28 @@ module _ (limit size : ℕ) (first mid : Option Log) (st before : SpoolState) (e
   -- and then a load of some pairs
   pub starts_then : (Are Are2 : List (List Rec) → Type 0) (e : LoadEnd) (known : Option Log) (after : SpoolState) (later old new : Option (List ℕ))
       → ((p : List (List Rec)) → Are2 p → Are p)
-      → Loads (AddsAll limit size (course (h ++ removals st.limit (set_of h)) st times)) Are2 e mid known after earlier (h ++ removals st.limit (set_of h)) later old new
-      → Loads (IsJob limit size (course h before times)) Are e first known after earlier h later old new
+      → Loads (AddsAll limit size (situation (h ++ removals st.limit (set_of h)) st times)) Are2 e mid known after earlier (h ++ removals st.limit (set_of h)) later old new
+      → Loads (IsJob limit size (situation h before times)) Are e first known after earlier h later old new
   starts_then Are Are2 e known after later old new ares loads =
-      loads_after (IsJob limit size start) (AddsAll limit size (course (h ++ events_of acts) st times)) Are Are2 e first mid known after earlier h later old old new [] acts
+      loads_after (IsJob limit size start) (AddsAll limit size (situation (h ++ events_of acts) st times)) Are Are2 e first mid known after earlier h later old old new [] acts
       job ares (no_lines gone old) covered
-      (subst (λ x. Loads (AddsAll limit size (course x st times)) Are2 e mid known after earlier x later old new) (sym history) loads)
+      (subst (λ x. Loads (AddsAll limit size (situation x st times)) Are2 e mid known after earlier x later old new) (sym history) loads)
 
   -- or nothing more
   pub starts_ends : (Are : List (List Rec) → Type 0) (e : LoadEnd) (old : Option (List ℕ)) → Are [] → IsQuiet e → st.doubt ≡ doubt.Nothing
-      → Loads (IsJob limit size (course h before times)) Are e first mid st earlier h times old old
+      → Loads (IsJob limit size (situation h before times)) Are e first mid st earlier h times old old
   starts_ends Are e old are quiet calm =
       ends_between (IsJob limit size start) Are e first mid st earlier h f times old old [] acts
-      (subst (λ (xs : List Act). IsJob limit size start [] xs (course (h ++ events_of acts) st times)) (append-nil acts) (job [] [] (course (h ++ events_of acts) st times) (refl, refl)))
+      (subst (λ (xs : List Act). IsJob limit size start [] xs (situation (h ++ events_of acts) st times)) (append-nil acts) (job [] [] (situation (h ++ events_of acts) st times) (refl, refl)))
       are quiet (no_lines gone old) (subst (λ x. StandsFor IsWholePair mid st earlier x f) (sym history) a.stands) calm covered
 
 -- a removal failed
 pub starts_fails : (limit size : ℕ) (first known : Option Log) (st before : SpoolState) (earlier h : List Event) (times old : Option (List ℕ)) (Are : List (List Rec) → Type 0)
     → Ages first known st earlier h → st.limit ≡ limit → Are []
-    → Loads (IsJob limit size (course h before times)) Are end.DiskFault first known st earlier h times old old
+    → Loads (IsJob limit size (situation h before times)) Are end.DiskFault first known st earlier h times old old
 starts_fails limit size first known st before earlier h times old Are a lim are =
-    let start : Course = course h before times in
-    let final : Course = record start { set = newest limit start.set } in
+    let start : Situation = situation h before times in
+    let final : Situation = record start { set = newest limit start.set } in
     record {
       pairs = [];
       are = are;
@@ -110,42 +110,42 @@ unread_ends error e (inl (is, read)) = subst IsQuiet (sym read) tt
 unread_ends error e (inr (inl (is, memory))) = subst IsQuiet (sym memory) tt
 unread_ends error e (inr (inr (bad, inside))) = subst IsQuiet (sym bad) tt
 
-unread_are : (layout : LanePlan) (bytes : List ℕ) (error : PcapErr) (e : LoadEnd) → EndsUnread error e → IsOutside error ⊎ Input bytes [] (Refused error) → AreOf layout bytes e []
-unread_are layout bytes error e (inl (is, read)) gives = subst (λ (x : LoadEnd). AreOf layout bytes x []) (sym read) (unread_of layout bytes end.ReadFault (λ left. tt))
-unread_are layout bytes error e (inr (inl (is, memory))) gives = subst (λ (x : LoadEnd). AreOf layout bytes x []) (sym memory) (unread_of layout bytes end.NoMemory (λ left. tt))
-unread_are layout bytes error e (inr (inr (bad, inside))) gives = subst (λ (x : LoadEnd). AreOf layout bytes x []) (sym bad)
+unread_are : (layout : LanePlan) (bytes : List ℕ) (error : PcapErr) (e : LoadEnd) → EndsUnread error e → IsOutside error ⊎ Input bytes [] (Refused error) → AreCutFrom layout bytes e []
+unread_are layout bytes error e (inl (is, read)) gives = subst (λ (x : LoadEnd). AreCutFrom layout bytes x []) (sym read) (unread_of layout bytes end.ReadFault (λ left. tt))
+unread_are layout bytes error e (inr (inl (is, memory))) gives = subst (λ (x : LoadEnd). AreCutFrom layout bytes x []) (sym memory) (unread_of layout bytes end.NoMemory (λ left. tt))
+unread_are layout bytes error e (inr (inr (bad, inside))) gives = subst (λ (x : LoadEnd). AreCutFrom layout bytes x []) (sym bad)
     (stop_of layout bytes (end.BadInput error) (⊎_elim (λ outside. absurd (inside outside)) (λ input. input) gives))
 
 -- the removals before the input failed
 pub start_fails : (limit : ℕ) (layout : LanePlan) (first known : Option Log) (st before : SpoolState) (earlier h : List Event) (times left old : Option (List ℕ)) (e : LoadEnd) → e ≡ end.DiskFault
     → Ages first known st earlier h → st.limit ≡ limit
-    → Loads (IsJob limit layout.size (course h before times)) (λ (pairs : List (List Rec)). (bytes : List ℕ) → left ≡ Some bytes → AreOf layout bytes e pairs) e first known st earlier h times old old
+    → Loads (IsJob limit layout.size (situation h before times)) (λ (pairs : List (List Rec)). (bytes : List ℕ) → left ≡ Some bytes → AreCutFrom layout bytes e pairs) e first known st earlier h times old old
 start_fails limit layout first known st before earlier h times left old e is ages lim =
-    subst (λ (x : LoadEnd). Loads (IsJob limit layout.size (course h before times)) (λ (pairs : List (List Rec)). (bytes : List ℕ) → left ≡ Some bytes → AreOf layout bytes x pairs) x first known st earlier h times old old) (sym is)
-    (starts_fails limit layout.size first known st before earlier h times old (λ (pairs : List (List Rec)). (bytes : List ℕ) → left ≡ Some bytes → AreOf layout bytes end.DiskFault pairs)
+    subst (λ (x : LoadEnd). Loads (IsJob limit layout.size (situation h before times)) (λ (pairs : List (List Rec)). (bytes : List ℕ) → left ≡ Some bytes → AreCutFrom layout bytes x pairs) x first known st earlier h times old old) (sym is)
+    (starts_fails limit layout.size first known st before earlier h times old (λ (pairs : List (List Rec)). (bytes : List ℕ) → left ≡ Some bytes → AreCutFrom layout bytes end.DiskFault pairs)
     ages lim (λ bytes known. unread_of layout bytes end.DiskFault (λ left. tt)))
 
 module _ (limit : ℕ) (layout : LanePlan) (first mid : Option Log) (st before : SpoolState) (earlier h : List Event) (f : Files) (times left old : Option (List ℕ)) (a : AgesAll first mid st earlier h f)
     (lim : st.limit ≡ limit) (last : st.last ≡ before.last) where
   -- the input has no record
   pub start_whole : st.halted ≡ None → ((bytes : List ℕ) → left ≡ Some bytes → Input bytes [] Whole)
-      → Loads (IsJob limit layout.size (course h before times)) (λ (pairs : List (List Rec)). (bytes : List ℕ) → left ≡ Some bytes → AreOf layout bytes end.Done pairs) end.Done first mid st earlier h times old old
+      → Loads (IsJob limit layout.size (situation h before times)) (λ (pairs : List (List Rec)). (bytes : List ℕ) → left ≡ Some bytes → AreCutFrom layout bytes end.Done pairs) end.Done first mid st earlier h times old old
   start_whole runs input =
-      starts_ends limit layout.size first mid st before earlier h f times a lim last (λ (pairs : List (List Rec)). (bytes : List ℕ) → left ≡ Some bytes → AreOf layout bytes end.Done pairs) end.Done old
+      starts_ends limit layout.size first mid st before earlier h f times a lim last (λ (pairs : List (List Rec)). (bytes : List ℕ) → left ≡ Some bytes → AreCutFrom layout bytes end.Done pairs) end.Done old
       (λ bytes known. stop_of layout bytes end.Done (input bytes known)) tt (calm mid st earlier (h ++ removals st.limit (set_of h)) f a.stands runs)
 
   -- or the first is refused, or not read
   pub start_unread : (error : PcapErr) (e : LoadEnd) → st.halted ≡ None → EndsUnread error e → ((bytes : List ℕ) → left ≡ Some bytes → IsOutside error ⊎ Input bytes [] (Refused error))
-      → Loads (IsJob limit layout.size (course h before times)) (λ (pairs : List (List Rec)). (bytes : List ℕ) → left ≡ Some bytes → AreOf layout bytes e pairs) e first mid st earlier h times old old
+      → Loads (IsJob limit layout.size (situation h before times)) (λ (pairs : List (List Rec)). (bytes : List ℕ) → left ≡ Some bytes → AreCutFrom layout bytes e pairs) e first mid st earlier h times old old
   start_unread error e runs ends gives =
-      starts_ends limit layout.size first mid st before earlier h f times a lim last (λ (pairs : List (List Rec)). (bytes : List ℕ) → left ≡ Some bytes → AreOf layout bytes e pairs) e old
+      starts_ends limit layout.size first mid st before earlier h f times a lim last (λ (pairs : List (List Rec)). (bytes : List ℕ) → left ≡ Some bytes → AreCutFrom layout bytes e pairs) e old
       (λ bytes known. unread_are layout bytes error e ends (gives bytes known)) (unread_ends error e ends) (calm mid st earlier (h ++ removals st.limit (set_of h)) f a.stands runs)
 
   -- or pairs were loaded
   pub start_then : (Are2 : List (List Rec) → Type 0) (e : LoadEnd) (known : Option Log) (after : SpoolState) (later new : Option (List ℕ))
-      → ((p : List (List Rec)) → Are2 p → (bytes : List ℕ) → left ≡ Some bytes → AreOf layout bytes e p)
-      → Loads (AddsAll st.limit layout.size (course (h ++ removals st.limit (set_of h)) st times)) Are2 e mid known after earlier (h ++ removals st.limit (set_of h)) later old new
-      → Loads (IsJob limit layout.size (course h before times)) (λ (pairs : List (List Rec)). (bytes : List ℕ) → left ≡ Some bytes → AreOf layout bytes e pairs) e first known after earlier h later old new
+      → ((p : List (List Rec)) → Are2 p → (bytes : List ℕ) → left ≡ Some bytes → AreCutFrom layout bytes e p)
+      → Loads (AddsAll st.limit layout.size (situation (h ++ removals st.limit (set_of h)) st times)) Are2 e mid known after earlier (h ++ removals st.limit (set_of h)) later old new
+      → Loads (IsJob limit layout.size (situation h before times)) (λ (pairs : List (List Rec)). (bytes : List ℕ) → left ≡ Some bytes → AreCutFrom layout bytes e pairs) e first known after earlier h later old new
   start_then Are2 e known after later new ares loads =
-      starts_then limit layout.size first mid st before earlier h f times a lim last (λ (pairs : List (List Rec)). (bytes : List ℕ) → left ≡ Some bytes → AreOf layout bytes e pairs) Are2 e known after later old new ares
-      (subst (λ (n : ℕ). Loads (AddsAll n layout.size (course (h ++ removals st.limit (set_of h)) st times)) Are2 e mid known after earlier (h ++ removals st.limit (set_of h)) later old new) lim loads)
+      starts_then limit layout.size first mid st before earlier h f times a lim last (λ (pairs : List (List Rec)). (bytes : List ℕ) → left ≡ Some bytes → AreCutFrom layout bytes e pairs) Are2 e known after later old new ares
+      (subst (λ (n : ℕ). Loads (AddsAll n layout.size (situation (h ++ removals st.limit (set_of h)) st times)) Are2 e mid known after earlier (h ++ removals st.limit (set_of h)) later old new) lim loads)

@@ -21,8 +21,8 @@ pub record RoseIf (P : Type 0) (before now : ℕ) : Type 0 where
   pub later : before ≤ now
   pub rose : P → Rose before now
 
--- What an end says whatever is known: an input is not refused for want of memory or a fault, a
--- packet that is too long fits no block of this size, and a stamp is missing only after the
+-- What an end says whatever is known: an input is refused neither for a fault nor since memory ran
+-- out, a packet that is too long fits no block of this size, and a stamp is missing only after the
 -- greatest.
 abbrev pub Says : ℕ → LoadEnd → Type 0
 Says size end.Done = ⊤

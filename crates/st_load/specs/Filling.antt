@@ -69,7 +69,7 @@ Leaves {T} number lane old new (filled.Ended e) =
     (lane.broken ≡ false) × IsInputEnd e × Says lane.filling.size e
 Leaves {T} number lane old new (filled.Failed e) = IsFillFault e
 
--- a refused input ends, a fault or want of memory doesn't let the lane be published
+-- after a refusal the lane is to be published, after a fault or without memory to be given up
 abbrev pub EndsReading : PcapErr → Filled → Type 0
 EndsReading error (filled.Ready r) = ⊥
 EndsReading error (filled.Ended e) = (e ≡ end.BadInput error) × (IsOutside error → ⊥)

@@ -12,7 +12,7 @@ use Rattle.st_load.specs.Acts.{Act, Happens, Writes, happen, removals, newest}
 
 -- what a load goes on from: the pairs that are published, the greatest stamp that there was, and
 -- the clock's answers to come
-pub record Course : Type 0 where
+pub record Situation : Type 0 where
   pub set : List Entry
   pub last : ℕ
   pub times : Option (List ℕ)
@@ -20,7 +20,7 @@ pub record Course : Type 0 where
 -- A pair of these packets is published: a whole pair, under the next stamp that is not below the
 -- clock's answer. Then its line is written, and then the oldest pairs are removed while more than
 -- the limit are there.
-pub record Adds (limit size : ℕ) (old new : Course) (rs : List Rec) (acts : List Act)
+pub record Adds (limit size : ℕ) (old new : Situation) (rs : List Rec) (acts : List Act)
     : Type 0 where
   pub floor : ℕ
   pub ticks : Ticks old.times new.times floor
@@ -34,14 +34,14 @@ pub record Adds (limit size : ℕ) (old new : Course) (rs : List Rec) (acts : Li
       ∷ happen (removals limit (old.set ++ e ∷ []))
 
 -- these acts add a pair for each of these lists of packets
-abbrev pub AddsAll : ℕ → ℕ → Course → List (List Rec) → List Act → Course → Type 0
+abbrev pub AddsAll : ℕ → ℕ → Situation → List (List Rec) → List Act → Situation → Type 0
 AddsAll limit size old [] acts new = (acts ≡ []) × (new ≡ old)
 AddsAll limit size old (rs ∷ lists) acts new =
-    (mid : Course) × (first : List Act) × (later : List Act) × (acts ≡ first ++ later)
+    (mid : Situation) × (first : List Act) × (later : List Act) × (acts ≡ first ++ later)
     × Adds limit size old mid rs first × AddsAll limit size mid lists later new
 
 -- what a load of these lists of packets does: it removes the oldest pairs first
-abbrev pub IsJob : ℕ → ℕ → Course → List (List Rec) → List Act → Course → Type 0
+abbrev pub IsJob : ℕ → ℕ → Situation → List (List Rec) → List Act → Situation → Type 0
 IsJob limit size old lists acts new =
     (later : List Act) × (acts ≡ happen (removals limit old.set) ++ later)
     × AddsAll limit size (record old { set = newest limit old.set }) lists later new

@@ -13,12 +13,12 @@ use Rattle.st_spool.specs.Covers.{CoversInDoubt}
 use Rattle.st_spool.specs.Standing.{StandsFor, in_doubt, begun}
 use Rattle.st_spool.specs.States.{SpoolState}
 use Rattle.st_load.specs.Acts.{Act, Writes, line_text, events_of, lines_of, happen}
-use Rattle.st_load.specs.Job.{Course, AreFirstLists, Takes}
+use Rattle.st_load.specs.Job.{Situation, AreFirstLists, Takes}
 use Rattle.st_load.specs.declared.ends.LoadEnd.{LoadEnd}
 use Rattle.st_load.specs.declared.ends.LoadEnd.TheVariants as end
 
--- how the records of an input end: how the input does, those that a load takes, those that follow,
--- and of the first those that no pair has
+-- The records of an input: how the input ends, the records that a load takes, those that follow
+-- them, and of those that it takes the last ones, which no pair has.
 pub record Rest : Type 0 where
   pub input : End
   pub taken : List Rec
@@ -42,7 +42,7 @@ EndsInput end.NoMemory rest = ⊤
 
 -- The pairs have the first records of an input of these bytes, as they are cut into files of this
 -- layout.
-pub record AreOf (layout : LanePlan) (bytes : List ℕ) (ended : LoadEnd)
+pub record AreCutFrom (layout : LanePlan) (bytes : List ℕ) (ended : LoadEnd)
     (pairs : List (List Rec)) : Type 0 where
   pub records : List Rec
   pub rest : Rest
@@ -54,7 +54,7 @@ pub record AreOf (layout : LanePlan) (bytes : List ℕ) (ended : LoadEnd)
 -- How a load ended, by its job: what it had still to do for these pairs, what it would have gone on
 -- from then, and the clock's answers to come. Only a fault of the shelf or the output, or running
 -- out of memory, leaves something to be done.
-abbrev pub EndsJob : LoadEnd → List Act → Course → Option (List ℕ) → Type 0
+abbrev pub EndsJob : LoadEnd → List Act → Situation → Option (List ℕ) → Type 0
 EndsJob end.Done to_come final times = (to_come ≡ []) × (times ≡ final.times)
 EndsJob (end.BadInput e) to_come final times = (to_come ≡ []) × (times ≡ final.times)
 EndsJob (end.TooLong number len) to_come final times = (to_come ≡ []) × (times ≡ final.times)
@@ -83,10 +83,10 @@ WritesLines end.NoMemory acts to_come old new = Appends old new (lines_of acts)
 
 -- Of what was to be done for some pairs these are the acts that were done, and these to come. The
 -- clock has these answers to come, and this was written.
-pub record Did (Job : List (List Rec) → List Act → Course → Type 0) (ended : LoadEnd)
+pub record Did (Job : List (List Rec) → List Act → Situation → Type 0) (ended : LoadEnd)
     (pairs : List (List Rec)) (acts to_come : List Act) (times : Option (List ℕ))
     (old new : Option (List ℕ)) : Type 0 where
-  pub final : Course
+  pub final : Situation
   pub job : Job pairs (acts ++ to_come) final
   pub ends : EndsJob ended to_come final times
   pub lines : WritesLines ended acts to_come old new
@@ -107,7 +107,7 @@ Covered old known h es doubt =
 -- What a load made of a spool that stood for the history h. It did the first acts of a job; the
 -- spool stands for the history with their events, and so each crash left. If an event is in doubt,
 -- it was the next act.
-pub record Loads (Job : List (List Rec) → List Act → Course → Type 0)
+pub record Loads (Job : List (List Rec) → List Act → Situation → Type 0)
     (Are : List (List Rec) → Type 0) (ended : LoadEnd) (before known : Option Log)
     (st : SpoolState) (earlier h : List Event) (times : Option (List ℕ))
     (old new : Option (List ℕ)) : Type 0 where
@@ -122,5 +122,5 @@ pub record Loads (Job : List (List Rec) → List Act → Course → Type 0)
   pub images : Covered before known h (events_of acts) (begun st.doubt f)
 
 -- what a load goes on from in a spool of this history
-abbrev pub course : List Event → SpoolState → Option (List ℕ) → Course
-course h st times = record { set = set_of h; last = st.last; times = times }
+abbrev pub situation : List Event → SpoolState → Option (List ℕ) → Situation
+situation h st times = record { set = set_of h; last = st.last; times = times }

@@ -11,7 +11,7 @@ use Rattle.st_spool.specs.History.{Legal, set_of}
 use Rattle.st_load.specs.Acts.{Act, events_of}
 use Rattle.st_load.specs.Causes.{IsFailure}
 use Rattle.st_load.specs.Job.{IsJob}
-use Rattle.st_load.specs.Loading.{AreOf, Did}
+use Rattle.st_load.specs.Loading.{AreCutFrom, Did}
 use Rattle.st_load.specs.declared.ends.LoadEnd.{LoadEnd}
 use Rattle.st_load.specs.declared.ends.LoadEnd.TheVariants as end
 use Rattle.st_base.specs.Records.{Rec}
@@ -26,7 +26,7 @@ pub record LoadsOpened (limit : ℕ) (layout : LanePlan) (first : Log) (known : 
   pub last : ℕ
   pub greatest : IsLastStamp (λ n. IsSome (reads first n)) last
   pub pairs : List (List Rec)
-  pub are : (bytes : List ℕ) → left ≡ Some bytes → AreOf layout bytes ended pairs
+  pub are : (bytes : List ℕ) → left ≡ Some bytes → AreCutFrom layout bytes ended pairs
   pub acts : List Act
   pub to_come : List Act
   pub did : Did (IsJob limit layout.size (record { set = found; last = last; times = times }))
@@ -46,7 +46,8 @@ pub record LoadsOpened (limit : ℕ) (layout : LanePlan) (first : Log) (known : 
   pub calm : (ended ≡ end.DiskFault → ⊥) → doubt ≡ []
   pub images : CoversInDoubt (Found found ∷ []) sure doubt (flushed_log first) log
 
--- or it didn't: the shelf failed, or memory ran out, and nothing else was touched
+-- What a load made of a shelf: it opened a spool over it and went on, or the shelf failed or memory
+-- ran out as it opened one, and nothing else was touched.
 abbrev pub LoadsShelf :
     ℕ → LanePlan → Log → Option Log → Option (List ℕ) → Option (List ℕ) → Option (List ℕ)
     → Option (List ℕ) → Option (List ℕ) → LoadEnd → Type 0

@@ -11,8 +11,8 @@ use Rattle.st_spool.specs.Publishing.{FailsToPublish, Fails, Keeps}
 use Rattle.st_spool.specs.Standing.{StandsFor, in_doubt, begun}
 use Rattle.st_spool.specs.States.{SpoolState}
 use Rattle.st_load.specs.Acts.{Act, line_text, events_of, lines_of, removals, newest}
-use Rattle.st_load.specs.Job.{Course, Adds, AddsAll}
-use Rattle.st_load.specs.Loading.{Covered, Loads, course}
+use Rattle.st_load.specs.Job.{Situation, Adds, AddsAll}
+use Rattle.st_load.specs.Loading.{Covered, Loads, situation}
 use Rattle.st_load.specs.declared.ends.LoadEnd.{LoadEnd}
 use Rattle.st_load.specs.declared.ends.LoadEnd.TheVariants as end
 
@@ -84,18 +84,18 @@ AtMost rs (end.StampsSpent last) pairs = pairs ≡ []
 AtMost rs end.NoMemory pairs = (pairs ≡ []) ⊎ (pairs ≡ rs ∷ [])
 
 -- the pair of these packets was added to a spool that stood for the history h
-pub record AddsPair (limit size : ℕ) (start : Course) (rs : List Rec) (before known : Option Log)
+pub record AddsPair (limit size : ℕ) (start : Situation) (rs : List Rec) (before known : Option Log)
     (st : SpoolState) (earlier h : List Event) (f : Files) (times : Option (List ℕ))
     (old new : Option (List ℕ)) : Type 0 where
   pub acts : List Act
-  pub adds : Adds limit size start (course (h ++ events_of acts) st times) rs acts
+  pub adds : Adds limit size start (situation (h ++ events_of acts) st times) rs acts
   pub stands : StandsFor IsWholePair known st earlier (h ++ events_of acts) f
   pub lines : Appends old new (lines_of acts)
   pub images : Covered before known h (events_of acts) []
 
 -- or it wasn't, or not all was done for it
 abbrev pub Finishes :
-    ℕ → ℕ → Course → List Rec → Option Log → Option Log → SpoolState → List Event → List Event
+    ℕ → ℕ → Situation → List Rec → Option Log → Option Log → SpoolState → List Event → List Event
     → Files → Option (List ℕ) → Option (List ℕ) → Option (List ℕ) → Result (Unit {0}) LoadEnd
     → Type 0
 Finishes limit size start rs before known st earlier h f times old new (Ok u) =

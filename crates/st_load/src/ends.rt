@@ -2,7 +2,8 @@
 
 use st_pcap::PcapErr;
 
-/// How a load ends.
+/// How a load ends. At each end the pairs that were published are in the spool, but for the oldest,
+/// which the limit removed.
 #[derive(Clone, Copy, Debug, PartialEq, Eq)]
 pub enum LoadEnd {
     /// The input was read to its end, and all its packets are in the spool.
@@ -15,9 +16,9 @@ pub enum LoadEnd {
     TooLong { number: u64, len: u32 },
     /// Reading the input failed: its count of faults rose.
     ReadFault,
-    /// Writing the output failed: its count of faults rose.
+    /// Writing the line of a pair that was published failed: the output's count of faults rose.
     WriteFault,
-    /// The shelf failed: its count of faults rose.
+    /// The shelf failed: its count of faults rose. The last publication or removal may be in doubt.
     DiskFault,
     /// A pair was not published, since no stamp follows `last`, the greatest that there is.
     StampsSpent { last: u64 },

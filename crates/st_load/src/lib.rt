@@ -8,9 +8,10 @@
 //!
 //! # What it promises
 //!
-//! - What was published, written and removed are the first acts of one job, in its order, and all
-//!   of them unless a fault ended the load: for each list of the cut of the input's packets a whole
-//!   pair under the next stamp, then its line, then the removals (`load`, `load_into`: `job`).
+//! - The input's packets are cut into lists, each as long as a block file of the layout takes. What
+//!   was published, written and removed are the first acts of one job, in its order, and all of
+//!   them unless a fault ended the load: for each list a whole pair under the next stamp, then its
+//!   line, then the removals (`load`, `load_into`: `job`).
 //! - At every moment a crash leaves the pairs after some of the job's events, the first ones; at
 //!   the return those after all, but for an event in doubt if the shelf failed (clause `job`).
 //! - A fault comes only if that object's count rose (`disk`, `read`, `write`). Over any shelf an

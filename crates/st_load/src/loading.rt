@@ -9,7 +9,7 @@ ghost use Rattle.st_disk.specs.Pairs.{Files};
 ghost use Rattle.st_load.specs.Causes.{RoseIf, RoseJustIf, Says, EndsUnopened, EndsUnread};
 ghost use Rattle.st_load.specs.Filling.{HasReadTo, HasCounted};
 ghost use Rattle.st_load.specs.Job.{AddsAll, IsJob};
-ghost use Rattle.st_load.specs.Loading.{AreOf, Loads, course};
+ghost use Rattle.st_load.specs.Loading.{AreCutFrom, Loads, situation};
 ghost use Rattle.st_load.specs.Opening.{LoadsShelf};
 ghost use Rattle.st_load.specs.Publishing.{Runs};
 ghost use Rattle.st_load.specs.Stopping.{StopsInput};
@@ -77,9 +77,9 @@ fn load_pairs<D: Shelf, S: Source, O: Sink, C: Clock>(
         → D.log spool.old.shelf ≡ Some log
         → StandsFor IsWholePair (D.log spool.old.shelf) spool.old.state earlier h f
         → Loads (AddsAll spool.old.state.limit layout.size
-        (course h spool.old.state (C.to_come clock.old)))
+        (situation h spool.old.state (C.to_come clock.old)))
         (λ pairs. (bytes : List ℕ) → HasReadTo reader.old bytes (first ∷ []) (S.left source.old)
-        → AreOf layout bytes result pairs)
+        → AreCutFrom layout bytes result pairs)
         result (D.log spool.old.shelf) (D.log spool.new.shelf) spool.new.state earlier h
         (C.to_come clock.new) (O.written out.old) (O.written out.new) }
     ensures input { (bytes : List ℕ) → HasReadTo reader.old bytes (first ∷ []) (S.left source.old)
@@ -140,8 +140,8 @@ fn load_pairs<D: Shelf, S: Source, O: Sink, C: Clock>(
 /// since 1970, is read once for each pair; its stamp is not below that.
 ///
 /// A record that is refused, or whose packet no block holds, ends the input, and the packets before
-/// it are loaded. After `ReadFault`, `WriteFault`, `DiskFault` and `NoMemory` those that no pair
-/// has are given up.
+/// it are loaded. After `ReadFault`, `WriteFault`, `DiskFault`, `StampsSpent` and `NoMemory` the
+/// packets that no pair has are given up; the pairs that were published stay.
 /// Source: docs/FORMAT.md, "Command line".
 pub fn load_into<D: Shelf, S: Source, O: Sink, C: Clock>(
     alloc: Global,
@@ -159,9 +159,9 @@ pub fn load_into<D: Shelf, S: Source, O: Sink, C: Clock>(
         → D.log spool.old.shelf ≡ Some log
         → StandsFor IsWholePair (D.log spool.old.shelf) spool.old.state earlier h f
         → Loads (IsJob spool.old.state.limit layout.size
-        (course h spool.old.state (C.to_come clock.old)))
+        (situation h spool.old.state (C.to_come clock.old)))
         (λ pairs. (bytes : List ℕ) → S.left source.old ≡ Some bytes
-        → AreOf layout bytes result pairs)
+        → AreCutFrom layout bytes result pairs)
         result (D.log spool.old.shelf) (D.log spool.new.shelf) spool.new.state earlier h
         (C.to_come clock.new) (O.written out.old) (O.written out.new) }
     ensures input { (bytes : List ℕ) → S.left source.old ≡ Some bytes
@@ -192,8 +192,9 @@ pub fn load_into<D: Shelf, S: Source, O: Sink, C: Clock>(
     }
 }
 
-/// Opens a spool of this limit over a shelf, from 1 pair on, and loads the packets of the pcap in
-/// `source` into it, as `load_into` does.
+/// Opens the spool of a shelf, which is to keep at most `limit` pairs, 1 or more, and loads the
+/// packets of the pcap in `source` into it, as `load_into` does. If the spool can't be opened the
+/// load ends by `DiskFault` or `NoMemory`, and nothing is read or written.
 pub fn load<D: Shelf, S: Source, O: Sink, C: Clock>(
     alloc: Global,
     shelf: D,

@@ -11,7 +11,7 @@ ghost use Rattle.st_lane.specs.Lane.{Represents};
 ghost use Rattle.st_load.specs.Acts.{line_text};
 ghost use Rattle.st_load.specs.Causes.{RoseIf, RoseJustIf, IsFinishEnd};
 ghost use Rattle.st_load.specs.Lanes.{IsLaneOf, KeepsSpool};
-ghost use Rattle.st_load.specs.Loading.{course};
+ghost use Rattle.st_load.specs.Loading.{situation};
 ghost use Rattle.st_load.specs.Publishing.{Ages, AgesAll, FailsBy, StateBy, WritesLine, Finishes, Runs};
 ghost use Rattle.st_pairs.specs.Pairs.{IsWholePair};
 ghost use Rattle.st_spool.specs.Placing.{files, entry};
@@ -168,7 +168,7 @@ pub(crate) fn finish<D: Shelf, O: Sink, C: Clock>(
         → StandsFor IsWholePair (D.log spool.old.shelf) spool.old.state earlier h f
         → Represents D.Draft.written lane rs
         → Finishes spool.old.state.limit lane.filling.size
-        (course h spool.old.state (C.to_come clock.old)) rs
+        (situation h spool.old.state (C.to_come clock.old)) rs
         (D.log spool.old.shelf) (D.log spool.new.shelf) spool.new.state earlier h f
         (C.to_come clock.new) (O.written out.old) (O.written out.new) result }
     ensures state { Runs spool.old.state spool.new.state }

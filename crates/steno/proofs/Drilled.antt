@@ -6,7 +6,7 @@ use Rattle.st_base.specs.declared.damages.Damage.{Damage}
 use Rattle.st_disk.specs.Disks.{Log, reads}
 use Rattle.st_disk.specs.Pairs.{Entry, PairsIn}
 use Rattle.st_disk.proofs.OneSet.{one_file_set}
-use Rattle.st_drill.specs.Asking.{Breaks}
+use Rattle.st_drill.specs.Asking.{AnswerFails}
 use Rattle.st_drill.specs.Drilling.{DrillsOpened, EndsLoaded, EndsUnloaded, set_loaded}
 use Rattle.st_drill.specs.declared.ends.DrillEnd.{DrillEnd}
 use Rattle.st_drill.specs.declared.ends.DrillEnd.TheVariants as end

@@ -4,7 +4,7 @@ use Rattle.st_pcap.specs.Reading.{Gives}
 use Rattle.st_spool.specs.History.{set_of}
 use Rattle.st_load.specs.Acts.{removals}
 use Rattle.st_load.specs.Filling.{HasReadTo}
-use Rattle.st_load.specs.Loading.{AreOf}
+use Rattle.st_load.specs.Loading.{AreCutFrom}
 use Rattle.st_load.proofs.Coming.{failure_stops, whole_stops, unread_stops}
 use Rattle.st_load.proofs.Starting.{fresh_read, start_fails, start_whole, start_unread, start_then}
 use Rattle.st_load.proofs.loading.load_into.Goals as goal
@@ -21,7 +21,7 @@ returns-in-Ok-Some-clause-job g c = λ log earlier h f known stands.
     let (now, is, covers) = a.images log known in
     start_then c.args.spool.now.state.limit c.args.layout (g.D.Shelf.log c.args.spool.now.shelf) (g.D.Shelf.log c.age_all.new.spool.shelf) c.age_all.new.spool.state c.args.spool.now.state earlier h f
     (g.C.Clock.to_come c.args.clock.now) (g.S.Source.left c.args.source.now) (g.O.Sink.written c.args.out.now) a c.age_all.ensures.state.0.0 c.age_all.ensures.state.1
-    (λ (pairs : List (List Rec)). (bytes : List ℕ) → HasReadTo c.next.new.self bytes (c.in-Ok-Some.first ∷ []) (g.S.Source.left c.next.new.source) → AreOf c.args.layout bytes c.load_pairs.result pairs)
+    (λ (pairs : List (List Rec)). (bytes : List ℕ) → HasReadTo c.next.new.self bytes (c.in-Ok-Some.first ∷ []) (g.S.Source.left c.next.new.source) → AreCutFrom c.args.layout bytes c.load_pairs.result pairs)
     c.load_pairs.result (g.D.Shelf.log c.load_pairs.new.spool.shelf) c.load_pairs.new.spool.state (g.C.Clock.to_come c.load_pairs.new.clock) (g.O.Sink.written c.load_pairs.new.out)
     (λ pairs are bytes left. are bytes (subst (λ (o : Option Rec). Gives bytes [] c.next.new.self (g.S.Source.left c.next.new.source) (Ok o)) c.in-Ok-Some.field-0-is
     (c.in-Ok-Some.ensures.gives bytes bytes [] left (fresh_read c.new-reader.result bytes c.new-reader.ensures))))

@@ -8,7 +8,7 @@ use Rattle.st_pairs.specs.Pairs.{IsWholePair}
 use Rattle.st_pcap.specs.Reading.{IsGoing}
 use Rattle.st_spool.specs.Standing.{StandsFor}
 use Rattle.st_load.specs.Filling.{HasReadTo, HasCounted, HasCome}
-use Rattle.st_load.specs.Loading.{course}
+use Rattle.st_load.specs.Loading.{situation}
 use Rattle.st_load.specs.Publishing.{Runs}
 use Rattle.st_load.proofs.Going.{SoFar}
 use Rattle.st_load.proofs.loading.load_pairs.Given as goal
@@ -16,7 +16,7 @@ use Rattle.st_load.proofs.loading.load_pairs.Given as goal
 abbrev pub invariant-pairs : goal.invariant-pairs
 invariant-pairs g l = record {
   job : (log : Log) (earlier h : List Event) (f : Files) → g.D.Shelf.log l.fn.spool.shelf ≡ Some log → StandsFor IsWholePair (g.D.Shelf.log l.fn.spool.shelf) l.fn.spool.state earlier h f
-      → SoFar l.fn.spool.state.limit l.layout (course h l.fn.spool.state (g.C.Clock.to_come l.fn.clock)) (g.D.Shelf.log l.fn.spool.shelf) (g.D.Shelf.log l.spool.shelf) l.spool.state earlier h f
+      → SoFar l.fn.spool.state.limit l.layout (situation h l.fn.spool.state (g.C.Clock.to_come l.fn.clock)) (g.D.Shelf.log l.fn.spool.shelf) (g.D.Shelf.log l.spool.shelf) l.spool.state earlier h f
       (g.C.Clock.to_come l.clock) (g.O.Sink.written l.fn.out) (g.O.Sink.written l.out)
       (λ (bytes : List ℕ). HasReadTo l.fn.reader bytes (l.fn.first ∷ []) (g.S.Source.left l.fn.source))
       (λ (bytes : List ℕ) (rs : List Rec). HasReadTo l.reader bytes rs (g.S.Source.left l.source)) l.first l.number;
