@@ -1,5 +1,5 @@
 #!/usr/bin/env python3
-"""Kills `steno load` at random moments, and looks at what is left of the spool each time.
+"""Kills `steno load` and `steno drill` at random moments, and looks at what is left of the spool each time.
 
 Usage: crashes.py [--kills N] [--seed N]
 
@@ -10,8 +10,10 @@ most the one in flight, their packets are those of the input in its order, as th
 of block files finds them; `check` calls each pair whole; `query` gives exactly their packets; and the
 next load works, and leaves no file that belongs to no pair. With the limit the pairs are the newest of
 those that were published, and none is missing between. Then `load` is killed before each of its calls
-of the system during one publication, in turn, if there is a C compiler. The last line is 'N passed, M
-failed'; the status is 0 if none failed.
+of the system during one publication, in turn, if there is a C compiler. A drill of three pairs is killed
+half as often, after a random time or shortly after a pair of its own is there: what was in the spool
+stays, of the drill's pairs the first ones are there, `check` calls each whole, and the next drill or load
+works. The last line is 'N passed, M failed'; the status is 0 if none failed.
 """
 import argparse
 import os
@@ -186,6 +188,80 @@ def at_each_call(folder, numbers):
         yield f"a load makes at least 20 calls {' '.join(options)}".strip(), number > 20, number
 
 
+DRILLED = 20000  # packets of a drill, which are three pairs
+
+
+class Drilled:
+    """A spool of one pair in which drills are killed."""
+
+    def __init__(self, folder, numbers):
+        folder.mkdir()
+        self.folder, self.numbers, self.input = str(folder / "spool"), numbers, folder / "input.pcap"
+        self.pairs, self.seconds = [], 0
+        self.load()
+
+    def load(self):
+        """What is wrong with a load of a few packets, and with the spool then."""
+        packets = some_packets(self.numbers, 100)
+        self.input.write_bytes(spool.write_pcap(packets))
+        with open(self.input, "rb") as given:
+            out, err, status = run("load", self.folder, stdin=given)
+        self.pairs.append(packets)
+        return ([] if (err, status, out.count(b"\n")) == (b"", 0, 1) else [f"a load ends with {status}, {err}"]) + self.look()
+
+    def drill(self, count):
+        """What is wrong with a drill that nobody kills, and with the spool then."""
+        self.pairs += spool.drill_pairs(count)
+        started = time.monotonic()
+        said = run("drill", self.folder, str(count))
+        self.seconds = time.monotonic() - started
+        return ([] if said == (spool.drill_summary(count, self.pairs), b"", 0) else [f"a drill says {said}"]) + self.look()
+
+    def look(self, in_flight=()):
+        """What is wrong if the spool is to have its pairs, and perhaps the first of these, in words; `check` is asked too."""
+        stamps = spool.stamps(self.folder)
+        there = [spool.packets_of(self.folder, stamp) for stamp in stamps]
+        if there not in [self.pairs + list(in_flight[:count]) for count in range(len(in_flight) + 1)]:
+            return [f"pairs of {[len(pair) for pair in there]} packets are there"]
+        self.pairs = there
+        wanted = "".join(f"{stamp} whole {len(pair)}\n" for stamp, pair in zip(stamps, there))
+        said = run("check", self.folder)
+        wrong = [] if said == (wanted.encode(), b"", 0) else [f"check says {said}"]
+        if spool.files(self.folder) != [f"{part}/{stamp:016x}" for part in ("IDX0", "PKT0") for stamp in stamps]:
+            wrong.append(f"files are left over: {spool.files(self.folder)}")
+        return wrong
+
+    def kill(self, seconds):
+        """Kills a drill after a random time, or shortly after a pair of it is there; whether it still ran."""
+        child = subprocess.Popen([*STENO, "drill", self.folder, str(DRILLED)], stdin=subprocess.DEVNULL,
+                                 stdout=subprocess.PIPE, stderr=subprocess.PIPE)
+        if self.numbers.random() < 0.5:
+            time.sleep(self.numbers.uniform(0, seconds * 0.9))
+        else:
+            wanted, end = len(self.pairs) + self.numbers.randrange(1, 3), time.monotonic() + SECONDS
+            while child.poll() is None and time.monotonic() < end and len(spool.stamps(self.folder)) < wanted:
+                time.sleep(0.0002)
+            time.sleep(self.numbers.uniform(0, seconds / 10))
+        ran = child.poll() is None
+        child.kill()
+        child.communicate(timeout=SECONDS)
+        return ran
+
+
+def drills(folder, numbers, count):
+    """So many drills that are killed, each looked at, and a drill or a load after it."""
+    whole, made, ran = Drilled(folder / "drill", numbers), spool.drill_pairs(DRILLED), 0
+    wrong = whole.drill(DRILLED)
+    yield "a drill that nobody kills", not wrong, wrong
+    for number in range(count):
+        there = Drilled(folder / f"drill-{number}", numbers)
+        ran += there.kill(whole.seconds)
+        wrong = there.look(made)
+        wrong += there.drill(50) if number % 2 else there.load()
+        yield f"kill {number + 1} of a drill", not wrong, wrong
+    yield "most drills still ran when they were killed", ran * 2 > count, f"{ran} of {count}"
+
+
 def cases(folder, count, numbers):
     (folder / "whole").mkdir()
     seconds, wrong = measure(folder / "whole", numbers)
@@ -193,6 +269,7 @@ def cases(folder, count, numbers):
     yield from kills(folder, numbers, count, [], seconds)
     yield from kills(folder, numbers, (count + 2) // 3, ["--limit", str(LIMIT)], seconds)
     yield from at_each_call(folder, numbers)
+    yield from drills(folder, numbers, (count + 1) // 2)
 
 
 def main():

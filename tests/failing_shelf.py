@@ -304,13 +304,13 @@ def place_of(name, path):
 
 
 class Commands:
-    """The program's commands over a spool of two pairs and a left draft, with the library before it."""
+    """The program's commands over a spool of these packets and a left draft, with the library before it."""
 
-    def __init__(self, library, folder):
+    def __init__(self, library, folder, count=130):
         self.folder, self.spool, self.library = folder, os.path.join(folder, "spool"), library
         self.fresh, self.log, self.input = folder + ".fresh", folder + ".log", folder + ".pcap"
         numbers = random.Random(21)
-        self.old, self.new = list(records(numbers, 130)), list(records(numbers, 130))
+        self.old, self.new = list(records(numbers, count)), list(records(numbers, count))
         self.pairs = [spools.cut(packets, 4096, 2) for packets in (self.old, self.new)]
         pathlib.Path(self.input).write_bytes(spools.write_pcap(self.old))
         shutil.rmtree(folder)
@@ -346,13 +346,18 @@ class Commands:
             and self.run("load", SMALL)[0][1:] == ("", 0)
 
 
-def failing_calls(commands, command, options):
-    """Each call of the system that a command makes on the spool: which of its kind it is, and its line."""
-    commands.anew()
+def numbered(calls):
+    """Each call of the system: its line, and which of its kind it is."""
     counts = {}
-    for line in commands.run(command, options)[1]:
+    for line in calls:
         counts[line[0]] = counts.get(line[0], 0) + 1
         yield line, f"{line[0]}:{counts[line[0]]}"
+
+
+def failing_calls(commands, command, options):
+    """Each call of the system that a command makes on the spool: its line, and which of its kind it is."""
+    commands.anew()
+    yield from numbered(commands.run(command, options)[1])
 
 
 def commands_meet_each_fault(commands):
@@ -388,6 +393,91 @@ def commands_meet_a_full_disk(commands):
                 yield f"no space at write {which}{more} of {line[1]}", good, said
 
 
+# The packets of the spool before a drill, and of a drill of one pair and of one of two.
+BEFORE, ONE, TWO = 4, 2, 9345
+
+
+class Drills(Commands):
+    """`drill` over a spool of one small pair and a left draft."""
+
+    def __init__(self, library, folder):
+        super().__init__(library, folder, BEFORE)
+        [self.old] = self.pairs[0]
+        [self.stamp] = spools.stamps(self.fresh)
+
+    def without_stamps(self, text):
+        """A text in which each stamp but that of the old pair, which goes by the clock, is another word."""
+        return spools.STAMP.sub(lambda found: found[0] if int(found[0], 16) == self.stamp else "new", text)
+
+    def drill(self, count, fail=""):
+        """Output, messages and status of a drill in the spool as it was at first, and its calls there."""
+        self.anew()
+        return self.run("drill", [str(count)], fail)
+
+    def left(self, pairs):
+        """What is wrong if the spool is to have these pairs, in words; another drill is made last."""
+        wrong, stamps = [], spools.stamps(self.spool)
+        if [spools.packets_of(self.spool, stamp) for stamp in stamps] != pairs:
+            wrong.append(f"the pairs are {stamps}")
+        drafts = {name for name in spools.files(self.spool) if "/.draft-" in name} - {"IDX0/.draft-9"}
+        if drafts:
+            wrong.append(f"drafts are left: {drafts}")
+        said = self.run("check", [])[0]
+        lines = "".join(f"{stamp} whole {len(pair)}\n" for stamp, pair in zip(stamps, pairs))
+        if said != (lines.encode(), "", 0):
+            wrong.append(f"check says {said}")
+        said = self.run("drill", [str(ONE)])[0]
+        if said != (spools.drill_summary(ONE, pairs + spools.drill_pairs(ONE)), "", 0):
+            wrong.append(f"the next drill says {said}")
+        names = [f"{part}/{stamp:016x}" for part in ("IDX0", "PKT0") for stamp in spools.stamps(self.spool)]
+        if spools.files(self.spool) != names:
+            wrong.append(f"files are left over: {spools.files(self.spool)}")
+        return wrong
+
+    def fails(self, count, line, fail, made, words="Input/output error"):
+        """Whether a drill whose call of this line fails writes nothing, says so, and leaves the old pair and these ones."""
+        said, _ = self.drill(count, fail)
+        lines = [f"steno: the spool failed\nsteno: {name} {place_of(name, line[1])}: {words}\n" for name in CALL_NAMES[line[0]]]
+        good = (said[0], said[2]) == (b"", 7) and self.without_stamps(said[1]) in map(self.without_stamps, lines)
+        wrong = self.left([self.old, *made])
+        return good and not wrong, (said, wrong)
+
+
+def settled(calls):
+    """The places of those calls of a drill that give a block file its name, which makes a pair."""
+    return [place for place, line in enumerate(calls) if line[0] == "rename" and "/PKT0/" in line[1]]
+
+
+def drill_meets_each_fault(drills):
+    """Nothing is written. From the call on that gives its block file the name the pair is there, and before it is not."""
+    made = spools.drill_pairs(ONE)
+    clean, calls = drills.drill(ONE)
+    yield "drill works", clean == (spools.drill_summary(ONE, [drills.old, *made]), "", 0) and len(calls) > 60, clean
+    [pair] = settled(calls)
+    for place, (line, which) in enumerate(numbered(calls)):
+        good, said = drills.fails(ONE, line, f"{which}:{errno.EIO}", made if place > pair else [])
+        yield f"drill: {line[0]} {line[1]} fails", good, said
+        said, _ = drills.drill(ONE, f"{which}:{errno.EINTR}")
+        yield f"drill: {line[0]} {line[1]} is broken off", said == clean, said
+
+
+def drill_keeps_its_first_pair(drills):
+    """Of a drill of two pairs each call fails that makes the second one: the first one stays."""
+    made = spools.drill_pairs(TWO)
+    clean, calls = drills.drill(TWO)
+    yield "drill makes two pairs", clean == (spools.drill_summary(TWO, [drills.old, *made]), "", 0) and len(made) == 2, clean
+    first, second = settled(calls)
+    flushes = 2
+    for place, (line, which) in enumerate(numbered(calls)):
+        if first + flushes < place <= second + flushes:
+            good, said = drills.fails(TWO, line, f"{which}:{errno.EIO}", made if place > second else made[:1])
+            yield f"drill of two pairs: {line[0]} {line[1]} fails", good, said
+        if line[0] == "write" and (which == "write:1" or place > first):
+            there = made[:1] if place > first else []
+            good, said = drills.fails(TWO, line, f"{which}+:{errno.ENOSPC}", there, "No space left on device")
+            yield f"drill of two pairs: no space from {which} on", good, said
+
+
 GROUPS = [keeps_the_order, syncs_new_folders, meets_each_fault, meets_each_fault_at_the_next_start, meets_two_faults,
           meets_a_disk_that_is_gone, meets_many_signals, writes_by_halves, lists_all_or_nothing]
 
@@ -409,6 +499,10 @@ def cases(folder):
         place = os.path.join(folder, group.__name__)
         os.mkdir(place)
         yield from group(Commands(library, place))
+    for group in (drill_meets_each_fault, drill_keeps_its_first_pair):
+        place = os.path.join(folder, group.__name__)
+        os.mkdir(place)
+        yield from group(Drills(library, place))
 
 
 def main():

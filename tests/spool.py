@@ -9,6 +9,7 @@ import os
 import re
 import struct
 
+from drill import pcap as drill_pcap
 from pairs import PORT, PROTO, V4, VLAN, block_file, keys, room
 
 keys = functools.lru_cache(maxsize=None)(keys)
@@ -37,6 +38,7 @@ def write_pcap(packets, unit=1):
     return b"".join(parts)
 
 
+@functools.lru_cache(maxsize=16)  # a drill makes the same files each time
 def read_block_file(text):
     """The packets of a block file, every byte of which must be as docs/FORMAT.md says."""
     size = int.from_bytes(text[4:8], "little")
@@ -89,6 +91,30 @@ def is_port(number):
 def is_in_net(high, low):
     """IPv4 addresses from one to another, as numbers."""
     return lambda packet: any(kind == V4 and high <= value <= low for kind, value in keys(packet[3]))
+
+
+# The queries of a drill, and for each whether a packet matches.
+DRILL_QUERIES = {
+    "port 53": is_port(53),
+    "ip proto 6 and net 10.0.0.0/25": lambda packet: (PROTO, 6) in keys(packet[3]) and is_in_net(0x0A000000, 0x0A00007F)(packet),
+    "before 2001-09-09T01:48:20Z": lambda packet: packet[0] < 1_000_000_100,
+    "after 2001-09-09T01:48:20Z": lambda packet: packet[0] >= 1_000_000_100,
+}
+
+
+def drill_pairs(count):
+    """The packets of a drill, as it cuts them into pairs."""
+    return cut(read_pcap(drill_pcap(count)), 65536, 16)
+
+
+def drill_summary(count, pairs):
+    """What a drill of so many packets writes over a spool that has these pairs then, its own among them."""
+    lines = [f"drill {count}", f"pairs {len(drill_pairs(count))}"]
+    packets = [packet for pair in pairs for packet in pair]
+    for text, holds in DRILL_QUERIES.items():
+        found = list(filter(holds, packets))
+        lines.append(f"{text}: {len(found)} packets {len(write_pcap(found, 1000))} bytes")
+    return "".join(line + "\n" for line in lines).encode()
 
 
 # Queries, and for each whether a packet matches.

@@ -1,4 +1,4 @@
-"""The cases of end_to_end.py over a spool in a real folder: load, list, check and query.
+"""The cases of end_to_end.py over a spool in a real folder: load, list, check, query and drill.
 
 What is there is read by spool.py, which is made from docs/FORMAT.md alone. What the machine does not
 allow (a mount of one's own, another user to become), or a tool that is missing, is left out, and said.
@@ -184,7 +184,8 @@ def refuses_arguments(folder):
     usage = b"steno: usage: steno COMMAND [ARGUMENTS] [OPTIONS]\n"
     for arguments in (["load"], ["load", ""], ["load", there, "x"], ["load", "--block", "5000", there], ["load", "--blocks", "4096", there],
                       ["load", "--blocks", "0", there], ["load", "--ns", there], ["query", there], ["query", "--limit", "3", there, "udp"],
-                      ["list"], ["list", "--ns", there], ["check", there, there], ["check", "--packets", "3", there]):
+                      ["list"], ["list", "--ns", there], ["check", there, there], ["check", "--packets", "3", there], ["drill", there],
+                      ["drill", there, "0"], ["drill", there, "1000001"], ["drill", "1", there], ["drill", "--limit", "3", there, "1"]):
         said = run(*arguments)
         yield f"{' '.join(map(str, arguments))} has no plan", said == (b"", usage, 2), said
     said = run("query", there, "port")
@@ -235,7 +236,7 @@ def names_damage(folder):
     yield from is_sound("a spool whose files are as they were", there, spool.cut(packets, 4096, 2))
 
 
-COMMANDS = [("load",), ("list",), ("check",), ("query", "udp")]
+COMMANDS = [("load",), ("list",), ("check",), ("query", "udp"), ("drill", "1")]
 
 
 def each_fails(name, folder, line, **more):
@@ -291,6 +292,8 @@ def lacks_rights(folder):
 
 def meets_full_outputs(folder):
     text = samples()["mixed"]
+    sample = [spool.read_pcap(text)]
+    added = {"load": sample, "drill": spool.drill_pairs(1)}
     for number, (command, *rest) in enumerate(COMMANDS):
         there = folder / str(number)
         run("load", there, stdin=text)
@@ -300,7 +303,7 @@ def meets_full_outputs(folder):
         call = "flush" if command == "query" else "write"
         line = f"steno: writing the output failed\nsteno: {call} standard output: No space left on device\n".encode()
         yield f"a full output: {command}", (done.stderr, done.returncode) == (line, 6), done
-        yield from is_sound(f"after a full output of {command}", there, [spool.read_pcap(text)] * (2 if command == "load" else 1))
+        yield from is_sound(f"after a full output of {command}", there, sample + added.get(command, []))
     there = folder / "folder"
     place = os.open(folder, os.O_RDONLY)
     done = subprocess.run([STENO, "load", there], stdin=place, capture_output=True, timeout=SECONDS)
