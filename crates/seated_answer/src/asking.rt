@@ -2,7 +2,6 @@
 
 ghost use Rattle.seated_answer.specs.Resting.{Rests, Rested};
 
-use crate::pairs::{SharedSpool, SpoolPass};
 use crate::replies::{Runs, read_reply};
 use st_base::{Limits, MemSink, Plain};
 use st_pcap::Unit;
@@ -11,6 +10,7 @@ use st_seated::answer_shared;
 use st_shelf::Shelf;
 use std::alloc::Global;
 use std::sync::Wait;
+use turn_trials::{SharedSpool, SpoolPass};
 
 /// What is asked for.
 pub const QUESTION: &[u8] = b"port 53";

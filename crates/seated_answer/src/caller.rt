@@ -5,8 +5,7 @@ ghost use Rattle.st_turn.specs.Passes.{IsOf};
 ghost use Rattle.seated_answer.specs.Resting.{Rests, Rested};
 
 use crate::asking::{Heard, QUESTION, ask};
-use crate::pairs::{AnyPair, SharedSpool, SpoolPass, age, publish};
-use crate::runs::opened;
+use crate::pairs::publish;
 use st_query::{Query, parse};
 use st_seated::passes_sit;
 use st_shelf::Shelf;
@@ -14,6 +13,7 @@ use st_spool::Spool;
 use st_turn::{NotShared, share};
 use std::alloc::Global;
 use std::sync::Wait;
+use turn_trials::{AnyPair, SharedSpool, SpoolPass, age, opened};
 
 /// What came of each call, in their order.
 #[derive(Clone, Copy)]

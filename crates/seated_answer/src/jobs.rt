@@ -5,12 +5,13 @@ ghost use Rattle.seated_answer.specs.Seats.{IsReady, IsDone};
 
 use crate::asking::{Heard, QUESTION, ask};
 use crate::halves::Work;
-use crate::pairs::{SharedSpool, SpoolPass, age, publish};
+use crate::pairs::publish;
 use crate::replies::Runs;
 use st_query::{Query, parse};
 use st_shelf::Shelf;
 use std::alloc::Global;
 use std::sync::Wait;
+use turn_trials::{SharedSpool, SpoolPass, age};
 
 /// So many pairs of one maker, numbered from `first` on.
 #[derive(Clone, Copy)]

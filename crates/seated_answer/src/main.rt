@@ -38,12 +38,13 @@ use asking::Heard;
 use caller::{Seen, one_caller};
 use jobs::{Batch, Job, Part};
 use replies::Run;
-use runs::{Left, run};
+use runs::run;
 use st_folder::RealShelf;
 use st_shelf::{Draft, MemShelf, Shelf};
 use std::sync::Wait;
 use std::thread::Threads;
 use std::{fs, io};
+use turn_trials::Left;
 
 const FOLDER: &str = "seated_answer_spool";
 

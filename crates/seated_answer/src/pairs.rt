@@ -1,4 +1,4 @@
-//! Pairs of small captures, filled, published and aged in turns.
+//! Pairs of small captures, filled and published in turns.
 
 ghost use Rattle.std.specs.Prelude.{◌≡◌, ◌≤◌, IsTrue, IfSome, false};
 ghost use Rattle.st_turn.specs.Passes.{IsOf, IsSame};
@@ -10,26 +10,12 @@ use crate::packets::{Label, PACKETS, SIZE, packet, time_of};
 use st_base::RecordRef;
 use st_lane::{Lane, LaneRefused, Pushed, SealErr};
 use st_shelf::{Draft, End, Kind, SealedPair, Shelf};
-use st_spool::{PairRule, Spool};
-use st_turn::{Pass, Shared, SharedPublishErr};
 use std::alloc::Global;
 use std::sync::Wait;
+use turn_trials::{SharedSpool, SpoolPass, publish_pair};
 
 // A block file of one block, in bytes, holds a pair.
 const BLOCK_SIZE: u32 = 4_096;
-
-/// Each pair may be published.
-pub struct AnyPair;
-
-impl PairRule for AnyPair {
-    ghost use Rattle.std.specs.Prelude.{⊤};
-
-    ghost is_whole = { λ block index. ⊤ };
-}
-
-pub type SharedSpool<D> = Shared<Spool<D, AnyPair>>;
-
-pub type SpoolPass<D> = Pass<Spool<D, AnyPair>>;
 
 // A lane without records, over two drafts.
 fn open_lane<D: Shelf, R: Wait>(
@@ -142,55 +128,6 @@ fn sealed<D: Shelf, R: Wait>(
     }
 }
 
-// Gives a pair up.
-fn give_up<D: Shelf, R: Wait>(
-    rt: &R,
-    shared: &SharedSpool<D>,
-    pass: &mut SpoolPass<D>,
-    pair: SealedPair<D::Draft>,
-)
-    requires of { IsOf shared.now pass.old }
-    requires block { (D.Draft.sealed_origin pair.block).home ≡ D.id shared.now.base.shelf }
-    requires index { (D.Draft.sealed_origin pair.index).home ≡ D.id shared.now.base.shelf }
-    ensures same { IsSame pass.old pass.new }
-    ensures holds { pass.new.state.held ≡ pass.old.state.held }
-{
-    let SealedPair { block, index } = pair;
-    shared.abandon(rt, pass, End::Sealed(block));
-    shared.abandon(rt, pass, End::Sealed(index));
-}
-
-// Publishes a pair of sealed files, and answers its stamp.
-fn publish_sealed<D: Shelf, R: Wait>(
-    rt: &R,
-    shared: &SharedSpool<D>,
-    pass: &mut SpoolPass<D>,
-    pair: SealedPair<D::Draft>,
-) -> Option<u64>
-    requires of { IsOf shared.now pass.old }
-    requires pair { IsPairOf (D.id shared.now.base.shelf)
-        (D.Draft.sealed_origin pair.block) (D.Draft.sealed_origin pair.index) }
-    ensures same { IsSame pass.old pass.new }
-    ensures holds { pass.new.state.held ≡ pass.old.state.held }
-{
-    match shared.publish(rt, pass, pair, 0) {
-        Ok(stamp) => Some(stamp),
-        Err(SharedPublishErr::DiskFault) => None,
-        Err(SharedPublishErr::Halted { since: _, pair }) => {
-            give_up(rt, shared, pass, pair);
-            None
-        }
-        Err(SharedPublishErr::StampsSpent { last: _, pair }) => {
-            give_up(rt, shared, pass, pair);
-            None
-        }
-        Err(SharedPublishErr::NoMemory { pair }) => {
-            give_up(rt, shared, pass, pair);
-            None
-        }
-    }
-}
-
 /// Publishes the pair of this maker and number, and answers its stamp; None if it failed.
 pub fn publish<D: Shelf, R: Wait>(
     rt: &R,
@@ -214,21 +151,5 @@ pub fn publish<D: Shelf, R: Wait>(
     let Some(files) = sealed(rt, shared, pass, lane) else {
         return None;
     };
-    publish_sealed(rt, shared, pass, files)
-}
-
-/// Removes the oldest pair if there are too many, and answers whether it did; None if it failed.
-pub fn age<D: Shelf, R: Wait>(
-    rt: &R,
-    shared: &SharedSpool<D>,
-    pass: &mut SpoolPass<D>,
-) -> Option<bool>
-    requires { IsOf shared.now pass.old }
-    ensures same { IsSame pass.old pass.new }
-    ensures holds { pass.new.state.held ≡ pass.old.state.held }
-{
-    match shared.age(rt, pass) {
-        Ok(removed) => Some(removed),
-        Err(_) => None,
-    }
+    publish_pair(rt, shared, pass, files)
 }

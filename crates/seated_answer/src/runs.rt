@@ -1,4 +1,4 @@
-ghost use Rattle.std.specs.Prelude.{◌≡◌, ◌<◌, ◌≤◌, ◌++◌, [], List, IfOk, IfSome, IsSome, MatchResult, option_to_list, vec_len, vec_capacity};
+ghost use Rattle.std.specs.Prelude.{◌≡◌, ◌<◌, ◌≤◌, ◌++◌, [], List, IfOk, IsSome, MatchResult, option_to_list, vec_len, vec_capacity};
 ghost use Rattle.st_disk.specs.Events.{Event};
 ghost use Rattle.st_spool.specs.declared.state.Span.{Span};
 ghost use Rattle.st_spool.specs.States.{SpoolView};
@@ -8,14 +8,14 @@ ghost use Rattle.st_turn.specs.Spools.{facts_of, KeepsOf};
 
 use crate::halves::four;
 use crate::jobs::{Job, Seat, Turns};
-use crate::pairs::{AnyPair, SpoolPass};
 use st_seated::passes_sit;
-use st_shelf::{Draft, Name, Shelf};
-use st_spool::{NotEntered, Spool};
+use st_shelf::{Draft, Shelf};
+use st_spool::Spool;
 use st_turn::{NotShared, share};
 use std::alloc::Global;
 use std::sync::Wait;
 use std::thread::Threads;
+use turn_trials::{AnyPair, Left, SpoolPass, closed, opened};
 
 // Puts the pass of a seat behind others, for which there is room, and answers the job.
 fn leave<D: Shelf>(passes: &mut Vec<SpoolPass<D>>, seat: Seat<D>) -> Job
@@ -75,52 +75,6 @@ where
     Ok(shared.finish(passes))
 }
 
-/// What a run left.
-#[derive(Clone, Copy)]
-pub struct Left {
-    pub pairs: usize,
-    pub parked: usize,
-}
-
-// How many pairs a spool has.
-fn pair_count<D: Shelf>(spool: &mut Spool<D, AnyPair>) -> usize
-    requires { spool.old.state.holds ≡ [] }
-    ensures { spool.new.state.holds ≡ [] }
-{
-    let Ok(hold) = spool.hold() else {
-        return 0;
-    };
-    let count = spool.count(&hold);
-    spool.release(hold);
-    count
-}
-
-// How many names of parked indexes a shelf has, if it can say.
-fn parked<D: Shelf>(alloc: Global, shelf: &mut D) -> Option<usize> {
-    let Ok(names) = shelf.list(alloc) else {
-        return None;
-    };
-    let mut count: usize = 0;
-    for name in names.items() {
-        if let Name::Parked(_) = name {
-            count = count.saturating_add(1);
-        }
-    }
-    Some(count)
-}
-
-/// A spool of this limit over a shelf; None if it can't be opened.
-pub fn opened<D: Shelf + Drop>(alloc: Global, shelf: D, limit: u32) -> Option<Spool<D, AnyPair>>
-    requires { 1 ≤ limit }
-    ensures { IfSome result (λ s. s.state.holds ≡ []) }
-{
-    let entered: Result<Spool<D, AnyPair>, NotEntered<D>> = Spool::enter(alloc, shelf, limit);
-    match entered {
-        Ok(spool) => Some(spool),
-        Err(NotEntered { cause: _, shelf: _ }) => None,
-    }
-}
-
 /// Opens a spool of this limit over a shelf, does the jobs, and says what they left.
 pub fn run<D: Shelf + Send + Drop, R: Threads + Wait + Sync>(
     rt: &R,
@@ -137,12 +91,7 @@ where
 {
     let spool = opened(alloc, shelf, limit)?;
     match serve(rt, alloc, spool, jobs) {
-        Ok(mut spool) => {
-            let pairs = pair_count(&mut spool);
-            let mut shelf = spool.close();
-            let parked = parked(alloc, &mut shelf)?;
-            Some(Left { pairs, parked })
-        }
+        Ok(spool) => closed(alloc, spool),
         Err(spool) => {
             let _shelf = spool.close();
             None

@@ -1,5 +1,6 @@
 ghost use Rattle.std.specs.Prelude.{◌≡◌, ◌<◌, ◌∷◌, IfSome, Contains};
 ghost use Rattle.st_spool.specs.Holding.{size_of};
+ghost use Rattle.st_spool.specs.Publishing.{IsPairOf};
 ghost use Rattle.st_turn.specs.Passes.{IsOf, IsSame};
 
 use crate::spools::{SharedSpool, SpoolPass};
@@ -57,8 +58,40 @@ fn give_up<D: Shelf, R: Wait>(
     shared.abandon(rt, pass, End::Sealed(index));
 }
 
-/// Publishes a pair whose files have these bytes, and answers its stamp. None if a call failed or
-/// memory ran out; a pair that was not tried to publish is given up.
+/// Publishes a pair of sealed files of the shared spool's shelf, and answers its stamp. None if it
+/// failed; a pair that was not tried to publish is given up.
+pub fn publish_pair<D: Shelf, R: Wait>(
+    rt: &R,
+    shared: &SharedSpool<D>,
+    pass: &mut SpoolPass<D>,
+    pair: SealedPair<D::Draft>,
+) -> Option<u64>
+    requires of { IsOf shared.now pass.old }
+    requires pair { IsPairOf (D.id shared.now.base.shelf)
+        (D.Draft.sealed_origin pair.block) (D.Draft.sealed_origin pair.index) }
+    ensures same { IsSame pass.old pass.new }
+    ensures holds { pass.new.state.held ≡ pass.old.state.held }
+{
+    match shared.publish(rt, pass, pair, 0) {
+        Ok(stamp) => Some(stamp),
+        Err(SharedPublishErr::DiskFault) => None,
+        Err(SharedPublishErr::Halted { since: _, pair }) => {
+            give_up(rt, shared, pass, pair);
+            None
+        }
+        Err(SharedPublishErr::StampsSpent { last: _, pair }) => {
+            give_up(rt, shared, pass, pair);
+            None
+        }
+        Err(SharedPublishErr::NoMemory { pair }) => {
+            give_up(rt, shared, pass, pair);
+            None
+        }
+    }
+}
+
+/// Publishes a pair whose files have these bytes, as `publish_pair` does. None, too, if a file could
+/// not be made.
 pub fn publish<D: Shelf, R: Wait>(
     rt: &R,
     shared: &SharedSpool<D>,
@@ -75,22 +108,7 @@ pub fn publish<D: Shelf, R: Wait>(
         shared.abandon(rt, pass, End::Sealed(block));
         return None;
     };
-    match shared.publish(rt, pass, SealedPair { block, index }, 0) {
-        Ok(stamp) => Some(stamp),
-        Err(SharedPublishErr::DiskFault) => None,
-        Err(SharedPublishErr::Halted { since: _, pair }) => {
-            give_up(rt, shared, pass, pair);
-            None
-        }
-        Err(SharedPublishErr::StampsSpent { last: _, pair }) => {
-            give_up(rt, shared, pass, pair);
-            None
-        }
-        Err(SharedPublishErr::NoMemory { pair }) => {
-            give_up(rt, shared, pass, pair);
-            None
-        }
-    }
+    publish_pair(rt, shared, pass, SealedPair { block, index })
 }
 
 /// Removes the oldest pair if there are more than the limit, and answers whether it did. None if
