@@ -43,7 +43,9 @@ IsTaken failed = (failed.call ≡ Lock) × (error_kind failed.error ≡ kind.Wou
 -- `steno: CALL PATH: WORDS` and a line feed, where WORDS are the system's
 pub record IsFailureLine (path : List ℕ) (failed : CallFailure) (line : List ℕ) : Type 0 where
   pub words : List ℕ
-  pub text : line ≡ codes "steno: " ++ (call_name failed.call ++ (codes " " ++ (path ++ (codes ": " ++ (words ++ codes "\n")))))
+  pub text : line
+      ≡ codes "steno: " ++ (call_name failed.call ++ (codes " " ++ (path ++ (codes ": "
+      ++ (words ++ codes "\n")))))
   pub taken : IsTaken failed → words ≡ codes "another program has the folder"
 
 -- the line of the first failure, which there is, of the shelf in the folder `root`
