@@ -1,3 +1,4 @@
+//! How a pass takes the spool and gives it back: the table's rule, and waiting.
 ghost use Rattle.std.specs.Prelude.{◌≡◌, ◌<◌, ◌∷◌, [], Some, None, ℕ, List, length, set, cond};
 ghost use Rattle.st_base.specs.Faults.{next_count};
 ghost use Rattle.st_disk.specs.Events.{Event};
@@ -69,12 +70,12 @@ pub type Desk<S> = Steps<Option<Home<S>>, Knowledge<S>, Snapshot<Home<S>>, Rule<
 pub type Place<S> = Seat<Option<Home<S>>, Knowledge<S>>;
 
 // A caller that finds the turn taken tries again at once so often, then lets others run between its
-// tries, up to so many tries, and then sleeps, each time twice as long, up to 4 milliseconds.
+// tries, up to so many tries, and then sleeps, each time twice as long, up to 8 milliseconds.
 const AT_ONCE: u32 = 16;
 
-const AWAKE: u32 = 32;
+const AWAKE: u32 = 20;
 
-const FIRST_SLEEP_MICROS: u64 = 64;
+const FIRST_SLEEP_MICROS: u64 = 128;
 
 const MOST_DOUBLINGS: u32 = 6;
 
