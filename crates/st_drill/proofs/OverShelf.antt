@@ -60,7 +60,7 @@ module _ (n : ℕ) (first : Log) (mid known : Option Log) (before st : SpoolStat
   -- nothing in doubt has begun
   none : loaded ≡ load.Done → begun st.doubt p.loads.f ≡ []
   none done = ap (λ (d : Doubt). begun d p.loads.f)
-      (p.calm (λ disk. let no : load.Done ≡ load.DiskFault = sym done ∙ disk in cc))
+      (p.no_doubt (λ disk. let no : load.Done ≡ load.DiskFault = sym done ∙ disk in cc))
 
   ran : (now : Log) × (known ≡ Some now)
       × CoversInDoubt (Found entered.pairs ∷ []) (events_of p.loads.acts) (begun st.doubt p.loads.f)
@@ -112,13 +112,13 @@ module _ (n : ℕ) (first : Log) (mid known : Option Log) (before st : SpoolStat
     sure = did;
     doubt = begun st.doubt p.loads.f;
     events_are = sym (ap (λ (es : List Event). did ++ es) (none done) ∙ append-nil did);
-    calm = λ other. none done;
+    no_doubt = λ other. none done;
     images = ran.2;
   }
 
   any : Opens
   any = opened MAX_PAIRS layout first mid known (Some (input n)) times times_now
-      (Some []) p.lines loaded st before entered lim p.loads p.calm
+      (Some []) p.lines loaded st before entered lim p.loads p.no_doubt
 
   abbrev set : List Entry
   set = set_of (Found entered.pairs ∷ events_of p.loads.acts)

@@ -18,7 +18,7 @@ use Rattle.st_spool.specs.States.{SpoolState, SpoolView}
 use Rattle.st_spool.proofs.Kept.{KeepsRows, keeps_rows}
 use Rattle.st_pairs.specs.Pairs.{IsWholePair as IsWhole}
 use Rattle.st_answer.specs.Packets.{IsWholeSet}
-use Rattle.st_answer.specs.Replies.{Question as Asked, IsReply, RepliesFor, Tells, Blames, BlamesIn, AsksOnce, HasDiskCause}
+use Rattle.st_answer.specs.Replies.{Question, IsReply, RepliesFor, Tells, Blames, BlamesIn, AsksOnce, HasDiskCause}
 use Rattle.st_answer.specs.Sets.{GoesOn}
 use Rattle.st_answer.specs.Stores.{HoldsView}
 use Rattle.st_answer.specs.Spools.{IsStill, Remains, spool_holds}
@@ -28,15 +28,15 @@ use Rattle.st_answer.specs.declared.errors.AnswerErr.TheVariants as error
 use Rattle.st_answer.specs.declared.errors.Told.{Told}
 use Rattle.st_drill.specs.declared.ends.DrillEnd.{DrillEnd}
 use Rattle.st_drill.specs.declared.ends.DrillEnd.TheVariants as end
-use Rattle.st_drill.specs.declared.questions.Question.{Question}
-use Rattle.st_drill.specs.declared.questions.Question.TheVariants.{Dns, NearTcp, Early, Late}
+use Rattle.st_drill.specs.declared.queries.DrillQuery.{DrillQuery}
+use Rattle.st_drill.specs.declared.queries.DrillQuery.TheVariants.{Dns, NearTcp, Early, Late}
 use Rattle.st_drill.specs.declared.summary.Answers.{Answers}
 use Rattle.st_drill.specs.Summary.{told_of}
-use Rattle.st_drill.specs.Questions.{question_tree}
-use Rattle.st_drill.specs.Asking.{asked_of, Counts, AnswerFails, AnswerFailsBy, IsAnswerFailure, TellsReply, HasShelfCause, StaysOpen}
+use Rattle.st_drill.specs.Queries.{query_tree}
+use Rattle.st_drill.specs.Asking.{asked_of, CountsMatches, AnswerFails, AnswerFailsBy, IsAnswerFailure, TellsReply, HasShelfCause, StaysOpen}
 
 pub tells_reply : {S : Type 0} (after : S → List ℕ → S) (gone : S → List ℕ) (old new : Option S)
-    (q : Asked) (known : Option (List Entry)) (r : Result Told AnswerErr)
+    (q : Question) (known : Option (List Entry)) (r : Result Told AnswerErr)
     → RepliesFor after gone old new q known r → TellsReply q known r
 tells_reply after gone old new q known (Ok told) h set is whole =
     let (rs, reply, sent, tells) = h set is whole in (rs, reply, tells)
@@ -100,11 +100,11 @@ goes_err before after e some (inr none) =
 
 -- the numbers that were told are those of the answer over the history's set
 pub counts_of : {D : Type 0} (log : D → Option Log) (a b : SpoolView D) (h : List Event) (node : Node)
-    (q : Question) (told : Told) → history_of log a ≡ Some h → Remains IsWhole log a b
+    (q : DrillQuery) (told : Told) → history_of log a ≡ Some h → Remains IsWhole log a b
     → AsksOnce {S = List ℕ} {T = Told} (holds_of log a) (holds_of log b) None None (Ok told)
-    → tree node ≡ question_tree q
+    → tree node ≡ query_tree q
     → TellsReply (asked_of node) (option_map set_of (taken_of log b)) (Ok told)
-    → IsWholeSet (set_of h) → Counts (set_of h) q told
+    → IsWholeSet (set_of h) → CountsMatches (set_of h) q told
 counts_of log a b h node q told seen remains asks is tells whole =
     let known = asked_set log a b h seen remains (goes_ok (holds_of log a) (holds_of log b) told asks) in
     let (rs, reply, numbers) = tells (set_of h) known whole in
@@ -196,9 +196,9 @@ causes_then a b c r less cause = record {
 }
 
 -- the numbers of each query are those of its answer
-pub all_counts : (set : List Entry) (a : Answers) → Counts set Dns a.dns → Counts set NearTcp a.near_tcp
-    → Counts set Early a.early → Counts set Late a.late → (q : Question)
-    → Counts set q (told_of a q)
+pub all_counts : (set : List Entry) (a : Answers) → CountsMatches set Dns a.dns → CountsMatches set NearTcp a.near_tcp
+    → CountsMatches set Early a.early → CountsMatches set Late a.late → (q : DrillQuery)
+    → CountsMatches set q (told_of a q)
 all_counts set a dns near early late Dns = dns
 all_counts set a dns near early late NearTcp = near
 all_counts set a dns near early late Early = early

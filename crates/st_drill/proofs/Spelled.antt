@@ -14,9 +14,9 @@ use Rattle.st_query.specs.PrintedForm.{printed}
 use Rattle.st_query.specs.Spelling.{IsSpelled, Spells, Refuses}
 use Rattle.st_query.proofs.Printed.{printed_spells}
 use Rattle.st_query.proofs.Readings.{one_tree, not_spelled}
-use Rattle.st_drill.specs.declared.questions.Question.{Question}
-use Rattle.st_drill.specs.declared.questions.Question.TheVariants.{Dns, NearTcp, Early, Late}
-use Rattle.st_drill.specs.Questions.{question_tree}
+use Rattle.st_drill.specs.declared.queries.DrillQuery.{DrillQuery}
+use Rattle.st_drill.specs.declared.queries.DrillQuery.TheVariants.{Dns, NearTcp, Early, Late}
+use Rattle.st_drill.specs.Queries.{query_tree}
 
 -- the day in the middle of the packets, as the calendar counts days
 abbrev middle_day : ℕ
@@ -39,14 +39,14 @@ middle_text : instant_text (pos 1_000_000_100) ≡ codes "2001-09-09T01:48:20Z"
 middle_text = simp (middle_year, middle_month, middle_of_month)
 
 -- the text of each query
-abbrev pub text : Question → List ℕ
+abbrev pub text : DrillQuery → List ℕ
 text Dns = codes "port 53"
 text NearTcp = codes "ip proto 6 and net 10.0.0.0/25"
 text Early = codes "before 2001-09-09T01:48:20Z"
 text Late = codes "after 2001-09-09T01:48:20Z"
 
 -- is its printed form
-pub text_printed : (q : Question) → text q ≡ printed (question_tree q)
+pub text_printed : (q : DrillQuery) → text q ≡ printed (query_tree q)
 unfolding digits
 text_printed Dns = refl
 text_printed NearTcp = refl
@@ -54,24 +54,24 @@ text_printed Early = ap (λ l. codes "before " ++ l) (sym middle_text)
 text_printed Late = ap (λ l. codes "after " ++ l) (sym middle_text)
 
 -- each query is one that can be asked
-pub sound : (q : Question) → IsSound (question_tree q)
+pub sound : (q : DrillQuery) → IsSound (query_tree q)
 sound Dns = record { in_range = omega arith; shallow = omega arith }
 sound NearTcp = record { in_range = (omega arith, (omega arith, omega arith, refl)); shallow = omega arith }
 sound Early = record { in_range = search arith; shallow = omega arith }
 sound Late = record { in_range = search arith; shallow = omega arith }
 
-short : (q : Question) → length (text q) ≤ 4096
+short : (q : DrillQuery) → length (text q) ≤ 4096
 short Dns = omega arith
 short NearTcp = omega arith
 short Early = omega arith
 short Late = omega arith
 
 -- what the printed form spells is the query
-pub spelled : (text : List ℕ) (q : Question) (n : Node) → text ≡ printed (question_tree q)
-    → Spells text n → tree n ≡ question_tree q
+pub spelled : (text : List ℕ) (q : DrillQuery) (n : Node) → text ≡ printed (query_tree q)
+    → Spells text n → tree n ≡ query_tree q
 spelled text q n e h =
-    one_tree text (tree n) (question_tree q) h.1
-    (subst (λ l. IsSpelled l (question_tree q)) (sym e) (printed_spells (question_tree q) (sound q)))
+    one_tree text (tree n) (query_tree q) h.1
+    (subst (λ l. IsSpelled l (query_tree q)) (sym e) (printed_spells (query_tree q) (sound q)))
 
 never : (text : List ℕ) (t : Tree) (e : QueryErr) → length text ≤ 4096 → IsSpelled text t
     → Refuses text e → ⊥
@@ -84,24 +84,24 @@ never text t (Long n) h s r = absurd (omega arith)
 never text t NoMemory h s r = r
 
 -- the printed form isn't refused
-pub not_refused : (text : List ℕ) (q : Question) (e : QueryErr) → text ≡ printed (question_tree q)
+pub not_refused : (text : List ℕ) (q : DrillQuery) (e : QueryErr) → text ≡ printed (query_tree q)
     → Refuses text e → ⊥
 not_refused text q e same r =
-    never text (question_tree q) e
+    never text (query_tree q) e
     (subst (λ l. length l ≤ 4096) (text_printed q ∙ sym same) (short q))
-    (subst (λ l. IsSpelled l (question_tree q)) (sym same) (printed_spells (question_tree q) (sound q)))
+    (subst (λ l. IsSpelled l (query_tree q)) (sym same) (printed_spells (query_tree q) (sound q)))
     r
 
 -- a parse of the printed form reads the query
-pub reads_tree : (text : List ℕ) (q : Question) (r : Result Node QueryErr)
-    → text ≡ printed (question_tree q) → IfOk r (λ n. Spells text n)
-    → IfOk r (λ n. tree n ≡ question_tree q)
+pub reads_tree : (text : List ℕ) (q : DrillQuery) (r : Result Node QueryErr)
+    → text ≡ printed (query_tree q) → IfOk r (λ n. Spells text n)
+    → IfOk r (λ n. tree n ≡ query_tree q)
 reads_tree text q (Ok n) same h = spelled text q n same h
 reads_tree text q (Err e) same h = tt
 
 -- and is refused only for want of memory
-pub reads_memory : (text : List ℕ) (q : Question) (r : Result Node QueryErr)
-    → text ≡ printed (question_tree q) → IfErr r (λ e. e ≢ NoMemory → Refuses text e)
+pub reads_memory : (text : List ℕ) (q : DrillQuery) (r : Result Node QueryErr)
+    → text ≡ printed (query_tree q) → IfErr r (λ e. e ≢ NoMemory → Refuses text e)
     → IfErr r (λ e. e ≡ NoMemory)
 reads_memory text q (Ok n) same h = tt
 reads_memory text q (Err NoMemory) same h = refl

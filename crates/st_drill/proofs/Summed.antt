@@ -26,14 +26,14 @@ use Rattle.st_load.specs.Loading.{AreCutFrom, Loads, Covered, BeginsWith, situat
 use Rattle.st_load.specs.declared.ends.LoadEnd.{LoadEnd}
 use Rattle.st_load.specs.declared.ends.LoadEnd.TheVariants as load
 use Rattle.st_load.proofs.Covered.{covered_none}
-use Rattle.st_load.proofs.Finishing.{calm}
+use Rattle.st_load.proofs.Finishing.{no_doubt}
 use Rattle.st_drill.specs.declared.ends.DrillEnd.{DrillEnd}
 use Rattle.st_drill.specs.declared.ends.DrillEnd.TheVariants as end
 use Rattle.st_drill.specs.declared.numbers.TheConstants.{BLOCK_SIZE, LINE_FEED}
-use Rattle.st_drill.specs.declared.questions.Question.{Question}
+use Rattle.st_drill.specs.declared.queries.DrillQuery.{DrillQuery}
 use Rattle.st_drill.specs.declared.summary.Answers.{Answers}
 use Rattle.st_shelf.specs.Loans.{LoansView}
-use Rattle.st_drill.specs.Asking.{Counts, AnswerFails, StaysOpen}
+use Rattle.st_drill.specs.Asking.{CountsMatches, AnswerFails, StaysOpen}
 use Rattle.st_drill.specs.Drilling.{IsSummary, EndsUnloaded, layout}
 use Rattle.st_drill.specs.Packets.{packets, input}
 use Rattle.st_drill.specs.Summary.{told_of, summary_text}
@@ -59,7 +59,7 @@ pub nothing_loaded : (n limit : ℕ) → n ≤ MAX_PACKETS → (known : Option L
     → StandsFor IsWhole known st earlier h f
     → LoadsPackets n limit known known st st earlier h times times load.NoMemory
 nothing_loaded n limit fits known st earlier h f times runs stands =
-    let quiet = calm known st earlier h f stands runs in
+    let quiet = no_doubt known st earlier h f stands runs in
     let start : Situation = situation h st times in
     let gone = happen (removals limit (set_of h)) ++ [] in
     let none = none_doubted st.doubt f quiet in
@@ -95,7 +95,7 @@ nothing_loaded n limit fits known st earlier h f times runs stands =
         images = subst (λ (d : Doubt). Covered known known h [] (begun d f)) (sym quiet)
             (covered_none known st earlier h f stands quiet);
       };
-      calm = λ other. quiet;
+      no_doubt = λ other. quiet;
     }
 
 module _ (n limit : ℕ) (given wrote text : List ℕ)
@@ -118,7 +118,7 @@ module _ (n limit : ℕ) (given wrote text : List ℕ)
   packed = record {
     lines = Some text;
     loads = moved;
-    calm = λ other. calm known st earlier (h ++ events_of moved.acts) moved.f moved.stands
+    no_doubt = λ other. no_doubt known st earlier (h ++ events_of moved.acts) moved.f moved.stands
         (runs other);
   }
 
@@ -198,7 +198,7 @@ module _ {D : Type 0} (log : D → Option Log) (n limit : ℕ) (before : Option 
             (sym remains.doubt) l.loads.doubt;
         images = covered;
       };
-      calm = λ other. remains.doubt ∙ l.calm other;
+      no_doubt = λ other. remains.doubt ∙ l.no_doubt other;
     }
 
 -- not all packets were loaded
@@ -230,7 +230,7 @@ module _ {D : Type 0} (log : D → Option Log) (n limit pairs : ℕ) (before : O
 
     -- all were, and this is the summary
     pub sum_done : (answers : Answers) (text : String Global)
-        → (IsWholeSet set → (q : Question) → Counts set q (told_of answers q))
+        → (IsWholeSet set → (q : DrillQuery) → CountsMatches set q (told_of answers q))
         → string_bytes text ≡ summary_text n pairs answers
         → Summarizes n limit before (log b.shelf) old b.state earlier h times times_now (Ok text)
     sum_done answers text counts is_text = record {

@@ -11,19 +11,19 @@ use Rattle.st_pairs.specs.Pairs.{IsWholePair as IsWhole}
 use Rattle.st_query.specs.declared.nodes.Node.{Node}
 use Rattle.st_query.specs.Trees.{tree}
 use Rattle.st_answer.specs.Packets.{IsWholePair, IsWholeSet}
-use Rattle.st_answer.specs.Replies.{Question as Asked, IsReply, Tells}
+use Rattle.st_answer.specs.Replies.{Question, IsReply, Tells}
 use Rattle.st_answer.specs.Spools.{Remains}
 use Rattle.st_answer.specs.declared.errors.AnswerErr.{AnswerErr}
 use Rattle.st_answer.specs.declared.errors.AnswerErr.TheVariants as error
 use Rattle.st_answer.specs.declared.errors.Told.{Told}
 use Rattle.st_drill.specs.declared.ends.DrillEnd.{DrillEnd}
 use Rattle.st_drill.specs.declared.ends.DrillEnd.TheVariants as end
-use Rattle.st_drill.specs.declared.questions.Question.{Question}
+use Rattle.st_drill.specs.declared.queries.DrillQuery.{DrillQuery}
 use Rattle.st_drill.specs.declared.numbers.TheConstants.{NO_LIMIT}
-use Rattle.st_drill.specs.Questions.{question_tree}
+use Rattle.st_drill.specs.Queries.{query_tree}
 
 -- the question that a query is, with the clock at 0 and without limits
-abbrev pub asked_of : Node → Asked
+abbrev pub asked_of : Node → Question
 asked_of node =
     record {
       node = node;
@@ -34,9 +34,9 @@ asked_of node =
 
 -- These are the numbers of the answer to the query over the file set: how many packets match, and
 -- how many bytes they are as a pcap.
-pub record Counts (set : List Entry) (q : Question) (numbers : Told) : Type 0 where
+pub record CountsMatches (set : List Entry) (q : DrillQuery) (numbers : Told) : Type 0 where
   pub node : Node
-  pub asks : tree node ≡ question_tree q
+  pub asks : tree node ≡ query_tree q
   pub packets : List Rec
   pub reply : IsReply (asked_of node) set packets
   pub told : Tells Micro packets numbers
@@ -63,7 +63,7 @@ IsAnswerFailure end.NoMemory = ⊤
 
 -- an answer that told these numbers is the reply to the question, if the set that was asked is
 -- known and all its pairs are whole
-abbrev pub TellsReply : Asked → Option (List Entry) → Result Told AnswerErr → Type 0
+abbrev pub TellsReply : Question → Option (List Entry) → Result Told AnswerErr → Type 0
 TellsReply q known result =
     (set : List Entry) → known ≡ Some set → IsWholeSet set
     → IfOk result (λ told. (rs : List Rec) × IsReply q set rs × Tells q.unit rs told)

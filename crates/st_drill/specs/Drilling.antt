@@ -17,9 +17,9 @@ use Rattle.st_spool.specs.History.{set_of}
 use Rattle.st_drill.specs.declared.ends.DrillEnd.{DrillEnd}
 use Rattle.st_drill.specs.declared.ends.DrillEnd.TheVariants as end
 use Rattle.st_drill.specs.declared.numbers.TheConstants.{BLOCK_SIZE, BLOCKS}
-use Rattle.st_drill.specs.declared.questions.Question.{Question}
+use Rattle.st_drill.specs.declared.queries.DrillQuery.{DrillQuery}
 use Rattle.st_drill.specs.declared.summary.Answers.{Answers}
-use Rattle.st_drill.specs.Asking.{Counts, AnswerFails}
+use Rattle.st_drill.specs.Asking.{CountsMatches, AnswerFails}
 use Rattle.st_drill.specs.Packets.{input}
 use Rattle.st_drill.specs.Summary.{told_of, summary_text}
 
@@ -31,7 +31,7 @@ layout = record { size = BLOCK_SIZE; blocks = BLOCKS }
 -- are those of the answers over the file set, if the pairs of the set are whole.
 pub record IsSummary (packets pairs : ℕ) (set : List Entry) (text : List ℕ) : Type 0 where
   pub answers : Answers
-  pub counts : IsWholeSet set → (q : Question) → Counts set q (told_of answers q)
+  pub counts : IsWholeSet set → (q : DrillQuery) → CountsMatches set q (told_of answers q)
   pub text_is : text ≡ summary_text packets pairs answers
 
 -- How a drill of this many packets ended once they were loaded, as this many pairs, into a spool

@@ -1,7 +1,7 @@
 pub mod Packets
 pub mod Source
 pub mod Laws
-pub mod Questions
+pub mod Queries
 pub mod Summary
 pub mod Asking
 pub mod Drilling

@@ -44,7 +44,7 @@ pub record LoadsPackets (packets limit : ℕ) (before known : Option Log) (old n
       (λ pairs. (bytes : List ℕ) → Some (input packets) ≡ Some bytes
       → AreCutFrom layout bytes loaded pairs)
       loaded before known new earlier h times_now (Some []) lines
-  pub calm : (loaded ≡ load.DiskFault → ⊥) → new.doubt ≡ Nothing
+  pub no_doubt : (loaded ≡ load.DiskFault → ⊥) → new.doubt ≡ Nothing
 
 -- The packets of a drill were loaded, and the result is how many pairs they became, or how the
 -- drill ended if not all were loaded.

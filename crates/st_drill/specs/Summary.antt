@@ -4,12 +4,12 @@ use Rattle.std.specs.Fmt.{decimal}
 use Rattle.st_query.specs.PrintedForm.{printed}
 use Rattle.st_answer.specs.declared.errors.Told.{Told}
 use Rattle.st_drill.specs.declared.summary.Answers.{Answers}
-use Rattle.st_drill.specs.declared.questions.Question.{Question}
-use Rattle.st_drill.specs.declared.questions.Question.TheVariants.{Dns, NearTcp, Early, Late}
-use Rattle.st_drill.specs.Questions.{question_tree}
+use Rattle.st_drill.specs.declared.queries.DrillQuery.{DrillQuery}
+use Rattle.st_drill.specs.declared.queries.DrillQuery.TheVariants.{Dns, NearTcp, Early, Late}
+use Rattle.st_drill.specs.Queries.{query_tree}
 
 -- the numbers of one query's answer
-abbrev pub told_of : Answers → Question → Told
+abbrev pub told_of : Answers → DrillQuery → Told
 told_of a Dns = a.dns
 told_of a NearTcp = a.near_tcp
 told_of a Early = a.early
@@ -17,9 +17,9 @@ told_of a Late = a.late
 
 -- the line of a query: its printed form, the number of packets, and the number of bytes that these
 -- are as a pcap
-unfoldable pub question_line : Question → Told → List ℕ
-question_line q told =
-    printed (question_tree q) ++ (codes ": " ++ (decimal told.packets ++ (codes " packets "
+unfoldable pub query_line : DrillQuery → Told → List ℕ
+query_line q told =
+    printed (query_tree q) ++ (codes ": " ++ (decimal told.packets ++ (codes " packets "
     ++ (decimal told.bytes ++ codes " bytes"))))
 
 -- two lines: how many packets were made, and how many pairs were published
@@ -31,6 +31,6 @@ head_lines packets pairs =
 abbrev pub summary_text : ℕ → ℕ → Answers → List ℕ
 summary_text packets pairs a =
     head_lines packets pairs
-    ++ (question_line Dns a.dns ++ (codes "\n" ++ (question_line NearTcp a.near_tcp ++ (codes "\n"
-    ++ (question_line Early a.early ++ (codes "\n" ++ (question_line Late a.late
+    ++ (query_line Dns a.dns ++ (codes "\n" ++ (query_line NearTcp a.near_tcp ++ (codes "\n"
+    ++ (query_line Early a.early ++ (codes "\n" ++ (query_line Late a.late
     ++ codes "\n")))))))

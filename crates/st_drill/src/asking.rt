@@ -10,12 +10,12 @@ ghost use Rattle.st_pcap.specs.declared.forms.Unit.TheVariants.{Micro};
 ghost use Rattle.st_answer.specs.Packets.{IsWholeSet};
 ghost use Rattle.st_answer.specs.Replies.{Blames, AsksOnce, HasDiskCause};
 ghost use Rattle.st_answer.specs.Stores.{IsSpent, StayHeld, asked};
-ghost use Rattle.st_drill.specs.Asking.{asked_of, Counts, AnswerFails, AnswerFailsBy, IsAnswerFailure, TellsReply, HasShelfCause, StaysOpen};
+ghost use Rattle.st_drill.specs.Asking.{asked_of, CountsMatches, AnswerFails, AnswerFailsBy, IsAnswerFailure, TellsReply, HasShelfCause, StaysOpen};
 ghost use Rattle.st_drill.specs.Summary.{told_of};
 
 use crate::ends::DrillEnd;
 use crate::numbers::NO_LIMIT;
-use crate::questions::Question;
+use crate::queries::DrillQuery;
 use crate::summary::Answers;
 use st_answer::{AnswerErr, Store, Told, answer};
 use st_base::{Limits, Plain, SureSink};
@@ -65,14 +65,14 @@ fn broken(error: AnswerErr) -> DrillEnd
 fn ask<D: Shelf>(
     alloc: Global,
     spool: &mut Spool<D, Indexed>,
-    question: Question,
+    question: DrillQuery,
 ) -> Result<Told, DrillEnd>
     // what is told, and how it fails
     ensures counts { (log : Log) (earlier h : List Event) (f : Files)
         → D.log spool.old.shelf ≡ Some log
         → StandsFor IsWholePair (D.log spool.old.shelf) spool.old.state earlier h f
         → MatchResult result
-        (λ told. IsWholeSet (set_of h) → Counts (set_of h) question told) (AnswerFails (set_of h)) }
+        (λ told. IsWholeSet (set_of h) → CountsMatches (set_of h) question told) (AnswerFails (set_of h)) }
     ensures breaks { IfErr result IsAnswerFailure }
     ensures disk { HasShelfCause (D.faults spool.old.shelf) (D.faults spool.new.shelf) result }
     // what stays
@@ -99,26 +99,26 @@ pub fn ask_all<D: Shelf>(alloc: Global, spool: &mut Spool<D, Indexed>) -> Result
         → StandsFor IsWholePair (D.log spool.old.shelf) spool.old.state earlier h f
         → MatchResult result
         (λ answers. IsWholeSet (set_of h)
-        → (q : Question) → Counts (set_of h) q (told_of answers q))
+        → (q : DrillQuery) → CountsMatches (set_of h) q (told_of answers q))
         (AnswerFails (set_of h)) }
     ensures breaks { IfErr result IsAnswerFailure }
     ensures disk { HasShelfCause (D.faults spool.old.shelf) (D.faults spool.new.shelf) result }
     // what stays
     ensures stays { StaysOpen D.log D.id D.loans spool.old spool.new }
 {
-    let dns = match ask(alloc, spool, Question::Dns) {
+    let dns = match ask(alloc, spool, DrillQuery::Dns) {
         Ok(told) => told,
         Err(end) => return Err(end),
     };
-    let near_tcp = match ask(alloc, spool, Question::NearTcp) {
+    let near_tcp = match ask(alloc, spool, DrillQuery::NearTcp) {
         Ok(told) => told,
         Err(end) => return Err(end),
     };
-    let early = match ask(alloc, spool, Question::Early) {
+    let early = match ask(alloc, spool, DrillQuery::Early) {
         Ok(told) => told,
         Err(end) => return Err(end),
     };
-    let late = match ask(alloc, spool, Question::Late) {
+    let late = match ask(alloc, spool, DrillQuery::Late) {
         Ok(told) => told,
         Err(end) => return Err(end),
     };

@@ -11,7 +11,7 @@
 //!   never fails (`DrillSource::new`, and `read` of `Source`).
 //! - That pcap is a whole input of these packets, as many as were asked for, in the order of their
 //!   numbers (`laws`).
-//! - Each query of a drill is the one that its text spells (`Question::query`, `Question::text`).
+//! - Each query of a drill is the one that its text spells (`DrillQuery::query`, `DrillQuery::text`).
 //! - A drill loads its packets as a load of that pcap does, then asks, then writes. Its summary
 //!   has the number of pairs that it published, and the counts of the answers over the spool's file
 //!   set, if the pairs that were found are whole; nothing is written before (`drill`, `job`).
@@ -36,7 +36,7 @@ mod ends;
 mod frame;
 pub mod laws;
 mod numbers;
-mod questions;
+mod queries;
 mod source;
 mod summary;
 #[cfg(test)]
@@ -45,6 +45,6 @@ mod tests;
 pub use drilling::{Drilled, drill};
 pub use ends::DrillEnd;
 pub use frame::frame_of;
-pub use questions::Question;
+pub use queries::DrillQuery;
 pub use source::DrillSource;
 pub use summary::Answers;

@@ -1,8 +1,8 @@
 //! The text that a drill writes once all is done.
 ghost use Rattle.std.specs.Prelude.{◌≡◌, IfOk, string_bytes};
-ghost use Rattle.st_drill.specs.Summary.{head_lines, question_line, summary_text};
+ghost use Rattle.st_drill.specs.Summary.{head_lines, query_line, summary_text};
 
-use crate::questions::Question;
+use crate::queries::DrillQuery;
 use st_answer::Told;
 use std::alloc::{AllocError, Global};
 
@@ -16,9 +16,9 @@ pub struct Answers {
 }
 
 // The line of a query with these numbers, without its end.
-#[tactic(auto, unfolding(crate::specs::Summary::question_line))]
-fn line(alloc: Global, question: Question, told: Told) -> Result<String, AllocError>
-    ensures { IfOk result (λ t. string_bytes t ≡ question_line question told) }
+#[tactic(auto, unfolding(crate::specs::Summary::query_line))]
+fn line(alloc: Global, question: DrillQuery, told: Told) -> Result<String, AllocError>
+    ensures { IfOk result (λ t. string_bytes t ≡ query_line question told) }
 {
     let text = question.text();
     let packets = told.packets;
@@ -46,9 +46,9 @@ pub fn summary(
     ensures { IfOk result (λ t. string_bytes t ≡ summary_text packets pairs answers) }
 {
     let head = head(alloc, packets, pairs)?;
-    let dns = line(alloc, Question::Dns, answers.dns)?;
-    let near_tcp = line(alloc, Question::NearTcp, answers.near_tcp)?;
-    let early = line(alloc, Question::Early, answers.early)?;
-    let late = line(alloc, Question::Late, answers.late)?;
+    let dns = line(alloc, DrillQuery::Dns, answers.dns)?;
+    let near_tcp = line(alloc, DrillQuery::NearTcp, answers.near_tcp)?;
+    let early = line(alloc, DrillQuery::Early, answers.early)?;
+    let late = line(alloc, DrillQuery::Late, answers.late)?;
     format!(in alloc; "{head}{dns}\n{near_tcp}\n{early}\n{late}\n")
 }

@@ -1,7 +1,7 @@
 //! The packets of drills. Expected bytes, sums and counts are those of `tests/drill.py`, which
 //! makes the packets from docs/FORMAT.md.
 
-use crate::{DrillEnd, DrillSource, Drilled, Question, drill};
+use crate::{DrillEnd, DrillQuery, DrillSource, Drilled, drill};
 use st_base::{MemClock, MemSink, Source};
 use st_pcap::PcapReader;
 use st_query::matches;
@@ -54,7 +54,7 @@ fn the_input_has_the_sum_of_another_generator(rt: HostRuntime) -> Result<(), Fai
 }
 
 // How many of 10,100 packets match.
-fn matching(alloc: Global, question: Question) -> Result<u32, Fail> {
+fn matching(alloc: Global, question: DrillQuery) -> Result<u32, Fail> {
     let query = question.query(alloc)?;
     let mut source = DrillSource::new(10_100);
     let mut reader = PcapReader::new();
@@ -72,10 +72,10 @@ fn matching(alloc: Global, question: Question) -> Result<u32, Fail> {
 #[test]
 fn queries_match_as_many_packets_as_counted_by_hand(rt: HostRuntime) -> Result<(), Fail> {
     let alloc = rt.alloc();
-    assert_eq!(rt; matching(alloc, Question::Dns)?, 1_010);
-    assert_eq!(rt; matching(alloc, Question::NearTcp)?, 64);
-    assert_eq!(rt; matching(alloc, Question::Early)?, 10_000);
-    assert_eq!(rt; matching(alloc, Question::Late)?, 100);
+    assert_eq!(rt; matching(alloc, DrillQuery::Dns)?, 1_010);
+    assert_eq!(rt; matching(alloc, DrillQuery::NearTcp)?, 64);
+    assert_eq!(rt; matching(alloc, DrillQuery::Early)?, 10_000);
+    assert_eq!(rt; matching(alloc, DrillQuery::Late)?, 100);
     Ok(())
 }
 

@@ -24,7 +24,7 @@ use Rattle.st_load.specs.Acts.{removals, newest}
 use Rattle.st_load.specs.Loading.{Covered}
 use Rattle.st_load.specs.Publishing.{Ages, AgesAll}
 use Rattle.st_load.proofs.Covered.{covered_none, covered_on, covered_fault}
-use Rattle.st_load.proofs.Finishing.{calm}
+use Rattle.st_load.proofs.Finishing.{no_doubt}
 use Rattle.st_load.proofs.Jobs.{removals_first, newest_first, removals_none, newest_all}
 
 -- as many pairs as the history has
@@ -54,7 +54,7 @@ aged_none known st earlier h f stands runs = record {
   are = ap (λ x. removals st.limit (set_of x)) (sym (append-nil h));
   newest_are = ap (λ x. newest st.limit (set_of x)) (sym (append-nil h));
   stands = subst (λ x. StandsFor IsWholePair known st earlier x f) (sym (append-nil h)) stands;
-  images = covered_none known st earlier h f stands (calm known st earlier h f stands runs);
+  images = covered_none known st earlier h f stands (no_doubt known st earlier h f stands runs);
 }
 
 set_drop : (k : ℕ) (all : List Entry) → IsFileSet all → IsFileSet (drop k all)

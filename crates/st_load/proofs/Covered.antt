@@ -12,7 +12,7 @@ use Rattle.st_spool.specs.Publishing.{RanTo, RanInDoubt, Keeps}
 use Rattle.st_spool.specs.Standing.{StandsFor, Gives, begun}
 use Rattle.st_spool.specs.States.{SpoolState}
 use Rattle.st_spool.specs.declared.state.Doubt.TheVariants as doubt
-use Rattle.st_spool.proofs.Covering.{covers_on, covers_still, covers_fault, covers_more, covers_calm}
+use Rattle.st_spool.proofs.Covering.{covers_on, covers_still, covers_fault, covers_more, covers_without_doubt}
 use Rattle.st_spool.proofs.Giving.{gives}
 use Rattle.st_load.specs.Loading.{Covered}
 
@@ -37,14 +37,14 @@ pub covered_then : (a b c : Option Log) (h es fs doubt : List Event) → Covered
 covered_then a b c h es fs doubt one two = λ first is.
     let (mid, known, cover) = one first is in
     let (now, known_now, later) = two mid known in
-    (now, known_now, covers_join h es fs doubt first mid now (covers_calm h es first mid cover) later)
+    (now, known_now, covers_join h es fs doubt first mid now (covers_without_doubt h es first mid cover) later)
 
 -- before the first call
 pub covered_none : (known : Option Log) (st : SpoolState) (earlier h : List Event) (f : Files) → StandsFor IsWholePair known st earlier h f → st.doubt ≡ doubt.Nothing
     → Covered known known h [] []
-covered_none known st earlier h f stands calm = λ first is.
+covered_none known st earlier h f stands no_doubt = λ first is.
     let each : Each first (Gives h (begun st.doubt f)) = λ c left. gives IsWholePair known st earlier h f stands c ((stands.disk first is).images c left) in
-    let sure : Each first (Gives h []) = subst (λ d. Each first (Gives h (begun d f))) calm each in
+    let sure : Each first (Gives h []) = subst (λ d. Each first (Gives h (begun d f))) no_doubt each in
     (first, is, covers_more h [] [] first first (started first (Gives h []) sure))
 
 -- a publication or a removal
@@ -52,20 +52,20 @@ pub covered_on : (a b c : Option Log) (h es : List Event) (e : Event) → Covere
 covered_on a b c h es e one ran = λ first is.
     let (mid, known, cover) = one first is in
     let run = ran mid known in
-    (run.log, run.is, covers_more h (es ++ e ∷ []) [] first run.log (covers_on h es e first mid run.log c (covers_calm h es first mid cover) run run.is))
+    (run.log, run.is, covers_more h (es ++ e ∷ []) [] first run.log (covers_on h es e first mid run.log c (covers_without_doubt h es first mid cover) run run.is))
 
 -- one that failed
 pub covered_fault : (a b c : Option Log) (h es doubt : List Event) → Covered a b h es [] → ((mid : Log) → b ≡ Some mid → RanInDoubt mid c (h ++ es) doubt) → Covered a c h es doubt
 covered_fault a b c h es doubt one ran = λ first is.
     let (mid, known, cover) = one first is in
     let run = ran mid known in
-    (run.log, run.is, covers_fault h es doubt first mid run.log c (covers_calm h es first mid cover) run run.is)
+    (run.log, run.is, covers_fault h es doubt first mid run.log c (covers_without_doubt h es first mid cover) run run.is)
 
 -- calls without an event
 pub covered_keeps : (known new : Option Log) (st : SpoolState) (earlier h : List Event) (f : Files) → StandsFor IsWholePair known st earlier h f → st.doubt ≡ doubt.Nothing
     → Keeps IsWholePair known new st earlier h f → Covered known new h [] []
-covered_keeps known new st earlier h f stands calm keeps = λ first is.
-    let (mid, same, cover) = covered_none known st earlier h f stands calm first is in
-    let run = subst (λ d. Ran mid new [] (Gives h (begun d f)) (Gives h (begun d f))) calm (keeps.images mid same) in
+covered_keeps known new st earlier h f stands no_doubt keeps = λ first is.
+    let (mid, same, cover) = covered_none known st earlier h f stands no_doubt first is in
+    let run = subst (λ d. Ran mid new [] (Gives h (begun d f)) (Gives h (begun d f))) no_doubt (keeps.images mid same) in
     let moved = subst (λ xs. Ran mid new [] (Gives xs []) (Gives xs [])) (sym (append-nil h)) run in
-    (run.log, run.is, covers_more h [] [] first run.log (covers_still h [] first mid run.log new (covers_calm h [] first mid cover) moved run.is))
+    (run.log, run.is, covers_more h [] [] first run.log (covers_still h [] first mid run.log new (covers_without_doubt h [] first mid cover) moved run.is))

@@ -9,7 +9,7 @@ use Rattle.st_pcap.specs.Input.{Whole, Refused}
 use Rattle.st_plan.specs.declared.jobs.LanePlan.{LanePlan}
 use Rattle.st_load.specs.Stopping.{StopsAfter}
 use Rattle.st_load.specs.Job.{AreFirstLists, Takes}
-use Rattle.st_load.specs.Loading.{Rest, EndsInput, AreCutFrom}
+use Rattle.st_load.specs.Loading.{InputParts, EndsInput, AreCutFrom}
 use Rattle.st_load.specs.declared.ends.LoadEnd.{LoadEnd}
 use Rattle.st_load.specs.declared.ends.LoadEnd.TheVariants as end
 use Rattle.st_load.proofs.Lists.{ends_longest, last_longest, one_more, all_both, all_none, all_one, some_taken}
@@ -49,7 +49,7 @@ IsAnyEnd end.DiskFault left = ⊤
 IsAnyEnd (end.StampsSpent last) left = 1 ≤ length left
 IsAnyEnd end.NoMemory left = ⊤
 
-any_ends : (e : LoadEnd) (rest : Rest) → IsAnyEnd e rest.left → EndsInput e rest
+any_ends : (e : LoadEnd) (rest : InputParts) → IsAnyEnd e rest.left → EndsInput e rest
 any_ends end.Done rest is = absurd is
 any_ends (end.BadInput x) rest is = absurd is
 any_ends (end.TooLong n len) rest is = absurd is
@@ -64,7 +64,7 @@ short_of : (layout : LanePlan) (bytes : List ℕ) (e : LoadEnd) (done : List (Li
     → IsInputOf bytes (before ++ first ∷ []) → ((more : List Rec) → IsAnyEnd e (first ∷ more)) → AreCutFrom layout bytes e done
 short_of layout bytes e done before first cut short (more, ended, input) any =
     let (taken, others, takes) = some_taken layout.size more in
-    let rest : Rest = record { input = ended; taken = before ++ first ∷ taken; others = others; left = first ∷ taken } in
+    let rest : InputParts = record { input = ended; taken = before ++ first ∷ taken; others = others; left = first ∷ taken } in
     record {
       records = (before ++ first ∷ []) ++ more;
       rest = rest;
@@ -83,7 +83,7 @@ first_of : (layout : LanePlan) (bytes : List ℕ) (e : LoadEnd) (before : List R
     → AreCutFrom layout bytes e []
 first_of layout bytes e before first (more, ended, input) any =
     let (taken, others, takes) = some_taken layout.size ((before ++ first ∷ []) ++ more) in
-    let rest : Rest = record { input = ended; taken = taken; others = others; left = taken } in
+    let rest : InputParts = record { input = ended; taken = taken; others = others; left = taken } in
     record { records = (before ++ first ∷ []) ++ more; rest = rest; input = input; takes = takes; lists = refl; ends = any_ends e rest (any taken) }
 
 -- an end that says nothing at all
@@ -118,7 +118,7 @@ pub ended_of : (layout : LanePlan) (bytes : List ℕ) (e said : LoadEnd) (done :
     → StopsAfter layout.size bytes (before ++ first ∷ more) e → (said ≡ e) ⊎ IsFault said → AreCutFrom layout bytes said (done ++ (first ∷ more) ∷ [])
 ended_of layout bytes end.Done said done before first more cut short fits stops how =
     let taken = before ++ first ∷ more in
-    let rest : Rest = record { input = Whole; taken = taken; others = []; left = [] } in
+    let rest : InputParts = record { input = Whole; taken = taken; others = []; left = [] } in
     record {
       records = taken;
       rest = rest;
@@ -129,7 +129,7 @@ ended_of layout bytes end.Done said done before first more cut short fits stops 
     }
 ended_of layout bytes (end.BadInput x) said done before first more cut short fits stops how =
     let taken = before ++ first ∷ more in
-    let rest : Rest = record { input = Refused x; taken = taken; others = []; left = [] } in
+    let rest : InputParts = record { input = Refused x; taken = taken; others = []; left = [] } in
     record {
       records = taken;
       rest = rest;
@@ -140,7 +140,7 @@ ended_of layout bytes (end.BadInput x) said done before first more cut short fit
     }
 ended_of layout bytes (end.TooLong number len) said done before first more cut short fits (r, later, ended, input, long, size, count) how =
     let taken = before ++ first ∷ more in
-    let rest : Rest = record { input = ended; taken = taken; others = r ∷ later; left = [] } in
+    let rest : InputParts = record { input = ended; taken = taken; others = r ∷ later; left = [] } in
     record {
       records = taken ++ r ∷ later;
       rest = rest;
@@ -185,5 +185,5 @@ pub unread_of : (layout : LanePlan) (bytes : List ℕ) (e : LoadEnd) → IsFault
 unread_of layout bytes e fault =
     let (rs, ended, input) = some_input bytes in
     let (taken, others, takes) = some_taken layout.size rs in
-    let rest : Rest = record { input = ended; taken = taken; others = others; left = taken } in
+    let rest : InputParts = record { input = ended; taken = taken; others = others; left = taken } in
     record { records = rs; rest = rest; input = input; takes = takes; lists = refl; ends = any_ends e rest (fault taken) }

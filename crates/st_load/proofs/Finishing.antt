@@ -14,7 +14,7 @@ use Rattle.st_pairs.specs.Pairs.{IsWholePair}
 use Rattle.st_spool.specs.History.{set_of}
 use Rattle.st_spool.specs.Placing.{entry}
 use Rattle.st_spool.specs.Publishing.{next_stamp, failed, FailsToPublish}
-use Rattle.st_spool.specs.Standing.{StandsFor, IsCalm, in_doubt, begun}
+use Rattle.st_spool.specs.Standing.{StandsFor, NoDoubtUntilHalted, in_doubt, begun}
 use Rattle.st_rows.specs.Whole.{IsWhole}
 use Rattle.st_block.specs.BlockText.{BlockText}
 use Rattle.st_spool.specs.States.{SpoolState}
@@ -55,16 +55,16 @@ set_publish h e = set_more [] h (Publish e)
 pub none_doubted : (d : Doubt) (f : Files) → d ≡ doubt.Nothing → in_doubt d f ≡ []
 none_doubted d f is = ap (λ (x : Doubt). in_doubt x f) is
 
-calm_at : (halted : Option ℕ) (d : Doubt) (halts : ℕ) → IsCalm halted d halts → halted ≡ None → d ≡ doubt.Nothing
-calm_at None d halts calm is = calm.0
-calm_at (Some n) d halts calm is = absurd (cc)
+no_doubt_at : (halted : Option ℕ) (d : Doubt) (halts : ℕ) → NoDoubtUntilHalted halted d halts → halted ≡ None → d ≡ doubt.Nothing
+no_doubt_at None d halts no_doubt is = no_doubt.0
+no_doubt_at (Some n) d halts no_doubt is = absurd (cc)
 
 -- in a spool that has not failed nothing is in doubt
-pub calm : (known : Option Log) (st : SpoolState) (earlier h : List Event) (f : Files) → StandsFor IsWholePair known st earlier h f → st.halted ≡ None → st.doubt ≡ doubt.Nothing
-calm known st earlier h f stands runs = calm_at st.halted st.doubt st.halts stands.calm runs
+pub no_doubt : (known : Option Log) (st : SpoolState) (earlier h : List Event) (f : Files) → StandsFor IsWholePair known st earlier h f → st.halted ≡ None → st.doubt ≡ doubt.Nothing
+no_doubt known st earlier h f stands runs = no_doubt_at st.halted st.doubt st.halts stands.no_doubt runs
 
-pub calm_doubt : (known : Option Log) (st : SpoolState) (earlier h : List Event) (f k : Files) → StandsFor IsWholePair known st earlier h f → st.halted ≡ None → in_doubt st.doubt k ≡ []
-calm_doubt known st earlier h f k stands runs = none_doubted st.doubt k (calm known st earlier h f stands runs)
+pub no_doubt_doubt : (known : Option Log) (st : SpoolState) (earlier h : List Event) (f k : Files) → StandsFor IsWholePair known st earlier h f → st.halted ≡ None → in_doubt st.doubt k ≡ []
+no_doubt_doubt known st earlier h f k stands runs = none_doubted st.doubt k (no_doubt known st earlier h f stands runs)
 
 -- a doubt that isn't there
 pub begun_none : (before known : Option Log) (h es : List Event) (d : Doubt) (f : Files) → d ≡ doubt.Nothing → Covered before known h es [] → Covered before known h es (begun d f)
@@ -74,7 +74,7 @@ begun_none before known h es d f is covered = subst (λ (x : Doubt). Covered bef
 pub nothing_done : (Job : List (List Rec) → List Act → Situation → Type 0) (Are : List (List Rec) → Type 0) (e : LoadEnd) (before known : Option Log) (st : SpoolState) (earlier h : List Event) (f : Files)
     (times old new : Option (List ℕ)) (final : Situation) → Job [] [] final → Are [] → EndsJob e [] final times → WritesLines e [] [] old new
     → StandsFor IsWholePair known st earlier h f → st.doubt ≡ doubt.Nothing → Covered before known h [] [] → Loads Job Are e before known st earlier h times old new
-nothing_done Job Are e before known st earlier h f times old new final job are ends lines stands calm covered = record {
+nothing_done Job Are e before known st earlier h f times old new final job are ends lines stands no_doubt covered = record {
   pairs = [];
   are = are;
   acts = [];
@@ -82,8 +82,8 @@ nothing_done Job Are e before known st earlier h f times old new final job are e
   did = record { final = final; job = job; ends = ends; lines = lines };
   f = f;
   stands = subst (λ x. StandsFor IsWholePair known st earlier x f) (sym (append-nil h)) stands;
-  doubt = ([], ap (λ es. happen es ++ []) (sym (none_doubted st.doubt f calm)));
-  images = begun_none before known h [] st.doubt f calm covered;
+  doubt = ([], ap (λ es. happen es ++ []) (sym (none_doubted st.doubt f no_doubt)));
+  images = begun_none before known h [] st.doubt f no_doubt covered;
 }
 
 module _ (limit size : ℕ) (before : SpoolState) (earlier h : List Event) (rs : List Rec) (was times : Option (List ℕ)) (floor : ℕ) (e : Entry)
@@ -174,7 +174,7 @@ module _ (limit size : ℕ) (before : SpoolState) (earlier h : List Event) (rs :
   pub finish_line : (failed : LoadEnd) (first known : Option Log) (st : SpoolState) (f : Files) (old new : Option (List ℕ)) → Covered first known h (Publish e ∷ []) [] → StandsFor IsWholePair known st earlier (h ++ Publish e ∷ []) f
       → st.doubt ≡ doubt.Nothing → WritesLine e.stamp (length rs) old new (Err failed)
       → Loads (AddsAll limit size start) (AtMost rs failed) failed first known st earlier h times old new
-  finish_line failed first known st f old new covered stands calm line = ⊎_elim
+  finish_line failed first known st f old new covered stands no_doubt line = ⊎_elim
       (λ (memory, same). subst (λ (x : LoadEnd). Loads (AddsAll limit size start) (AtMost rs x) x first known st earlier h times old new) (sym memory) (record {
         pairs = rs ∷ [];
         are = inr refl;
@@ -188,8 +188,8 @@ module _ (limit size : ℕ) (before : SpoolState) (earlier h : List Event) (rs :
         };
         f = f;
         stands = stands;
-        doubt = (Writes e.stamp (length rs) ∷ happen gone, ap (λ es. happen es ++ Writes e.stamp (length rs) ∷ happen gone) (sym (none_doubted st.doubt f calm)));
-        images = begun_none first known h (Publish e ∷ []) st.doubt f calm covered;
+        doubt = (Writes e.stamp (length rs) ∷ happen gone, ap (λ es. happen es ++ Writes e.stamp (length rs) ∷ happen gone) (sym (none_doubted st.doubt f no_doubt)));
+        images = begun_none first known h (Publish e ∷ []) st.doubt f no_doubt covered;
       }))
       (λ (fault, (n, some)). subst (λ (x : LoadEnd). Loads (AddsAll limit size start) (AtMost rs x) x first known st earlier h times old new) (sym fault) (record {
         pairs = rs ∷ [];
@@ -204,8 +204,8 @@ module _ (limit size : ℕ) (before : SpoolState) (earlier h : List Event) (rs :
         };
         f = f;
         stands = stands;
-        doubt = (Writes e.stamp (length rs) ∷ happen gone, ap (λ es. happen es ++ Writes e.stamp (length rs) ∷ happen gone) (sym (none_doubted st.doubt f calm)));
-        images = begun_none first known h (Publish e ∷ []) st.doubt f calm covered;
+        doubt = (Writes e.stamp (length rs) ∷ happen gone, ap (λ es. happen es ++ Writes e.stamp (length rs) ∷ happen gone) (sym (none_doubted st.doubt f no_doubt)));
+        images = begun_none first known h (Publish e ∷ []) st.doubt f no_doubt covered;
       }))
       line
 

@@ -128,7 +128,7 @@ pub ends_between : (Job : List (List Rec) → List Act → Situation → Type 0)
     (times old new : Option (List ℕ)) (done : List (List Rec)) (acts : List Act) → Job done acts (situation (h ++ events_of acts) st times) → Are done → IsQuiet e
     → Appends old new (lines_of acts) → StandsFor IsWholePair known st earlier (h ++ events_of acts) f → st.doubt ≡ doubt.Nothing
     → Covered first known h (events_of acts) [] → Loads Job Are e first known st earlier h times old new
-ends_between Job Are e first known st earlier h f times old new done acts job are quiet lines stands calm covered = record {
+ends_between Job Are e first known st earlier h f times old new done acts job are quiet lines stands no_doubt covered = record {
   pairs = done;
   are = are;
   acts = acts;
@@ -141,8 +141,8 @@ ends_between Job Are e first known st earlier h f times old new done acts job ar
   };
   f = f;
   stands = stands;
-  doubt = ([], ap (λ es. happen es ++ []) (sym (none_doubted st.doubt f calm)));
-  images = begun_none first known h (events_of acts) st.doubt f calm covered;
+  doubt = ([], ap (λ es. happen es ++ []) (sym (none_doubted st.doubt f no_doubt)));
+  images = begun_none first known h (events_of acts) st.doubt f no_doubt covered;
 }
 
 -- How far a load came before the pair that this record begins. `Given` are the bytes that it has,

@@ -26,7 +26,7 @@ use Rattle.st_load.specs.Publishing.{Runs}
 use Rattle.st_load.specs.declared.ends.LoadEnd.{LoadEnd}
 use Rattle.st_load.specs.declared.ends.LoadEnd.TheVariants as end
 use Rattle.st_load.proofs.Covered.{covers_join}
-use Rattle.st_load.proofs.Finishing.{calm}
+use Rattle.st_load.proofs.Finishing.{no_doubt}
 use Rattle.st_load.proofs.Jobs.{events_append, lines_append, events_happen, lines_happen}
 use Rattle.st_load.proofs.ReadBack.{read_set}
 
@@ -91,7 +91,7 @@ module _ (limit : ℕ) (layout : LanePlan) (first : Log) (mid known : Option Log
         sure = events_of l.acts;
         doubt = begun st.doubt l.f;
         events_are = sym (ap (λ es. events_of l.acts ++ es) none ∙ append-nil (events_of l.acts));
-        calm = λ other. none;
+        no_doubt = λ other. none;
         images = covers;
       }
 
@@ -132,7 +132,7 @@ module _ (limit : ℕ) (layout : LanePlan) (first : Log) (mid known : Option Log
         sure = events_of l.acts;
         doubt = begun st.doubt l.f;
         events_are = evs ∙ ap (λ es. events_of l.acts ++ es) (sym some);
-        calm = λ other. absurd (other disk);
+        no_doubt = λ other. absurd (other disk);
         images = covers;
       }
 
@@ -153,7 +153,7 @@ load_opened limit layout first mid known left times times_now old new e st befor
     let h = Found entered.pairs ∷ [] in
     let one = job entered.images.cleared.log (events first) h none entered.images.cleared.is (entered.stands none) in
     let l = subst (λ (n : ℕ). Loads (IsJob n layout.size (situation h before times)) (λ pairs. (bytes : List ℕ) → left ≡ Some bytes → AreCutFrom layout bytes e pairs) e mid known st (events first) h times_now old new) lim one in
-    inl (opened limit layout first mid known left times times_now old new e st before entered (keeps.0 ∙ lim) l (λ other. calm known st (events first) (h ++ events_of l.acts) l.f l.stands (runs other)))
+    inl (opened limit layout first mid known left times times_now old new e st before entered (keeps.0 ∙ lim) l (λ other. no_doubt known st (events first) (h ++ events_of l.acts) l.f l.stands (runs other)))
 
 -- a shelf that was not opened
 pub unopened_fails : (cause : EnterErr) (e : LoadEnd) → EndsUnopened cause e → IsFailure e

@@ -25,7 +25,7 @@ use Rattle.st_load.specs.Publishing.{Ages, AgesAll, AtMost, FailsBy, StateBy, Wr
 use Rattle.st_load.specs.declared.ends.LoadEnd.{LoadEnd}
 use Rattle.st_load.specs.declared.ends.LoadEnd.TheVariants as end
 use Rattle.st_load.proofs.Covered.{covered_none, covered_on, covered_fault, covered_keeps}
-use Rattle.st_load.proofs.Finishing.{calm, nothing_done, finish_all, finish_some, finish_line, finish_none, doubted}
+use Rattle.st_load.proofs.Finishing.{no_doubt, nothing_done, finish_all, finish_some, finish_line, finish_none, doubted}
 
 -- calls that change no pair, of a spool that has not failed
 pub kept_done : {D : Type 0} (log : D → Option Log) (a b : SpoolView D) (earlier h : List Event) (f : Files) → StandsFor IsWholePair (log a.shelf) a.state earlier h f → a.state.halted ≡ None → KeepsSpool log a b
@@ -33,7 +33,7 @@ pub kept_done : {D : Type 0} (log : D → Option Log) (a b : SpoolView D) (earli
 kept_done {D} log a b earlier h f stands runs keeps =
     let same : b.state ≡ a.state = ap (λ (v : SpoolView D). v.state) keeps.state in
     let kept = keeps.keeps earlier h f stands in
-    let quiet = calm (log a.shelf) a.state earlier h f stands runs in (
+    let quiet = no_doubt (log a.shelf) a.state earlier h f stands runs in (
       kept.stands,
       ap (λ (s : SpoolState). s.doubt) same ∙ quiet,
       covered_keeps (log a.shelf) (log b.shelf) a.state earlier h f stands quiet (subst (λ (s : SpoolState). Keeps IsWholePair (log a.shelf) (log b.shelf) s earlier h f) same kept),
@@ -66,12 +66,12 @@ module _ (limit size : ℕ) (before : SpoolState) (earlier h : List Event) (rs :
   publish_fails known st since old end.ReadFault fails state = absurd fails
   publish_fails known st since old end.WriteFault fails state = absurd fails
   publish_fails known st since old end.DiskFault fails (left, how) =
-      let start = covered_none first before earlier h f stands (calm first before earlier h f stands runs) in
+      let start = covered_none first before earlier h f stands (no_doubt first before earlier h f stands runs) in
       finish_none limit size before earlier h rs was times floor (entry (next_stamp before.last floor) p) left ticks refl whole first known st p old
       (covered_fault first first known h [] (begun st.doubt p) start (λ mid is. subst (λ x. RanInDoubt mid known x (begun st.doubt p)) (sym (append-nil h)) (fails.images mid is)))
       fails.stands (doubted before st (next_stamp before.last floor) since p how)
   publish_fails known st since old (end.StampsSpent last) keeps (same, spent, is) =
-      let quiet = calm first before earlier h f stands runs in
+      let quiet = no_doubt first before earlier h f stands runs in
       nothing_done (AddsAll limit size (situation h before was)) (AtMost rs (end.StampsSpent last)) (end.StampsSpent last) first known st earlier h f times old old (situation h before was) (refl, refl) refl
       (refl, spent, is) (Appends-nil old) keeps.stands (ap (λ (s : SpoolState). s.doubt) same ∙ quiet)
       (covered_keeps first known before earlier h f stands quiet (subst (λ (s : SpoolState). Keeps IsWholePair first known s earlier h f) same keeps))
@@ -81,11 +81,11 @@ module _ (limit size : ℕ) (before : SpoolState) (earlier h : List Event) (rs :
       (does : Publishes IsWholePair first mid st earlier h (entry s p) f) where
     covered : Covered first mid h (Publish (entry s p) ∷ []) []
     covered =
-        covered_on first first mid h [] (Publish (entry s p)) (covered_none first before earlier h f stands (calm first before earlier h f stands runs))
+        covered_on first first mid h [] (Publish (entry s p)) (covered_none first before earlier h f stands (no_doubt first before earlier h f stands runs))
         (λ m same. subst (λ x. RanTo m mid x (Publish (entry s p))) (sym (append-nil h)) (does.images m same))
 
     quiet : st.doubt ≡ doubt.Nothing
-    quiet = ap (λ (x : SpoolState). x.doubt) is ∙ calm first before earlier h f stands runs
+    quiet = ap (λ (x : SpoolState). x.doubt) is ∙ no_doubt first before earlier h f stands runs
 
     -- the line was not written
     pub line_fails : (packets : ℕ) (e : LoadEnd) (old new : Option (List ℕ)) → packets ≡ length rs → WritesLine s packets old new (Err e)

@@ -25,7 +25,7 @@ use Rattle.st_load.specs.declared.ends.LoadEnd.{LoadEnd}
 use Rattle.st_load.specs.declared.ends.LoadEnd.TheVariants as end
 use Rattle.st_load.specs.declared.filling.Filled.TheVariants as filled
 use Rattle.st_load.proofs.Covered.{covered_none}
-use Rattle.st_load.proofs.Finishing.{calm}
+use Rattle.st_load.proofs.Finishing.{no_doubt}
 use Rattle.st_load.proofs.Cutting.{IsAnyEnd, IsFault, cut_none, cut_on, fault_of, left_of, ended_of, long_of}
 use Rattle.st_load.proofs.Going.{SoFar, input_quiet, fill_quiet}
 use Rattle.st_load.proofs.Reading.{IsInputOf, input_of}
@@ -209,6 +209,6 @@ round_none limit layout known log st earlier h f times old reader left first is 
       adds = (refl, ap (λ x. situation x st times) same);
       stands = subst (λ x. StandsFor IsWholePair known st earlier x f) (sym same) stands;
       lines = Appends-nil old;
-      images = covered_none known st earlier h f stands (calm known st earlier h f stands runs);
+      images = covered_none known st earlier h f stands (no_doubt known st earlier h f stands runs);
       input = λ bytes given. ([], given, refl, cut_none layout.size layout.blocks first);
     }

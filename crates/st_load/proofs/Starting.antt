@@ -24,7 +24,7 @@ use Rattle.st_load.specs.Publishing.{Ages, AgesAll}
 use Rattle.st_load.specs.declared.ends.LoadEnd.{LoadEnd}
 use Rattle.st_load.specs.declared.ends.LoadEnd.TheVariants as end
 use Rattle.st_load.proofs.Cutting.{stop_of, unread_of}
-use Rattle.st_load.proofs.Finishing.{calm}
+use Rattle.st_load.proofs.Finishing.{no_doubt}
 use Rattle.st_load.proofs.Going.{IsQuiet, loads_after, ends_between}
 use Rattle.st_load.proofs.Jobs.{events_happen, lines_happen, happen_append}
 
@@ -71,10 +71,10 @@ module _ (limit size : ℕ) (first mid : Option Log) (st before : SpoolState) (e
   -- or nothing more
   pub starts_ends : (Are : List (List Rec) → Type 0) (e : LoadEnd) (old : Option (List ℕ)) → Are [] → IsQuiet e → st.doubt ≡ doubt.Nothing
       → Loads (IsJob limit size (situation h before times)) Are e first mid st earlier h times old old
-  starts_ends Are e old are quiet calm =
+  starts_ends Are e old are quiet no_doubt =
       ends_between (IsJob limit size start) Are e first mid st earlier h f times old old [] acts
       (subst (λ (xs : List Act). IsJob limit size start [] xs (situation (h ++ events_of acts) st times)) (append-nil acts) (job [] [] (situation (h ++ events_of acts) st times) (refl, refl)))
-      are quiet (no_lines gone old) (subst (λ x. StandsFor IsWholePair mid st earlier x f) (sym history) a.stands) calm covered
+      are quiet (no_lines gone old) (subst (λ x. StandsFor IsWholePair mid st earlier x f) (sym history) a.stands) no_doubt covered
 
 -- a removal failed
 pub starts_fails : (limit size : ℕ) (first known : Option Log) (st before : SpoolState) (earlier h : List Event) (times old : Option (List ℕ)) (Are : List (List Rec) → Type 0)
@@ -132,14 +132,14 @@ module _ (limit : ℕ) (layout : LanePlan) (first mid : Option Log) (st before :
       → Loads (IsJob limit layout.size (situation h before times)) (λ (pairs : List (List Rec)). (bytes : List ℕ) → left ≡ Some bytes → AreCutFrom layout bytes end.Done pairs) end.Done first mid st earlier h times old old
   start_whole runs input =
       starts_ends limit layout.size first mid st before earlier h f times a lim last (λ (pairs : List (List Rec)). (bytes : List ℕ) → left ≡ Some bytes → AreCutFrom layout bytes end.Done pairs) end.Done old
-      (λ bytes known. stop_of layout bytes end.Done (input bytes known)) tt (calm mid st earlier (h ++ removals st.limit (set_of h)) f a.stands runs)
+      (λ bytes known. stop_of layout bytes end.Done (input bytes known)) tt (no_doubt mid st earlier (h ++ removals st.limit (set_of h)) f a.stands runs)
 
   -- or the first is refused, or not read
   pub start_unread : (error : PcapErr) (e : LoadEnd) → st.halted ≡ None → EndsUnread error e → ((bytes : List ℕ) → left ≡ Some bytes → IsOutside error ⊎ Input bytes [] (Refused error))
       → Loads (IsJob limit layout.size (situation h before times)) (λ (pairs : List (List Rec)). (bytes : List ℕ) → left ≡ Some bytes → AreCutFrom layout bytes e pairs) e first mid st earlier h times old old
   start_unread error e runs ends gives =
       starts_ends limit layout.size first mid st before earlier h f times a lim last (λ (pairs : List (List Rec)). (bytes : List ℕ) → left ≡ Some bytes → AreCutFrom layout bytes e pairs) e old
-      (λ bytes known. unread_are layout bytes error e ends (gives bytes known)) (unread_ends error e ends) (calm mid st earlier (h ++ removals st.limit (set_of h)) f a.stands runs)
+      (λ bytes known. unread_are layout bytes error e ends (gives bytes known)) (unread_ends error e ends) (no_doubt mid st earlier (h ++ removals st.limit (set_of h)) f a.stands runs)
 
   -- or pairs were loaded
   pub start_then : (Are2 : List (List Rec) → Type 0) (e : LoadEnd) (known : Option Log) (after : SpoolState) (later new : Option (List ℕ))

@@ -22,7 +22,7 @@ use Rattle.st_load.specs.Publishing.{AddsPair, AtMost}
 use Rattle.st_load.specs.declared.ends.LoadEnd.{LoadEnd}
 use Rattle.st_load.proofs.Covered.{covered_then, covered_keeps}
 use Rattle.st_load.proofs.Cutting.{cut_on}
-use Rattle.st_load.proofs.Finishing.{calm}
+use Rattle.st_load.proofs.Finishing.{no_doubt}
 use Rattle.st_load.proofs.Going.{SoFar, IsQuiet, loads_after, ends_between}
 use Rattle.st_load.proofs.Jobs.{events_append, lines_append, add_more, add_one}
 
@@ -32,7 +32,7 @@ module _ (limit : ℕ) (layout : LanePlan) (start : Situation) (was : Option Log
       (s : SoFar limit layout start was known st earlier h f times old new Given Read first number) → st.halted ≡ None → after ≡ st → Keeps IsWholePair known now after earlier (h ++ events_of s.acts) f
       → SoFar limit layout start was now after earlier h f times old new Given Read first number
   sofar_keeps known now st after times new Read first number s runs same keeps =
-      let quiet = calm known st earlier (h ++ events_of s.acts) f s.stands runs in
+      let quiet = no_doubt known st earlier (h ++ events_of s.acts) f s.stands runs in
       let kept : Keeps IsWholePair known now st earlier (h ++ events_of s.acts) f = subst (λ (x : SpoolState). Keeps IsWholePair known now x earlier (h ++ events_of s.acts) f) same keeps in
       let run = keeps.images s.log s.is in
       record {
@@ -55,7 +55,7 @@ module _ (limit : ℕ) (layout : LanePlan) (start : Situation) (was : Option Log
         → Loads (AddsAll limit layout.size start) Are e was known st earlier h times old new
     sofar_ends Are e runs quiet are =
         ends_between (AddsAll limit layout.size start) Are e was known st earlier h f times old new s.done s.acts s.adds are quiet s.lines s.stands
-        (calm known st earlier (h ++ events_of s.acts) f s.stands runs) s.images
+        (no_doubt known st earlier (h ++ events_of s.acts) f s.stands runs) s.images
 
     mid : Situation
     mid = situation (h ++ events_of s.acts) st times
@@ -81,7 +81,7 @@ module _ (limit : ℕ) (layout : LanePlan) (start : Situation) (was : Option Log
         on (λ p is. subst (λ (x : List (List Rec)). Are (s.done ++ x)) (sym is) are) s.lines s.images
         (ends_between (AddsAll limit layout.size (situation (h ++ events_of s.acts) st times)) (λ (p : List (List Rec)). p ≡ rs ∷ []) e known now after earlier (h ++ events_of s.acts) f later new more (rs ∷ []) pair.acts
         (add_one limit layout.size (situation (h ++ events_of s.acts) st times) (situation ((h ++ events_of s.acts) ++ events_of pair.acts) after later) rs pair.acts pair.adds) refl quiet pair.lines pair.stands
-        (calm now after earlier ((h ++ events_of s.acts) ++ events_of pair.acts) f pair.stands runs) pair.images)
+        (no_doubt now after earlier ((h ++ events_of s.acts) ++ events_of pair.acts) f pair.stands runs) pair.images)
 
     -- the next pair begins
     pub sofar_next : (now : Option Log) (after : SpoolState) (later more : Option (List ℕ)) (Next : List ℕ → List Rec → Type 0) (others : List Rec) (r : Rec) (records : ℕ)

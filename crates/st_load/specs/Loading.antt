@@ -19,7 +19,7 @@ use Rattle.st_load.specs.declared.ends.LoadEnd.TheVariants as end
 
 -- The records of an input: how the input ends, the records that a load takes, those that follow
 -- them, and of those that it takes the last ones, which no pair has.
-pub record Rest : Type 0 where
+pub record InputParts : Type 0 where
   pub input : End
   pub taken : List Rec
   pub others : List Rec
@@ -27,7 +27,7 @@ pub record Rest : Type 0 where
 
 -- How a load ended, by its input. If no fault ended it all records were taken, up to the end of the
 -- input or to the one that is too long; if no stamp was left there are some that no pair has.
-abbrev pub EndsInput : LoadEnd → Rest → Type 0
+abbrev pub EndsInput : LoadEnd → InputParts → Type 0
 EndsInput end.Done rest = (rest.input ≡ Whole) × (rest.others ≡ []) × (rest.left ≡ [])
 EndsInput (end.BadInput e) rest =
     (rest.input ≡ Refused e) × (rest.others ≡ []) × (rest.left ≡ [])
@@ -45,7 +45,7 @@ EndsInput end.NoMemory rest = ⊤
 pub record AreCutFrom (layout : LanePlan) (bytes : List ℕ) (ended : LoadEnd)
     (pairs : List (List Rec)) : Type 0 where
   pub records : List Rec
-  pub rest : Rest
+  pub rest : InputParts
   pub input : Input bytes records rest.input
   pub takes : Takes layout.size records rest.taken rest.others
   pub lists : AreFirstLists layout.size layout.blocks pairs rest.taken rest.left

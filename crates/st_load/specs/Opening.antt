@@ -43,7 +43,7 @@ pub record LoadsOpened (limit : ℕ) (layout : LanePlan) (first : Log) (known : 
   pub sure : List Event
   pub doubt : List Event
   pub events_are : events_of acts ≡ sure ++ doubt
-  pub calm : (ended ≡ end.DiskFault → ⊥) → doubt ≡ []
+  pub no_doubt : (ended ≡ end.DiskFault → ⊥) → doubt ≡ []
   pub images : CoversInDoubt (Found found ∷ []) sure doubt (flushed_log first) log
 
 -- What a load made of a shelf: it opened a spool over it and went on, or the shelf failed or memory

@@ -24,7 +24,7 @@ use Rattle.st_spool.proofs.Stages.{start}
 use Rattle.st_spool.proofs.Histories.{entries_more, legal_more, after_more, whole_more, whole_first}
 use Rattle.st_spool.proofs.Places.{rows_sure, rows_set}
 use Rattle.st_spool.proofs.Aged.{split_at, drop_next, at_place, rows_past, rows_aged}
-use Rattle.st_spool.proofs.Published.{calm_doubt, past_more, ran_each, ran_past}
+use Rattle.st_spool.proofs.Published.{no_doubt_doubt, past_more, ran_each, ran_past}
 use Rattle.st_spool.proofs.Doubted.{read_rows_of}
 use Rattle.st_spool.proofs.Recalled.{Shows, shows_going, rows_show, set_shows, found_of, found_more, found_later, found_on, recalls_with, recalls_on}
 use Rattle.st_spool.proofs.Giving.{is_pair, set_old, set_less, going_sets, sure_sets}
@@ -46,7 +46,7 @@ leaving W known st earlier h k t stands over at =
 
 module _ (W : List ℕ → List ℕ → Type 0) (old : Option Log) (st : SpoolState) (earlier h : List Event) (k : Files) (t : ℕ) (stands : StandsFor W old st earlier h k) (running : st.halted ≡ None) (e : Entry) (rest : List Entry) (is : drop st.removed (entries_of h) ≡ e ∷ rest) (same : t ≡ e.stamp) where
   none : st.doubt ≡ doubt.Nothing
-  none = calm_doubt st.halted st.doubt st.halts running stands.calm
+  none = no_doubt_doubt st.halted st.doubt st.halts running stands.no_doubt
 
   pair_row : rows_of st.removed st.holds st.last (entries_of h) t ≡ Pair (files_of e)
   pair_row = is_pair W old st earlier h k stands t e rest is same
@@ -54,11 +54,11 @@ module _ (W : List ℕ → List ℕ → Type 0) (old : Option Log) (st : SpoolSt
   each_row : (l : Log) → old ≡ Some l → Each l (Has (rows_of st.removed st.holds st.last (entries_of h)))
   each_row l known = subst (λ (d : Doubt). Each l (Has (with_doubt d k (rows_of st.removed st.holds st.last (entries_of h))))) none (stands.disk l known).images
 
-  past_calm : (l : Log) → old ≡ Some l → events l ≡ earlier ++ (after_found h ++ [])
-  past_calm l known = subst (λ (d : Doubt). events l ≡ earlier ++ (after_found h ++ begun d k)) none (stands.disk l known).past
+  past_without_doubt : (l : Log) → old ≡ Some l → events l ≡ earlier ++ (after_found h ++ [])
+  past_without_doubt l known = subst (λ (d : Doubt). events l ≡ earlier ++ (after_found h ++ begun d k)) none (stands.disk l known).past
 
-  whole_calm : (l : Log) → old ≡ Some l → PublishWhole W h
-  whole_calm l known = whole_first W h (in_doubt st.doubt k) (stands.disk l known).whole
+  whole_without_doubt : (l : Log) → old ≡ Some l → PublishWhole W h
+  whole_without_doubt l known = whole_first W h (in_doubt st.doubt k) (stands.disk l known).whole
 
   pair_fits : (l : Log) → old ≡ Some l → Fits (Pair (files_of e)) (reads l (Block t)) (reads l (Index t)) (reads l (Parked t))
   pair_fits l known = subst (λ (q : Row). Fits q (reads l (Block t)) (reads l (Index t)) (reads l (Parked t))) pair_row (each_row l known (reads l) (leaves_now l) t)
@@ -113,10 +113,10 @@ module _ (W : List ℕ → List ℕ → Type 0) (old : Option Log) (st : SpoolSt
       ap (λ (q : Placement). q.files) (some_place (record { place = 0 + i; files = files_of d }) (record { place = 0 + st.removed; files = files_of e }) (sym one ∙ ap (λ (q : ℕ). place_in 0 q (entries_of h)) (sym stamp ∙ same) ∙ two))
 
   shows_all : st.removed ≡ 0 → begun st.doubt k ≡ [] → (c : Folder) → Has (rows_of st.removed st.holds st.last (entries_of h)) c → entries_in c (map stamp_of (entries_of h)) ≡ entries_of h
-  shows_all zero calm c has = rows_show st.last st.holds (entries_of h) c stands.rises (subst (λ (g : ℕ). Has (rows_of g st.holds st.last (entries_of h)) c) zero has)
+  shows_all zero no_doubt c has = rows_show st.last st.holds (entries_of h) c stands.rises (subst (λ (g : ℕ). Has (rows_of g st.holds st.last (entries_of h)) c) zero has)
 
   shows_leaving : st.removed ≡ 0 → begun st.doubt k ≡ [] → (c : Folder) → Has (set_row (rows_of st.removed st.holds st.last (entries_of h)) t (Going (files_of e))) c → entries_in c (map stamp_of (entries_of h)) ≡ entries_of h
-  shows_leaving zero calm c has =
+  shows_leaving zero no_doubt c has =
       set_shows st.last st.holds (entries_of h) c t (Going (files_of e)) stands.rises
       (λ i d more at stamp b x p fits. subst (λ (f : Files). Shows f b x p) (sym (same_files i d more at stamp)) (shows_going (files_of e) b x p fits))
       (subst (λ (g : ℕ). Has (set_row (rows_of g st.holds st.last (entries_of h)) t (Going (files_of e))) c) zero has)
@@ -133,7 +133,7 @@ module _ (W : List ℕ → List ℕ → Type 0) (old : Option Log) (st : SpoolSt
       let one = found_on W old new st earlier h k stands l run.log mid (Remove t ∷ []) (Has (set_row rows t (Going (files_of e)))) (Has (set_row rows t (Held (files_of e)))) known run.is run shows_leaving in
       let more = swept run.log now (pasts stamps holds same_stamps same_holds in_list) (start run.log now mid run.is (λ c left. aged_rows c (run.each c left))) in
       let long : length (events run.log) ≡ length (events l) + 1 = ap length run.past ∙ length-append (events l) (Remove t ∷ []) in
-      let was : length (events l) ≡ length earlier + length (after_found h ++ []) = ap length (past_calm l known) ∙ length-append earlier (after_found h ++ []) in
+      let was : length (events l) ≡ length earlier + length (after_found h ++ []) = ap length (past_without_doubt l known) ∙ length-append earlier (after_found h ++ []) in
       found_later run.log m new [] (Has now) (Has now) (length earlier) (take st.found st.stamps) (found_of h) more now_known one (λ le. absurd (omega arith))
 
   legal_new : st.limit < length (e ∷ rest) → Legal st.limit (h ++ Remove t ∷ [])
@@ -163,7 +163,7 @@ module _ (W : List ℕ → List ℕ → Type 0) (old : Option Log) (st : SpoolSt
       last = subst (λ (es : List Entry). AreUpTo st.last es) (sym entries) stands.last;
       holds = λ span has. subst (λ (es : List Entry). IsWithin (length es) span) (sym entries) (stands.holds span has);
       asked = subst (λ (es : List Entry). IsWithin (length es) st.asked) (sym entries) stands.asked;
-      calm = stands.calm;
+      no_doubt = stands.no_doubt;
       doubt = subst (λ (d : Doubt). MayBe d k (st.removed + 1) st.last (entries_of (h ++ Remove t ∷ []))) (sym none) tt;
       disk = λ m now.
           let was = before m now in
@@ -171,12 +171,12 @@ module _ (W : List ℕ → List ℕ → Type 0) (old : Option Log) (st : SpoolSt
           subst (λ (es : List Entry). Each m (Has (rows_of (st.removed + 1) st.holds st.last es))) (sym entries) (ran_each was.0 new (Remove t ∷ []) (Gives h (Remove t ∷ [])) (Has (rows_of (st.removed + 1) st.holds st.last (entries_of h))) (run was.0 was.1) m now) in
           let past_now : events m ≡ earlier ++ (after_found (h ++ Remove t ∷ []) ++ []) =
           ran_past was.0 new (Remove t ∷ []) (Gives h (Remove t ∷ [])) (Has (rows_of (st.removed + 1) st.holds st.last (entries_of h))) (run was.0 was.1) m now
-          ∙ past_more (events was.0) earlier (after_found h) (Remove t ∷ []) (past_calm was.0 was.1)
+          ∙ past_more (events was.0) earlier (after_found h) (Remove t ∷ []) (past_without_doubt was.0 was.1)
           ∙ ap (λ (xs : List Event). earlier ++ xs) (sym (append-nil (after_found (h ++ Remove t ∷ [])) ∙ after_more st.limit h (Remove t ∷ []) stands.legal)) in
           subst (λ (d : Doubt). OnDisk W m (record st { removed = st.removed + 1; swept = to; doubt = d }) earlier (h ++ Remove t ∷ []) k) (sym none) (record {
             images = images_now;
             past = past_now;
-            whole = whole_more W (h ++ Remove t ∷ []) [] (whole_more W h (Remove t ∷ []) (whole_calm was.0 was.1) tt) tt;
+            whole = whole_more W (h ++ Remove t ∷ []) [] (whole_more W h (Remove t ∷ []) (whole_without_doubt was.0 was.1) tt) tt;
             recalls = recalls_with W old new st earlier h k stands (record st { removed = st.removed + 1; swept = to; doubt = doubt.Nothing }) (h ++ Remove t ∷ []) k m (found was.0 m was.1 now)
                 refl (found_more st.limit h (Remove t ∷ []) stands.legal) (legal_new over) past_now counts_new;
             read = images_now (reads m) (leaves_now m);
@@ -205,17 +205,17 @@ module _ (W : List ℕ → List ℕ → Type 0) (old : Option Log) (st : SpoolSt
             last = stands.last;
             holds = stands.holds;
             asked = stands.asked;
-            calm = some;
+            no_doubt = some;
             doubt = found;
             disk = λ m now.
                 let was = before m now in
                 let run = kept was.0 rows (files_of e) was.1 (each_row was.0 was.1) pair_row in
                 let images_now = ran_each was.0 new [] (Has rows) (Has rows) run m now in
-                let past_now = ran_past was.0 new [] (Has rows) (Has rows) run m now ∙ past_more (events was.0) earlier (after_found h) [] (past_calm was.0 was.1) in
+                let past_now = ran_past was.0 new [] (Has rows) (Has rows) run m now ∙ past_more (events was.0) earlier (after_found h) [] (past_without_doubt was.0 was.1) in
                 record {
                   images = images_now;
                   past = past_now;
-                  whole = whole_more W h (Remove t ∷ []) (whole_calm was.0 was.1) tt;
+                  whole = whole_more W h (Remove t ∷ []) (whole_without_doubt was.0 was.1) tt;
                   recalls = recalls_on W old new st earlier h k stands (record st { doubt = doubt.Unhidden t; halted = Some since; halts = halts }) h (files_of e) was.0 m [] (Has rows) (Has rows) was.1 now run refl refl stands.legal past_now stands.counts shows_all;
                   read = images_now (reads m) (leaves_now m);
                 };
@@ -241,17 +241,17 @@ module _ (W : List ℕ → List ℕ → Type 0) (old : Option Log) (st : SpoolSt
             last = stands.last;
             holds = stands.holds;
             asked = stands.asked;
-            calm = some;
+            no_doubt = some;
             doubt = found;
             disk = λ m now.
                 let was = before m now in
                 let run = hides was.0 rows (files_of e) was.1 (each_row was.0 was.1) pair_row in
                 let images_now = ran_each was.0 new (Remove t ∷ []) (Has going) (Has going) run.0 m now in
-                let past_now = ran_past was.0 new (Remove t ∷ []) (Has going) (Has going) run.0 m now ∙ past_more (events was.0) earlier (after_found h) (Remove t ∷ []) (past_calm was.0 was.1) in
+                let past_now = ran_past was.0 new (Remove t ∷ []) (Has going) (Has going) run.0 m now ∙ past_more (events was.0) earlier (after_found h) (Remove t ∷ []) (past_without_doubt was.0 was.1) in
                 record {
                   images = images_now;
                   past = past_now;
-                  whole = whole_more W h (Remove t ∷ []) (whole_calm was.0 was.1) tt;
+                  whole = whole_more W h (Remove t ∷ []) (whole_without_doubt was.0 was.1) tt;
                   recalls = recalls_on W old new st earlier h k stands (record st { doubt = doubt.Hidden t; halted = Some since; halts = halts }) h (files_of e) was.0 m (Remove t ∷ []) (Has going) (Has going) was.1 now run.0 refl refl stands.legal past_now stands.counts shows_leaving;
                   read = read_rows_of (doubt.Hidden t) (files_of e) rows (reads m) (images_now (reads m) (leaves_now m)) (run.1 m now);
                 };

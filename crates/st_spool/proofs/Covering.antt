@@ -13,7 +13,7 @@ use Rattle.st_spool.specs.History.{set_of}
 use Rattle.st_spool.specs.Standing.{Gives}
 use Rattle.st_spool.specs.Publishing.{RanTo, RanAsBefore}
 use Rattle.st_spool.specs.Entering.{Is, SamePairs, pairs_alone, flushed_log}
-use Rattle.st_spool.specs.Covers.{Covers, HasSome, CoversAll, CoversOpening, CoversOn, CoversStill, CoversFault, CoversDoubt, CoversMore, CoversCalm}
+use Rattle.st_spool.specs.Covers.{Covers, HasSome, CoversAll, CoversOpening, CoversOn, CoversStill, CoversFault, CoversDoubt, CoversMore, CoversWithoutDoubt}
 
 -- a run ends at the log that is known
 run_only : (a b : Log) (known : Option Log) (es : List Event) (P Q : Folder → Type 0) → Ran a known es P Q → known ≡ Some b → LeavesOnly a b P
@@ -134,5 +134,5 @@ covers_then h [] first mid now covers more = only_then first mid now (Gives h []
 covers_then h (e ∷ es) first mid now covers more =
     (covers.0, covers.1, covers.2, covers.3, covers_then (h ++ e ∷ []) es covers.1 mid now covers.4 (subst (λ (g : List Event). LeavesOnly mid now (Gives g [])) (sym (one_first h es e)) more))
 
-pub covers_calm : CoversCalm
-covers_calm h es first now covers = covers_then h es first covers.sure now covers.covers covers.since
+pub covers_without_doubt : CoversWithoutDoubt
+covers_without_doubt h es first now covers = covers_then h es first covers.sure now covers.covers covers.since

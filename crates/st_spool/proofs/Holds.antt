@@ -73,7 +73,7 @@ hold_stands W known st earlier h k holds to asks stands is pushed = record {
   within = stands.within;
   rises = stands.rises;
   last = stands.last;
-  calm = stands.calm;
+  no_doubt = stands.no_doubt;
   doubt = stands.doubt;
   holds = subst (λ (sp : List Span). AreWithin (length (entries_of h)) sp) (sym pushed)
       (λ q has. ⊎_elim (λ was. stands.holds q was) (λ (e : record { from = st.removed; to = to } ≡ q). subst (IsWithin (length (entries_of h))) e (let in_list : st.removed ≤ length (entries_of h) = stands.within in (omega arith, omega arith)))

@@ -52,7 +52,7 @@ keeps_read (doubt.Hidden t) old new keeps n v is read = subst (λ (m : Name). Re
 
 -- as long as there was no event each folder shows all pairs that were found
 pub doubt_shows : (W : List ℕ → List ℕ → Type 0) (known : Option Log) (st : SpoolState) (earlier h : List Event) (k : Files) → StandsFor W known st earlier h k → st.removed ≡ 0 → begun st.doubt k ≡ [] → (c : Folder) → Has (rows_by st k (entries_of h)) c → entries_in c (map stamp_of (entries_of h)) ≡ entries_of h
-doubt_shows W known st earlier h k stands zero calm c has = by_doubt st.doubt calm stands.doubt has
+doubt_shows W known st earlier h k stands zero no_doubt c has = by_doubt st.doubt no_doubt stands.doubt has
   where
     by_doubt : (d : Doubt) → begun d k ≡ [] → MayBe d k st.removed st.last (entries_of h) → Has (with_doubt d k (rows_of st.removed st.holds st.last (entries_of h))) c → entries_in c (map stamp_of (entries_of h)) ≡ entries_of h
     by_doubt doubt.Nothing none may has = rows_show st.last st.holds (entries_of h) c stands.rises (subst (λ (g : ℕ). Has (rows_of g st.holds st.last (entries_of h)) c) zero has)
@@ -76,7 +76,7 @@ keeps_rows W old new st earlier h k keeps stands = record {
     last = stands.last;
     holds = stands.holds;
     asked = stands.asked;
-    calm = stands.calm;
+    no_doubt = stands.no_doubt;
     doubt = stands.doubt;
     disk = λ m now.
         let was = keeps.known m now in

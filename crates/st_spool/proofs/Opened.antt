@@ -183,7 +183,7 @@ module _ (f : Folder) where
     last = up_to_at last ss most;
     holds = λ h has. absurd (let lt : has.0 < 0 = has.1 in omega arith);
     asked = let long = length_at ss in (omega arith, omega arith);
-    calm = (refl, refl);
+    no_doubt = (refl, refl);
     doubt = tt;
     disk = disk;
   }

@@ -16,7 +16,7 @@ use Rattle.st_spool.specs.Placing.{entry}
 use Rattle.st_spool.specs.History.{set_of, entries_of, Legal}
 use Rattle.st_spool.specs.Recalling.{entries_in}
 use Rattle.st_spool.specs.States.{SpoolState, rows_of, with_doubt, MayBe, AreUpTo, IsWithin}
-use Rattle.st_spool.specs.Standing.{StandsFor, OnDisk, IsCalm, Gives, begun, in_doubt, after_found, PublishWhole, stamp_of}
+use Rattle.st_spool.specs.Standing.{StandsFor, OnDisk, NoDoubtUntilHalted, Gives, begun, in_doubt, after_found, PublishWhole, stamp_of}
 use Rattle.st_spool.specs.Publishing.{RanTo, RanInDoubt}
 use Rattle.st_spool.specs.declared.state.Doubt.{Doubt}
 use Rattle.st_spool.specs.declared.state.Doubt.TheVariants as doubt
@@ -32,8 +32,8 @@ stamps_more [] e = refl
 stamps_more (d ∷ ds) e = ap (λ (xs : List ℕ). d.stamp ∷ xs) (stamps_more ds e)
 
 -- before a call failed nothing is in doubt
-pub calm_doubt : (halted : Option ℕ) (d : Doubt) (halts : ℕ) → halted ≡ None → IsCalm halted d halts → d ≡ doubt.Nothing
-calm_doubt halted d halts none calm = (subst (λ (o : Option ℕ). IsCalm o d halts) none calm).0
+pub no_doubt_doubt : (halted : Option ℕ) (d : Doubt) (halts : ℕ) → halted ≡ None → NoDoubtUntilHalted halted d halts → d ≡ doubt.Nothing
+no_doubt_doubt halted d halts none no_doubt = (subst (λ (o : Option ℕ). NoDoubtUntilHalted o d halts) none no_doubt).0
 
 -- events more
 pub past_more : (past earlier mid es : List Event) → past ≡ earlier ++ (mid ++ []) → past ++ es ≡ earlier ++ (mid ++ es)
@@ -52,7 +52,7 @@ module _ (W : List ℕ → List ℕ → Type 0) (old new : Option Log) (st : Spo
   rows = rows_of st.removed st.holds st.last (entries_of h)
 
   none : st.doubt ≡ doubt.Nothing
-  none = calm_doubt st.halted st.doubt st.halts running stands.calm
+  none = no_doubt_doubt st.halted st.doubt st.halts running stands.no_doubt
 
   free : rows_of st.removed st.holds st.last (entries_of h) t ≡ Free
   free = free_row W old st earlier h k stands t f more
@@ -67,11 +67,11 @@ module _ (W : List ℕ → List ℕ → Type 0) (old new : Option Log) (st : Spo
   pub each_row : (l : Log) → old ≡ Some l → Each l (Has (rows_of st.removed st.holds st.last (entries_of h)))
   each_row l known = subst (λ (d : Doubt). Each l (Has (with_doubt d k (rows_of st.removed st.holds st.last (entries_of h))))) none (stands.disk l known).images
 
-  past_calm : (l : Log) → old ≡ Some l → events l ≡ earlier ++ (after_found h ++ [])
-  past_calm l known = subst (λ (d : Doubt). events l ≡ earlier ++ (after_found h ++ begun d k)) none (stands.disk l known).past
+  past_without_doubt : (l : Log) → old ≡ Some l → events l ≡ earlier ++ (after_found h ++ [])
+  past_without_doubt l known = subst (λ (d : Doubt). events l ≡ earlier ++ (after_found h ++ begun d k)) none (stands.disk l known).past
 
-  whole_calm : (l : Log) → old ≡ Some l → PublishWhole W h
-  whole_calm l known = whole_first W h (in_doubt st.doubt k) (stands.disk l known).whole
+  whole_without_doubt : (l : Log) → old ≡ Some l → PublishWhole W h
+  whole_without_doubt l known = whole_first W h (in_doubt st.doubt k) (stands.disk l known).whole
 
   done_rows : (c : Folder) → Has (set_row (rows_of st.removed st.holds st.last (entries_of h)) t (Pair f)) c → Has (rows_of st.removed st.holds t (entries_of (h ++ Publish (entry t f) ∷ []))) c
   done_rows c has =
@@ -103,7 +103,7 @@ module _ (W : List ℕ → List ℕ → Type 0) (old new : Option Log) (st : Spo
 
   -- meanwhile each folder shows all pairs that were found
   shows : (r : Row) → st.removed ≡ 0 → begun st.doubt k ≡ [] → (c : Folder) → Has (set_row (rows_of st.removed st.holds st.last (entries_of h)) t r) c → entries_in c (map stamp_of (entries_of h)) ≡ entries_of h
-  shows r zero calm c has =
+  shows r zero no_doubt c has =
       above_shows st.last st.holds (entries_of h) c t r stands.rises stands.last more (subst (λ (g : ℕ). Has (set_row (rows_of g st.holds st.last (entries_of h)) t r) c) zero has)
 
   stamps_longer : (stamps : List ℕ) → stamps ≡ st.stamps ++ t ∷ [] → length stamps ≡ length st.stamps + 1
@@ -135,20 +135,20 @@ module _ (W : List ℕ → List ℕ → Type 0) (old new : Option Log) (st : Spo
     last = subst (λ (es : List Entry). AreUpTo t es) (sym entries) (up_to_more st.last t (entries_of h) (entry t f) (omega arith) (omega arith) stands.last);
     holds = λ span has. within_more span (stands.holds span has);
     asked = within_more st.asked stands.asked;
-    calm = stands.calm;
+    no_doubt = stands.no_doubt;
     doubt = subst (λ (d : Doubt). MayBe d k st.removed t (entries_of (h ++ Publish (entry t f) ∷ []))) (sym none) tt;
     disk = λ m known.
         let was = before m known in
         let run = placed was.0 (rows_of st.removed st.holds st.last (entries_of h)) was.1 (each_row was.0 was.1) free in
         let past_now : events m ≡ earlier ++ (after_found (h ++ Publish (entry t f) ∷ []) ++ []) =
         ran_past was.0 new (Publish (entry t f) ∷ []) (Has (set_row (rows_of st.removed st.holds st.last (entries_of h)) t (Coming f))) (Has (set_row (rows_of st.removed st.holds st.last (entries_of h)) t (Pair f))) run m known
-        ∙ past_more (events was.0) earlier (after_found h) (Publish (entry t f) ∷ []) (past_calm was.0 was.1)
+        ∙ past_more (events was.0) earlier (after_found h) (Publish (entry t f) ∷ []) (past_without_doubt was.0 was.1)
         ∙ ap (λ (xs : List Event). earlier ++ xs) (sym (append-nil (after_found (h ++ Publish (entry t f) ∷ [])) ∙ after_more st.limit h (Publish (entry t f) ∷ []) stands.legal)) in
         let images_now : Each m (Has (rows_of st.removed st.holds t (entries_of (h ++ Publish (entry t f) ∷ [])))) = λ c left. done_rows c (ran_each was.0 new (Publish (entry t f) ∷ []) (Has (set_row (rows_of st.removed st.holds st.last (entries_of h)) t (Coming f))) (Has (set_row (rows_of st.removed st.holds st.last (entries_of h)) t (Pair f))) run m known c left) in
         subst (λ (d : Doubt). OnDisk W m (record st { stamps = stamps; last = t; doubt = d }) earlier (h ++ Publish (entry t f) ∷ []) k) (sym none) (record {
           images = images_now;
           past = past_now;
-          whole = whole_more W (h ++ Publish (entry t f) ∷ []) [] (whole_more W h (Publish (entry t f) ∷ []) (whole_calm was.0 was.1) (whole was.0 was.1, tt)) tt;
+          whole = whole_more W (h ++ Publish (entry t f) ∷ []) [] (whole_more W h (Publish (entry t f) ∷ []) (whole_without_doubt was.0 was.1) (whole was.0 was.1, tt)) tt;
           recalls = recalls_on W old new st earlier h k stands (record st { stamps = stamps; last = t; doubt = doubt.Nothing }) (h ++ Publish (entry t f) ∷ []) k was.0 m (Publish (entry t f) ∷ []) (Has (set_row (rows_of st.removed st.holds st.last (entries_of h)) t (Coming f))) (Has (set_row (rows_of st.removed st.holds st.last (entries_of h)) t (Pair f))) was.1 known run
               (same_found stamps pushed) (found_more st.limit h (Publish (entry t f) ∷ []) stands.legal) legal_new past_now (counts_new stamps pushed) (shows (Coming f));
           read = images_now (reads m) (leaves_now m);
@@ -178,7 +178,7 @@ module _ (W : List ℕ → List ℕ → Type 0) (old new : Option Log) (st : Spo
     last = stands.last;
     holds = stands.holds;
     asked = stands.asked;
-    calm = some;
+    no_doubt = some;
     doubt = may;
     disk = λ m known.
         let was = before m known in
@@ -187,11 +187,11 @@ module _ (W : List ℕ → List ℕ → Type 0) (old new : Option Log) (st : Spo
         subst (λ (q : ℕ → Row). Each m (Has q)) (sym rows_are) (ran_each was.0 new es (Has (set_row (rows_of st.removed st.holds st.last (entries_of h)) t r)) (Has (set_row (rows_of st.removed st.holds st.last (entries_of h)) t r)) run m known) in
         let past_now : events m ≡ earlier ++ (after_found h ++ begun d f) =
         ran_past was.0 new es (Has (set_row (rows_of st.removed st.holds st.last (entries_of h)) t r)) (Has (set_row (rows_of st.removed st.holds st.last (entries_of h)) t r)) run m known
-        ∙ past_more (events was.0) earlier (after_found h) es (past_calm was.0 was.1) ∙ ap (λ (xs : List Event). earlier ++ (after_found h ++ xs)) (sym begun_is) in
+        ∙ past_more (events was.0) earlier (after_found h) es (past_without_doubt was.0 was.1) ∙ ap (λ (xs : List Event). earlier ++ (after_found h ++ xs)) (sym begun_is) in
         record {
           images = images_now;
           past = past_now;
-          whole = whole_more W h (in_doubt d f) (whole_calm was.0 was.1) (whole was.0 was.1);
+          whole = whole_more W h (in_doubt d f) (whole_without_doubt was.0 was.1) (whole was.0 was.1);
           recalls = recalls_on W old new st earlier h k stands (record st { doubt = d; halted = Some since; halts = halts }) h f was.0 m es (Has (set_row (rows_of st.removed st.holds st.last (entries_of h)) t r)) (Has (set_row (rows_of st.removed st.holds st.last (entries_of h)) t r)) was.1 known run
               refl refl stands.legal past_now stands.counts (shows r);
           read = read_rows_of d f (rows_of st.removed st.holds st.last (entries_of h)) (reads m) (images_now (reads m) (leaves_now m)) (is_read m known);

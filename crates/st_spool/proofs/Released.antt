@@ -140,7 +140,7 @@ swept_keeps W old new st earlier h k stamps holds to stands same_stamps same_hol
         last = stands.last;
         holds = stands.holds;
         asked = stands.asked;
-        calm = stands.calm;
+        no_doubt = stands.no_doubt;
         doubt = stands.doubt;
         disk = λ m now.
             let was = before m now in
@@ -195,7 +195,7 @@ fewer_stands W known st earlier h k hold holds stands out = record {
   rises = stands.rises;
   last = stands.last;
   asked = stands.asked;
-  calm = stands.calm;
+  no_doubt = stands.no_doubt;
   doubt = stands.doubt;
   holds = λ q has. stands.holds q (fewer_removed st.holds holds out.0 q out.3 has);
   disk = λ log now.

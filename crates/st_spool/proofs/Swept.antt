@@ -45,9 +45,9 @@ module _ (stamps : List ℕ) (holds : List Span) (old new : Option Log) (still :
 
   module _ (first mid now : ℕ) (le_mid : first ≤ mid) (le_now : mid ≤ now) where
     pub tried_more : ((Rose first mid → ⊥) → (n : ℕ) → from ≤ n → n < i → covers holds n ≡ false → IsGone old (slice_index stamps n)) → IsGone new (slice_index stamps i) → (Rose first now → ⊥) → (n : ℕ) → from ≤ n → n < i + 1 → covers holds n ≡ false → IsGone new (slice_index stamps n)
-    tried_more tried here calm n le lt out =
-        ⊎_elim (λ (b : n < i). gone_still old new (slice_index stamps n) still (tried (λ rose. calm (rose_to first mid now le_now rose)) n le b out))
+    tried_more tried here no_doubt n le lt out =
+        ⊎_elim (λ (b : n < i). gone_still old new (slice_index stamps n) still (tried (λ rose. no_doubt (rose_to first mid now le_now rose)) n le b out))
         (λ (e : n ≡ i). subst (λ (m : ℕ). IsGone new (slice_index stamps m)) (sym e) here) (below_or_at n i lt)
 
     pub tried_failed : Rose mid now → (Rose first now → ⊥) → (n : ℕ) → from ≤ n → n < i + 1 → covers holds n ≡ false → IsGone new (slice_index stamps n)
-    tried_failed rose calm n le lt out = absurd (calm (rose_from first mid now le_mid rose))
+    tried_failed rose no_doubt n le lt out = absurd (no_doubt (rose_from first mid now le_mid rose))

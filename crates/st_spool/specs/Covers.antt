@@ -78,7 +78,7 @@ CoversMore =
     (h es doubt : List Event) (first now : Log) → Covers h es first now
     → CoversInDoubt h es doubt first now
 
-abbrev pub CoversCalm : Type 0
-CoversCalm =
+abbrev pub CoversWithoutDoubt : Type 0
+CoversWithoutDoubt =
     (h es : List Event) (first now : Log) → CoversInDoubt h es [] first now
     → Covers h es first now

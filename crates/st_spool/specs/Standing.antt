@@ -50,9 +50,9 @@ Gives h [] c = PairsIn c (set_of h)
 Gives h (e ∷ es) c = Either (set_of h) (set_of (h ++ e ∷ [])) c
 
 -- nothing is in doubt but after a call that failed
-abbrev pub IsCalm : Option ℕ → Doubt → ℕ → Type 0
-IsCalm None doubt halts = (doubt ≡ Nothing) × (halts ≡ 0)
-IsCalm (Some since) doubt halts = 0 < halts
+abbrev pub NoDoubtUntilHalted : Option ℕ → Doubt → ℕ → Type 0
+NoDoubtUntilHalted None doubt halts = (doubt ≡ Nothing) × (halts ≡ 0)
+NoDoubtUntilHalted (Some since) doubt halts = 0 < halts
 
 -- what is so of the shelf, where its log is known
 pub record OnDisk (IsWhole : List ℕ → List ℕ → Type 0) (log : Log) (st : SpoolState)
@@ -87,7 +87,7 @@ pub record StandsFor (IsWhole : List ℕ → List ℕ → Type 0) (known : Optio
   pub holds : AreWithin (length (entries_of h)) st.holds
   pub asked : IsWithin (length (entries_of h)) st.asked
   -- the event in doubt
-  pub calm : IsCalm st.halted st.doubt st.halts
+  pub no_doubt : NoDoubtUntilHalted st.halted st.doubt st.halts
   pub doubt : MayBe st.doubt f st.removed st.last (entries_of h)
   -- the shelf
   pub disk : (log : Log) → known ≡ Some log → OnDisk IsWhole log st earlier h f

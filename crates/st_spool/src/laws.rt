@@ -1,7 +1,7 @@
 //! What is so of every history and of every run. Each of these does nothing: its contract is the
 //! law.
 ghost use Rattle.st_spool.specs.Histories.{HoldsStay, TakesAll, OneHistory, HistoryStays, FailedStays, PublishedGoesOn, RemovedGoesOn};
-ghost use Rattle.st_spool.specs.Covers.{CoversAll, CoversOpening, CoversOn, CoversStill, CoversFault, CoversDoubt, CoversMore, CoversCalm};
+ghost use Rattle.st_spool.specs.Covers.{CoversAll, CoversOpening, CoversOn, CoversStill, CoversFault, CoversDoubt, CoversMore, CoversWithoutDoubt};
 
 use crate::pair_rule::PairRule;
 
@@ -35,5 +35,5 @@ pub fn covers()
     ensures fault { CoversFault }
     ensures doubt { CoversDoubt }
     ensures more { CoversMore }
-    ensures calm { CoversCalm }
+    ensures no_doubt { CoversWithoutDoubt }
 {}

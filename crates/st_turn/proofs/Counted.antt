@@ -13,7 +13,7 @@ use Rattle.st_spool.specs.declared.refusals.AgeErr.{AgeErr}
 use Rattle.st_spool.specs.declared.refusals.AgeErr.TheVariants as age
 use Rattle.st_spool.specs.States.{SpoolView}
 use Rattle.st_spool.specs.Recalling.{history}
-use Rattle.st_spool.specs.Standing.{Stands, IsCalm}
+use Rattle.st_spool.specs.Standing.{Stands, NoDoubtUntilHalted}
 use Rattle.st_spool.specs.Publishing.{MayPublish}
 use Rattle.st_turn.specs.declared.refusals.SharedPublishErr.{SharedPublishErr}
 use Rattle.st_turn.specs.declared.refusals.SharedPublishErr.TheVariants as shared
@@ -21,17 +21,17 @@ use Rattle.st_turn.specs.Parts.{Facts, PassState}
 use Rattle.st_turn.specs.Calls.{IsTurn, MayTurn}
 use Rattle.st_turn.specs.Spools.{facts_of, top_stamp, KeepsOf}
 use Rattle.st_turn.specs.SpoolCalls.{told, publish_stopped, PublishesBy, SharedPublishes, AgesBy}
-use Rattle.st_turn.specs.Counts.{has_failed, AgeRefuses, PublishRefuses}
+use Rattle.st_turn.specs.Refusing.{has_failed, AgeRefuses, PublishRefuses}
 use Rattle.st_turn.proofs.Spooled.{publish_turn, age_turn, room_turn}
 
 -- nothing failed yet of a spool that is not halted, and something of one that is
-none_failed : (halted : Option ℕ) (d : Doubt) (n : ℕ) → IsCalm halted d n → halted ≡ None → n ≡ 0
-none_failed None d n calm is = calm.1
-none_failed (Some since) d n calm is = absurd (cc)
+none_failed : (halted : Option ℕ) (d : Doubt) (n : ℕ) → NoDoubtUntilHalted halted d n → halted ≡ None → n ≡ 0
+none_failed None d n no_doubt is = no_doubt.1
+none_failed (Some since) d n no_doubt is = absurd (cc)
 
-some_failed : (halted : Option ℕ) (d : Doubt) (n since : ℕ) → IsCalm halted d n → halted ≡ Some since → 0 < n
-some_failed None d n since calm is = absurd (cc)
-some_failed (Some k) d n since calm is = calm
+some_failed : (halted : Option ℕ) (d : Doubt) (n since : ℕ) → NoDoubtUntilHalted halted d n → halted ≡ Some since → 0 < n
+some_failed None d n since no_doubt is = absurd (cc)
+some_failed (Some k) d n since no_doubt is = no_doubt
 
 told_failed : {T S : Type 0} (answer : Result ℕ (PublishErr T S)) → publish_stopped answer ≡ has_failed (told answer)
 told_failed (Ok s) = refl
@@ -79,7 +79,7 @@ module _ {D : Type 0} (W : List ℕ → List ℕ → Type 0) (log : D → Option
       publish_refuses bytes pair floor (Ok s) a =
           let may : MayPublish x.state = a.refused in
           let m = publish_turn log faults home W loans bytes x y p.held pair floor (Ok s) a stands in
-          let none : x.state.halts ≡ 0 = none_failed x.state.halted x.state.doubt x.state.halts stands.3.calm may.0 in
+          let none : x.state.halts ≡ 0 = none_failed x.state.halted x.state.doubt x.state.halts stands.3.no_doubt may.0 in
           let now : q.card.halts ≡ 0 = halts_now 0 (m.halts ∙ none) in
           record {
             stops = stops_by F (KeepsOf log faults home) x y p q p.held p.held false t m;
@@ -98,7 +98,7 @@ module _ {D : Type 0} (W : List ℕ → List ℕ → Type 0) (log : D → Option
           }
       publish_refuses bytes pair floor (Err (publish.Halted since back)) a =
           let m = publish_turn log faults home W loans bytes x y p.held pair floor (Err (publish.Halted since back)) a stands in
-          let some : 0 < x.state.halts = some_failed x.state.halted x.state.doubt x.state.halts since stands.3.calm a.refused.0 in
+          let some : 0 < x.state.halts = some_failed x.state.halted x.state.doubt x.state.halts since stands.3.no_doubt a.refused.0 in
           let now : q.card.halts ≡ x.state.halts = halts_now x.state.halts m.halts in
           record {
             stops = stops_by F (KeepsOf log faults home) x y p q p.held p.held false t m;
@@ -107,7 +107,7 @@ module _ {D : Type 0} (W : List ℕ → List ℕ → Type 0) (log : D → Option
           }
       publish_refuses bytes pair floor (Err (publish.StampsSpent last back)) a =
           let m = publish_turn log faults home W loans bytes x y p.held pair floor (Err (publish.StampsSpent last back)) a stands in
-          let none : x.state.halts ≡ 0 = none_failed x.state.halted x.state.doubt x.state.halts stands.3.calm a.refused.0 in
+          let none : x.state.halts ≡ 0 = none_failed x.state.halted x.state.doubt x.state.halts stands.3.no_doubt a.refused.0 in
           let now : q.card.halts ≡ 0 = halts_now 0 (m.halts ∙ none) in
           record {
             stops = stops_by F (KeepsOf log faults home) x y p q p.held p.held false t m;
@@ -133,7 +133,7 @@ module _ {D : Type 0} (W : List ℕ → List ℕ → Type 0) (log : D → Option
     pub age_refuses : (result : Result Bool AgeErr) → AgesBy W log faults home loans x y result → AgeRefuses p.card q.card result
     age_refuses (Ok b) a =
         let m = age_turn log faults home W loans x y p.held (Ok b) a stands in
-        let none : x.state.halts ≡ 0 = none_failed x.state.halted x.state.doubt x.state.halts stands.3.calm a.refused in
+        let none : x.state.halts ≡ 0 = none_failed x.state.halted x.state.doubt x.state.halts stands.3.no_doubt a.refused in
         let now : q.card.halts ≡ 0 = halts_now 0 (m.halts ∙ none) in
         record {
           stops = stops_by F (KeepsOf log faults home) x y p q p.held p.held false t m;
@@ -147,7 +147,7 @@ module _ {D : Type 0} (W : List ℕ → List ℕ → Type 0) (log : D → Option
         }
     age_refuses (Err (age.Halted since)) a =
         let m = age_turn log faults home W loans x y p.held (Err (age.Halted since)) a stands in
-        let some : 0 < x.state.halts = some_failed x.state.halted x.state.doubt x.state.halts since stands.3.calm a.refused.0 in
+        let some : 0 < x.state.halts = some_failed x.state.halted x.state.doubt x.state.halts since stands.3.no_doubt a.refused.0 in
         let now : q.card.halts ≡ x.state.halts = halts_now x.state.halts m.halts in
         record {
           stops = stops_by F (KeepsOf log faults home) x y p q p.held p.held false t m;

@@ -11,13 +11,13 @@ use Rattle.st_spool.specs.declared.state.Doubt.{Doubt}
 use Rattle.st_spool.specs.History.{without, entries_after, entries_of, MayFollow, Legal}
 use Rattle.st_spool.specs.States.{SpoolState, AreUpTo}
 use Rattle.st_spool.specs.Recalling.{history, earlier, event_count}
-use Rattle.st_spool.specs.Standing.{StandsFor, OnDisk, IsCalm, Gives, begun, after_found}
+use Rattle.st_spool.specs.Standing.{StandsFor, OnDisk, NoDoubtUntilHalted, Gives, begun, after_found}
 use Rattle.st_spool.specs.Publishing.{RanTo, RanInDoubt, RanAsBefore, Fails, Keeps}
 use Rattle.st_spool.specs.Holding.{with_hold}
 use Rattle.st_spool.specs.Covers.{CoversInDoubt}
 use Rattle.st_spool.proofs.Recalled.{earlier_long}
 use Rattle.st_spool.proofs.Giving.{gives}
-use Rattle.st_spool.proofs.Covering.{covers_on, covers_fault, covers_doubt, covers_more, covers_calm}
+use Rattle.st_spool.proofs.Covering.{covers_on, covers_fault, covers_doubt, covers_more, covers_without_doubt}
 use Rattle.st_turn.specs.Spools.{top_stamp, KeepsImages}
 
 take_first : (xs ys : List Event) → take (length xs) (xs ++ ys) ≡ xs
@@ -63,9 +63,9 @@ top_self limit n (Publish e ∷ h) legal up = absurd legal
 top_self limit n (Remove s ∷ h) legal up = absurd legal
 
 -- nothing is in doubt of a spool that has not failed
-calm_of : (halted : Option ℕ) (d : Doubt) (halts : ℕ) (f : Files) → IsCalm halted d halts → halted ≡ None → begun d f ≡ []
-calm_of None d halts f calm is = ap (λ (c : Doubt). begun c f) calm.0
-calm_of (Some since) d halts f calm is = absurd (cc)
+no_doubt_of : (halted : Option ℕ) (d : Doubt) (halts : ℕ) (f : Files) → NoDoubtUntilHalted halted d halts → halted ≡ None → begun d f ≡ []
+no_doubt_of None d halts f no_doubt is = ap (λ (c : Doubt). begun c f) no_doubt.0
+no_doubt_of (Some since) d halts f no_doubt is = absurd (cc)
 
 -- a hold changes none of it
 pub images_held : (b x : SpoolState) (first now : Log) → KeepsImages b x first now → KeepsImages b (with_hold x) first now
@@ -76,7 +76,7 @@ images_held b x first now kept = record {
   last_is = kept.last_is;
   doubt = kept.doubt;
   past = kept.past;
-  calm = kept.calm;
+  no_doubt = kept.no_doubt;
   covers = kept.covers;
 }
 
@@ -114,18 +114,18 @@ module _ (W : List ℕ → List ℕ → Type 0) where
         last_is = sym (top_self st.limit st.last (history st first) (subst (λ (g : List Event). Legal st.limit g) (sym disk.recalls) stands.legal) (subst (λ (g : List Event). AreUpTo st.last (entries_of g)) (sym disk.recalls) stands.last));
         doubt = begun st.doubt f;
         past = past_at first st before h f disk stands.counts;
-        calm = λ none. calm_of st.halted st.doubt st.halts f stands.calm none;
+        no_doubt = λ none. no_doubt_of st.halted st.doubt st.halts f stands.no_doubt none;
         covers = λ none.
             covers_more (history st first) [] (begun st.doubt f) first first
             (started first (Gives (history st first) [])
             (λ c left. subst (λ (g : List Event). Gives g [] c) (sym disk.recalls)
-            (subst (λ (d : List Event). Gives h d c) (calm_of st.halted st.doubt st.halts f stands.calm none)
+            (subst (λ (d : List Event). Gives h d c) (no_doubt_of st.halted st.doubt st.halts f stands.no_doubt none)
             (gives W known st before h f stands c (disk.images c left)))));
       })
 
   module _ (b x y : SpoolState) (first mid now : Log) (kept : KeepsImages b x first mid) (before h more : List Event) (f k : Files)
       (was : OnDisk W mid x before h f) (counted : length (after_found h) ≡ event_count x) (is : OnDisk W now y before (h ++ more) k) (counts : length (after_found (h ++ more)) ≡ event_count y)
-      (calm : IsCalm y.halted y.doubt y.halts) (last : y.last ≡ top_stamp x.last more) where
+      (no_doubt : NoDoubtUntilHalted y.halted y.doubt y.halts) (last : y.last ≡ top_stamp x.last more) where
     history_so_far : history b first ++ kept.more ≡ h
     history_so_far = sym kept.history_is ∙ was.recalls
 
@@ -144,7 +144,7 @@ module _ (W : List ℕ → List ℕ → Type 0) where
       history_is = is.recalls ∙ ap (λ (xs : List Event). xs ++ more) (sym history_so_far) ∙ append_assoc (history b first) kept.more more;
       doubt = begun y.doubt k;
       past = past_at now y before (h ++ more) k is counts;
-      calm = λ none. calm_of y.halted y.doubt y.halts k calm none;
+      no_doubt = λ none. no_doubt_of y.halted y.doubt y.halts k no_doubt none;
       covers = λ none. goes none (subst (λ (d : List Event). CoversInDoubt (history b first) kept.more d first mid) (doubt_at mid x before h kept.doubt f was counted kept.past) (kept.covers none));
     }
 
@@ -168,7 +168,7 @@ module _ (W : List ℕ → List ℕ → Type 0) where
         images_on b x y first mid now so_far before h [] f f here stands.counts
         (subst (λ (g : List Event). OnDisk W now y before g f) (sym none) there)
         (ap (λ (g : List Event). length (after_found g)) none ∙ keeps.stands.counts)
-        keeps.stands.calm last
+        keeps.stands.no_doubt last
         (λ free covers.
         subst (λ (es : List Event). CoversInDoubt (history b first) es (begun y.doubt f) first now) (sym (append-nil so_far.more))
         (covers_doubt (history b first) so_far.more (begun y.doubt f) first mid now new
@@ -184,12 +184,12 @@ module _ (W : List ℕ → List ℕ → Type 0) where
         let was : old ≡ Some mid = (known now is).1 in
         let so_far = kept first mid begins was in
         let here = stands.disk mid was in
-        images_on b x y first mid now so_far before h (e ∷ []) f k here stands.counts (after.disk now is) after.counts after.calm last
+        images_on b x y first mid now so_far before h (e ∷ []) f k here stands.counts (after.disk now is) after.counts after.no_doubt last
         (λ free covers.
         covers_more (history b first) (so_far.more ++ e ∷ []) (begun y.doubt k) first now
         (covers_on (history b first) so_far.more e first mid now new
-        (covers_calm (history b first) so_far.more first mid
-        (subst (λ (d : List Event). CoversInDoubt (history b first) so_far.more d first mid) (calm_of x.halted x.doubt x.halts f stands.calm sound) covers))
+        (covers_without_doubt (history b first) so_far.more first mid
+        (subst (λ (d : List Event). CoversInDoubt (history b first) so_far.more d first mid) (no_doubt_of x.halted x.doubt x.halts f stands.no_doubt sound) covers))
         (subst (λ (g : List Event). RanTo mid new g e) (sym (sym so_far.history_is ∙ here.recalls)) (ran mid was))
         is))
 
@@ -204,11 +204,11 @@ module _ (W : List ℕ → List ℕ → Type 0) where
         images_on b x y first mid now so_far before h [] f k here stands.counts
         (subst (λ (g : List Event). OnDisk W now y before g k) (sym none) (fails.stands.disk now is))
         (ap (λ (g : List Event). length (after_found g)) none ∙ fails.stands.counts)
-        fails.stands.calm last
+        fails.stands.no_doubt last
         (λ free covers.
         subst (λ (es : List Event). CoversInDoubt (history b first) es (begun y.doubt k) first now) (sym (append-nil so_far.more))
         (covers_fault (history b first) so_far.more (begun y.doubt k) first mid now new
-        (covers_calm (history b first) so_far.more first mid
-        (subst (λ (d : List Event). CoversInDoubt (history b first) so_far.more d first mid) (calm_of x.halted x.doubt x.halts f stands.calm sound) covers))
+        (covers_without_doubt (history b first) so_far.more first mid
+        (subst (λ (d : List Event). CoversInDoubt (history b first) so_far.more d first mid) (no_doubt_of x.halted x.doubt x.halts f stands.no_doubt sound) covers))
         (subst (λ (g : List Event). RanInDoubt mid new g (begun y.doubt k)) (sym (sym so_far.history_is ∙ here.recalls)) (fails.images mid was))
         is))

@@ -13,7 +13,7 @@ use Rattle.st_disk.proofs.Runs.{grew_none, known_then}
 use Rattle.st_spool.specs.declared.state.Span.{Span}
 use Rattle.st_spool.specs.declared.state.Doubt.{Doubt}
 use Rattle.st_spool.specs.States.{SpoolState, SpoolView}
-use Rattle.st_spool.specs.Standing.{StandsFor, Stands, IsCalm}
+use Rattle.st_spool.specs.Standing.{StandsFor, Stands, NoDoubtUntilHalted}
 use Rattle.st_spool.specs.Recalling.{history_of, event_count}
 use Rattle.st_disk.specs.Folders.{given}
 use Rattle.st_shelf.specs.declared.shelves.SealedPair.{SealedPair}
@@ -47,9 +47,9 @@ more_blank n = ap (λ (k : ℕ). replicate k (Found [])) (let e : n + 1 + 1 ≡ 
         up (suc k) = ap (λ (l : List Event). Found [] ∷ l) (up k)
 
 -- the call that stops a spool is counted
-first_stop : (halted : Option ℕ) (d : Doubt) (was now : ℕ) → IsCalm halted d was → halted ≡ None → now ≡ next_count was → was < now
-first_stop None d was now calm sound up = let none = calm.1 in grind arith
-first_stop (Some since) d was now calm sound up = absurd (cc)
+first_stop : (halted : Option ℕ) (d : Doubt) (was now : ℕ) → NoDoubtUntilHalted halted d was → halted ≡ None → now ≡ next_count was → was < now
+first_stop None d was now no_doubt sound up = let none = no_doubt.1 in grind arith
+first_stop (Some since) d was now no_doubt sound up = absurd (cc)
 
 last_more : (last floor s : ℕ) → s ≡ next_stamp last floor → s ≡ max last s
 last_more last floor s is = grind arith
@@ -197,7 +197,7 @@ module _ {D : Type 0} (log : D → Option Log) (faults home : D → ℕ) where
           later = a.cause.0;
           halts = halts;
           rose = λ e. a.cause.1 refl;
-          one = λ e. first_stop x.state.halted x.state.doubt x.state.halts y.state.halts stands.3.calm may.0 halts;
+          one = λ e. first_stop x.state.halted x.state.doubt x.state.halts y.state.halts stands.3.no_doubt may.0 halts;
           keeps = λ b k. keeps_on b x y [] a.rest.0 limit a.cause.0 (same ∙ sym (append-nil (facts_of log faults home x).history)) fails.known (λ l e. let run = fails.images l e in (run.log, run.is))
               (images_fault W b.state x.state y.state (log b.shelf) (log x.shelf) (log y.shelf) stands.0 stands.1 stands.2 stands.3 k.images (files_of first.0) last may.0 fails) k;
         }
@@ -240,7 +240,7 @@ module _ {D : Type 0} (log : D → Option Log) (faults home : D → ℕ) where
           later = a.cause.later;
           halts = halts;
           rose = λ e. a.cause.failed refl;
-          one = λ e. first_stop x.state.halted x.state.doubt x.state.halts y.state.halts stands.3.calm may.0 halts;
+          one = λ e. first_stop x.state.halted x.state.doubt x.state.halts y.state.halts stands.3.no_doubt may.0 halts;
           keeps = λ b k. keeps_on b x y [] a.rest.0 limit a.cause.later (same ∙ sym (append-nil (facts_of log faults home x).history)) fails.known (λ l e. let run = fails.images l e in (run.log, run.is))
               (images_fault W b.state x.state y.state (log b.shelf) (log x.shelf) (log y.shelf) stands.0 stands.1 stands.2 stands.3 k.images (files (given (bytes pair.block)) (given (bytes pair.index))) last may.0 fails) k;
         }

@@ -4,7 +4,7 @@ use mathlib.Core.Option.{some, none}
 use prog.Atomic.{either}
 use lib.ListN.{get_elem?}
 use Rattle.atomic_table.specs.Table.{step, Allows, Splits, Joins, Final, Seen, opening}
-use Rattle.st_turn.specs.Turn.{Caller, Seated, idle, turning, with_pass, Turning, Takes, Gives, Looks}
+use Rattle.st_turn.specs.Turn.{Caller, SeatState, idle, turning, with_pass, Turning, Takes, Gives, Looks}
 use Rattle.st_turn.specs.Parts.{Facts, Booked, PassState, is_number, blank, HasNumber, Parts}
 use Rattle.st_turn.specs.Steps.{visitor, starts, gave_out, next_pass, joined, Moves}
 use Rattle.st_turn.specs.Telling.{Learns, Saw}
@@ -17,7 +17,7 @@ use Rattle.st_turn.proofs.Telling.{learns, saw}
 
 module _ {S E H : Type 0} (facts : S → Facts E H) (Keeps : S → S → Type 0) (key : Booked S) where
   abbrev Seat : Type 0
-  Seat = Seated (Booked S) (PassState S E H)
+  Seat = SeatState (Booked S) (PassState S E H)
 
   pub may_take : (slots id : ℕ) (me : Seat) → me ≡ (idle me.0.pass, []) → HasNumber me.0.pass
       → Allows (Turning HasNumber (Parts facts Keeps key)) slots id me 0 (λ n. either (eqb n 0) 1 n) (Takes (Learns facts Keeps) (step slots 0 0 1 none) me)

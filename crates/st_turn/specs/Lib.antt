@@ -8,5 +8,5 @@ pub mod Ends
 pub mod Spools
 pub mod Files
 pub mod SpoolCalls
-pub mod Counts
+pub mod Refusing
 pub mod ReadingCalls

@@ -20,14 +20,14 @@ use Rattle.st_turn.specs.SpoolCalls.{StaysAs}
 module _ {D : Type 0} (W : List ℕ → List ℕ → Type 0) (log : D → Option Log) (faults home : D → ℕ)
     (loans : D → LoansView) (v w : SpoolView D) where
   -- the number of pairs in a hold
-  pub record Counts (hold : Span) (result : ℕ) : Type 0 where
+  pub record TellsCount (hold : Span) (result : ℕ) : Type 0 where
     pub same : w ≡ v
     pub count : result ≡ size_of hold
     pub held_is : (earlier h : List Event) (f : Files)
         → StandsFor W (log v.shelf) v.state earlier h f → result ≡ length (held hold h)
 
   -- the stamp of the pair with this index in a hold
-  pub record Stamps (hold : Span) (i result : ℕ) : Type 0 where
+  pub record TellsStamp (hold : Span) (i result : ℕ) : Type 0 where
     pub same : w ≡ v
     pub stamp_is : (earlier h : List Event) (f : Files) (e : Entry) (after : List Entry)
         → StandsFor W (log v.shelf) v.state earlier h f

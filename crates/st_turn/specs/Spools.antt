@@ -39,7 +39,7 @@ pub record KeepsImages (b x : SpoolState) (first now : Log) : Type 0 where
   -- the event in doubt, if the shelf's log has one
   pub doubt : List Event
   pub past : events now ≡ earlier x now ++ (after_found (history x now) ++ doubt)
-  pub calm : x.halted ≡ None → doubt ≡ []
+  pub no_doubt : x.halted ≡ None → doubt ≡ []
   -- the crashes, if the earlier spool had not failed
   pub covers : b.halted ≡ None → CoversInDoubt (history b first) more doubt first now
 

@@ -25,8 +25,8 @@ abbrev pub with_pass : {X P : Type 0} → (P → P) → Caller X P → Caller X 
 with_pass f d = record { taken = d.taken; pass = f d.pass }
 
 -- a caller and the slot, if it has the slot
-abbrev pub Seated : Type 0 → Type 0 → Type 0
-Seated X P = Me (Option X) (Caller X P)
+abbrev pub SeatState : Type 0 → Type 0 → Type 0
+SeatState X P = Me (Option X) (Caller X P)
 
 module _ {X P : Type 0} where
   -- the value is at home, and nobody has the turn
@@ -54,20 +54,20 @@ module _ {X P : Type 0} where
     pub kept : parts now (map pass_of s.views)
 
   -- a try for the turn: who finds 0 has it, and learns something of the value
-  pub record Takes (tells : X → P → Type 0) (s : Step (Option X)) (me : Seated X P) (found : ℕ)
-      (after : Seated X P) : Type 0 where
+  pub record Takes (tells : X → P → Type 0) (s : Step (Option X)) (me : SeatState X P) (found : ℕ)
+      (after : SeatState X P) : Type 0 where
     pub hit : found ≡ 0 → (x : X) × (after ≡ (turning x me.0.pass, (0, Some x) ∷ []))
         × tells x me.0.pass
     pub miss : found ≢ 0 → after ≡ me
 
   -- the turn is over: the value was put back, and the pass is another one
-  pub record Gives (moves : X → X → P → P → Type 0) (s : Step (Option X)) (me : Seated X P)
-      (found : ℕ) (after : Seated X P) : Type 0 where
+  pub record Gives (moves : X → X → P → P → Type 0) (s : Step (Option X)) (me : SeatState X P)
+      (found : ℕ) (after : SeatState X P) : Type 0 where
     pub gives : (x y : X) → me.0.taken ≡ Some x → me.1 ≡ (0, Some y) ∷ []
         → (after ≡ (idle after.0.pass, [])) × moves x y me.0.pass after.0.pass
 
   -- a look, which tells something of a pass
-  pub record Looks (tells : P → Type 0) (s : Step (Option X)) (me : Seated X P) (found : ℕ)
-      (after : Seated X P) : Type 0 where
+  pub record Looks (tells : P → Type 0) (s : Step (Option X)) (me : SeatState X P) (found : ℕ)
+      (after : SeatState X P) : Type 0 where
     pub same : after ≡ me
     pub told : tells me.0.pass

@@ -1,3 +1,5 @@
+//! The book that goes round with the spool: a line for each pass.
+
 /// A pass's line of the book: how many of its turns the shelf's count of faults rose in, and how
 /// many of its publications and ageings failed.
 #[derive(Clone, Copy, Debug, PartialEq, Eq)]

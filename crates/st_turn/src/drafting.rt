@@ -1,3 +1,4 @@
+//! Turns that create a pair's draft and abandon one.
 ghost use Rattle.std.specs.Prelude.{◌≡◌};
 ghost use Rattle.st_shelf.specs.Ends.{end_origin};
 ghost use Rattle.st_spool.specs.States.{SpoolView};

@@ -1,3 +1,4 @@
+//! The end of sharing: all passes joined, and the spool given back.
 ghost use Rattle.std.specs.Prelude.{◌≡◌, ◌≤◌, Some, map, length};
 ghost use Rattle.st_turn.specs.Parts.{is_number};
 ghost use Rattle.st_turn.specs.Steps.{joined};

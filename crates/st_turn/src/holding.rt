@@ -1,10 +1,11 @@
+//! Turns that hold a file set, age it, and release a hold.
 ghost use Rattle.std.specs.Prelude.{◌≡◌, ◌++◌, ◌∷◌, [], Contains, MatchResult};
 ghost use Rattle.st_spool.specs.States.{SpoolView};
 ghost use Rattle.st_turn.specs.Passes.{IsOf, IsSame};
 ghost use Rattle.st_turn.specs.Spools.{facts_of};
 ghost use Rattle.st_turn.specs.Calls.{IsTurn, Without};
 ghost use Rattle.st_turn.specs.SpoolCalls.{IsAtHome, Holds, AgesBy, Releases, age_stopped};
-ghost use Rattle.st_turn.specs.Counts.{AgeRefuses};
+ghost use Rattle.st_turn.specs.Refusing.{AgeRefuses};
 
 use crate::desk::{end, take};
 use crate::home::Home;

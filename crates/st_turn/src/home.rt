@@ -1,3 +1,4 @@
+//! What lies in the table's slot, and what a caller knows.
 use crate::book::Line;
 use crate::turned::Turned;
 use std::marker::{Model, PhantomData};

@@ -1,3 +1,4 @@
+//! Two passes tell each other what they saw.
 ghost use Rattle.std.specs.Prelude.{◌≡◌, ◌<◌};
 ghost use Rattle.st_turn.specs.Parts.{is_number};
 ghost use Rattle.st_turn.specs.Steps.{visitor, joined};

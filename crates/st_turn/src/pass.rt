@@ -1,3 +1,4 @@
+//! A caller's pass.
 use crate::desk::Place;
 use crate::trail::Trail;
 use crate::turned::Turned;

@@ -1,3 +1,4 @@
+//! The turn that publishes a pair.
 ghost use Rattle.std.specs.Prelude.{◌≡◌, ℕ, Some};
 ghost use Rattle.st_disk.specs.Disks.{Log};
 ghost use Rattle.st_disk.specs.Folders.{given};
@@ -7,7 +8,7 @@ ghost use Rattle.st_turn.specs.Passes.{IsOf, IsSame};
 ghost use Rattle.st_turn.specs.Spools.{facts_of};
 ghost use Rattle.st_turn.specs.Calls.{IsTurn};
 ghost use Rattle.st_turn.specs.SpoolCalls.{told, IsAtHome, SharedPublishes};
-ghost use Rattle.st_turn.specs.Counts.{has_failed, PublishRefuses};
+ghost use Rattle.st_turn.specs.Refusing.{has_failed, PublishRefuses};
 
 use crate::desk::{end, take};
 use crate::home::Home;

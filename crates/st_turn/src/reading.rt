@@ -1,3 +1,4 @@
+//! Turns that read a hold: counts, stamps and lent files.
 ghost use Rattle.std.specs.Prelude.{◌≡◌, ◌<◌, ◌++◌, ◌∷◌, [], true, Contains, MatchResult};
 ghost use Rattle.st_disk.specs.declared.naming.Kind.TheVariants as kind;
 ghost use Rattle.st_shelf.specs.Loans.{lend, take_back};
@@ -7,7 +8,7 @@ ghost use Rattle.st_turn.specs.Passes.{IsOf, IsSame};
 ghost use Rattle.st_turn.specs.Spools.{facts_of};
 ghost use Rattle.st_turn.specs.Calls.{IsTurn};
 ghost use Rattle.st_turn.specs.SpoolCalls.{IsAtHome};
-ghost use Rattle.st_turn.specs.ReadingCalls.{Counts, Stamps, Lends, TakesFile};
+ghost use Rattle.st_turn.specs.ReadingCalls.{TellsCount, TellsStamp, Lends, TakesFile};
 
 use crate::desk::{end, take};
 use crate::home::Home;
@@ -41,7 +42,7 @@ impl<D: Shelf, W: PairRule> Shared<Spool<D, W>> {
         ensures turn { (v : SpoolView D) × (w : SpoolView D)
             × IsAtHome W.is_whole D.log D.faults D.id self.now.base v
             × IsTurn (facts_of D.log D.faults D.id) v w pass.old.state pass.new.state
-            × Counts W.is_whole D.log D.faults D.id D.loans v w hold.now result }
+            × TellsCount W.is_whole D.log D.faults D.id D.loans v w hold.now result }
     {
         let desk = &self.table.shared;
         let Home { spool, lines } = take(rt, desk, &mut pass.place);
@@ -79,7 +80,7 @@ impl<D: Shelf, W: PairRule> Shared<Spool<D, W>> {
         ensures turn { (v : SpoolView D) × (w : SpoolView D)
             × IsAtHome W.is_whole D.log D.faults D.id self.now.base v
             × IsTurn (facts_of D.log D.faults D.id) v w pass.old.state pass.new.state
-            × Stamps W.is_whole D.log D.faults D.id D.loans v w hold.now i result }
+            × TellsStamp W.is_whole D.log D.faults D.id D.loans v w hold.now i result }
     {
         let desk = &self.table.shared;
         let Home { spool, lines } = take(rt, desk, &mut pass.place);

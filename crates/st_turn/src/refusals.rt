@@ -1,3 +1,4 @@
+//! Why a shared publication is refused.
 use st_shelf::{Draft, SealedPair};
 
 /// Why a pair was not published by a shared spool.

@@ -1,3 +1,4 @@
+//! The beginning of sharing: a spool laid in the table, and its passes.
 ghost use Rattle.std.specs.Prelude.{◌≡◌, ◌<◌, ◌≤◌, ◌+◌, [], ◌∷◌, IfOk, IfErr, Some, length, vec_len, vec_capacity, replicate};
 ghost use Rattle.st_turn.specs.Turn.{idle};
 ghost use Rattle.st_turn.specs.Parts.{blank, Each};

@@ -1,3 +1,4 @@
+//! A spool as a value that passes share.
 use crate::turned::Turned;
 use st_shelf::Shelf;
 use st_spool::{PairRule, Spool};

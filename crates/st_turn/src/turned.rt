@@ -1,3 +1,4 @@
+//! What a value must tell to be shared by turns.
 ghost use Rattle.std.specs.Prelude.{◌≡◌, List, [], Bool};
 ghost use Rattle.st_disk.specs.Events.{Event};
 ghost use Rattle.st_shelf.specs.Loans.{LoansView, no_loans};

@@ -16,7 +16,7 @@ use Rattle.st_query.proofs.Readings.{not_both}
 use Rattle.steno.specs.declared.status.Status.{Status}
 use Rattle.steno.specs.declared.status.Status.TheVariants.{Done, Usage, BadQuery, WriteFault, DiskFault, Damaged, NoMemory}
 use Rattle.steno.specs.Asking.{AnswersShelf, QueriesUnfailed, question}
-use Rattle.steno.specs.Causes.{Counts, HasCauses, NoneRose}
+use Rattle.steno.specs.Causes.{FaultCounts, HasCauses, NoneRose}
 use Rattle.steno.specs.Once.{HasQueryCause}
 use Rattle.steno.specs.Scenes.{Scene}
 use Rattle.steno.specs.Spooling.{AreWhole, NamesDamage, SaysOutcome}
@@ -50,7 +50,7 @@ question_same job u l q now pairs old new o same_unit same_limits answers =
     subst (λ v. Answers (record { node = q; now = now; limits = job.limits; unit = v }) pairs old new o) same_unit
     (subst (λ k. Answers (record { node = q; now = now; limits = k; unit = u }) pairs old new o) same_limits answers)
 
-pub query_ends : (job : Job) (old new : Scene) (before after : Counts) (status : Status) (message : List ℕ)
+pub query_ends : (job : Job) (old new : Scene) (before after : FaultCounts) (status : Status) (message : List ℕ)
     → AnswersShelf job old new status message → HasCauses before after status → NoneRose before after → QueriesUnfailed job old status
 query_ends job old new before after status message ran cause none = λ first pairs q known found whole spelled.
     elim ran.ends [

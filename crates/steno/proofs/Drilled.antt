@@ -15,7 +15,7 @@ use Rattle.st_load.specs.declared.ends.LoadEnd.TheVariants as load
 use Rattle.st_plan.specs.Jobs.{DrillPlan}
 use Rattle.steno.specs.declared.status.Status.{Status}
 use Rattle.steno.specs.declared.status.Status.TheVariants.{Done, Usage, BadQuery, WriteFault, DiskFault, Damaged, NoMemory, StampsSpent}
-use Rattle.steno.specs.Causes.{Counts, HasCauses, NoneRose}
+use Rattle.steno.specs.Causes.{FaultCounts, HasCauses, NoneRose}
 use Rattle.steno.specs.Drilling.{DrillsShelf, DrillsUnfailed, SaysDrill}
 use Rattle.steno.specs.Scenes.{Scene}
 use Rattle.steno.specs.Spooling.{AreWhole}
@@ -56,7 +56,7 @@ hurt packets first known times times_now old new e pairs stamp d ran found whole
   | inr (unloaded, same) ↦ not_unloaded ran.loaded stamp d (subst (EndsUnloaded ran.loaded) is unloaded)
 ]
 
-pub drill_ends : (drill : DrillPlan) (old new : Scene) (before after : Counts) (status : Status) (message : List ℕ)
+pub drill_ends : (drill : DrillPlan) (old new : Scene) (before after : FaultCounts) (status : Status) (message : List ℕ)
     → DrillsShelf drill old new status message → HasCauses before after status → NoneRose before after → DrillsUnfailed old status
 drill_ends drill old new before after status message ran cause none = λ first pairs known found whole.
     well ran.ended status message ran.says (λ e. none.output (cause.write e)) (λ e. none.shelf (cause.disk e))

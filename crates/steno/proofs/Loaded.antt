@@ -12,7 +12,7 @@ use Rattle.st_load.specs.declared.ends.LoadEnd.{LoadEnd}
 use Rattle.st_load.specs.declared.ends.LoadEnd.TheVariants as end
 use Rattle.steno.specs.declared.status.Status.{Status}
 use Rattle.steno.specs.declared.status.Status.TheVariants.{Done, BadInput, ReadFault, WriteFault, DiskFault, NoMemory, StampsSpent}
-use Rattle.steno.specs.Causes.{Counts, HasCauses, NoneRose}
+use Rattle.steno.specs.Causes.{FaultCounts, HasCauses, NoneRose}
 use Rattle.steno.specs.Loading.{IsTaken, LoadsPairs, LoadsUnfailed, SaysLoad}
 use Rattle.steno.specs.Scenes.{Scene}
 use Rattle.steno.specs.Statuses.{Ends}
@@ -23,7 +23,7 @@ pub record Unfailed (status : Status) : Type 0 where
   pub write : status ≡ WriteFault → ⊥
   pub disk : status ≡ DiskFault → ⊥
 
-unfailed : (before after : Counts) (status : Status) → HasCauses before after status → NoneRose before after → Unfailed status
+unfailed : (before after : FaultCounts) (status : Status) → HasCauses before after status → NoneRose before after → Unfailed status
 unfailed before after status cause none = record { read = λ e. none.input (cause.read e); write = λ e. none.output (cause.write e); disk = λ e. none.shelf (cause.disk e) }
 
 -- an input that is whole is not refused
@@ -74,7 +74,7 @@ refused_by size bytes rs last (end.StampsSpent stamp) status message (inl says) 
 refused_by size bytes rs last (end.StampsSpent stamp) status message (inr says) fair input not stops = inl (inr says.0)
 refused_by size bytes rs last end.NoMemory status message says fair input not stops = inl (inr says.0)
 
-pub load_ends : (load : LoadPlan) (old new : Scene) (before after : Counts) (status : Status) (message : List ℕ)
+pub load_ends : (load : LoadPlan) (old new : Scene) (before after : FaultCounts) (status : Status) (message : List ℕ)
     → LoadsPairs load old new status message → HasCauses before after status → NoneRose before after → LoadsUnfailed load old status
 load_ends load old new before after status message ran cause none =
     let fair = unfailed before after status cause none in

@@ -13,7 +13,7 @@ use Rattle.steno.specs.declared.status.Status.TheVariants.{Done, Usage, BadQuery
 use Rattle.steno.specs.Messages.{line_of}
 use Rattle.steno.specs.Plans.{query_of}
 use Rattle.steno.specs.Reports.{plain_of}
-use Rattle.steno.specs.Causes.{Counts, HasCauses, HasFaultCause, HasPlanFaults, KeepsCounts, NoneRose}
+use Rattle.steno.specs.Causes.{FaultCounts, HasCauses, HasFaultCause, HasPlanFaults, KeepsCounts, NoneRose}
 use Rattle.steno.specs.Running.{DoesNothing, Does, EndsRun, EndsBy, EndsUnfailed, HasPlanCause, HasWordCause, IsSoundPlan}
 use Rattle.steno.specs.Drilling.{DrillsShelf}
 use Rattle.steno.specs.Scenes.{Scene}
@@ -60,7 +60,7 @@ memory_by Whole = inr refl
 memory_by (Refused cause) = inr refl
 
 -- the faults of a run are those of the arguments' one plan
-pub word_fault : (words : List (List ℕ)) (p : Plan) (old new : Counts) (status : Status) → IsPlan words p → HasPlanCause p status → HasPlanFaults p old new status
+pub word_fault : (words : List (List ℕ)) (p : Plan) (old new : FaultCounts) (status : Status) → IsPlan words p → HasPlanCause p status → HasPlanFaults p old new status
     → HasFaultCause words old new status
 word_fault words p old new status plan cause fault = record {
   causes = fault.causes;
@@ -86,7 +86,7 @@ memory_ends (plan.Check spool) old = λ first pairs known found. (λ whole. inr 
 memory_ends (plan.Drill drill) old = λ first pairs known found whole. inl (inr refl)
 
 -- a plan's run ends so if no count rises
-does_ends : (p : Plan) (old new : Scene) (before after : Counts) (status : Status) (message : List ℕ)
+does_ends : (p : Plan) (old new : Scene) (before after : FaultCounts) (status : Status) (message : List ℕ)
     → Does p old new status message → HasCauses before after status → NoneRose before after → EndsUnfailed p old status
 does_ends (plan.Once job) old new before after status message does cause none = λ bytes q rs end told spelled given.
     let ended = does.ends bytes told in
@@ -99,7 +99,7 @@ does_ends (plan.Check spool) old new before after status message does cause none
 does_ends (plan.Drill drill) old new before after status message does cause none = drill_ends drill old new before after status message does cause none
 
 -- and so does that of the arguments that have it
-pub run_ends : (words : List (List ℕ)) (p : Plan) (old new : Scene) (before after : Counts) (status : Status) (message : List ℕ) → IsPlan words p
+pub run_ends : (words : List (List ℕ)) (p : Plan) (old new : Scene) (before after : FaultCounts) (status : Status) (message : List ℕ) → IsPlan words p
     → EndsRun words old new status message → HasCauses before after status → NoneRose before after → EndsUnfailed p old status
 run_ends words p old new before after status message plan (inl (none, nothing)) cause quiet = absurd (none p plan)
 run_ends words p old new before after status message plan (inr (inl nothing)) cause quiet = subst (EndsUnfailed p old) (sym nothing.ended) (memory_ends p old)
@@ -144,10 +144,10 @@ pub does_drill : (p : Plan) (drill : DrillPlan) (old new : Scene) (status : Stat
     → Does p old new status message
 does_drill p drill old new status message is ran = subst (λ x. Does x old new status message) (sym is) ran
 
-pub query_keeps : (p : Plan) (query : QueryPlan) (old new : Counts) (status : Status) → p ≡ plan.Query query → new.input ≡ old.input → (status ≢ WriteFault → new.output ≡ old.output)
+pub query_keeps : (p : Plan) (query : QueryPlan) (old new : FaultCounts) (status : Status) → p ≡ plan.Query query → new.input ≡ old.input → (status ≢ WriteFault → new.output ≡ old.output)
     → KeepsCounts p old new status
 query_keeps p query old new status is input output = subst (λ x. KeepsCounts x old new status) (sym is) (record { input = λ other. input; output = output }, input)
 
-pub drill_keeps : (p : Plan) (drill : DrillPlan) (old new : Counts) (status : Status) → p ≡ plan.Drill drill → new.input ≡ old.input → (status ≢ WriteFault → new.output ≡ old.output)
+pub drill_keeps : (p : Plan) (drill : DrillPlan) (old new : FaultCounts) (status : Status) → p ≡ plan.Drill drill → new.input ≡ old.input → (status ≢ WriteFault → new.output ≡ old.output)
     → KeepsCounts p old new status
 drill_keeps p drill old new status is input output = subst (λ x. KeepsCounts x old new status) (sym is) (record { input = λ other. input; output = output }, input)

@@ -12,7 +12,7 @@ use Rattle.st_disk.specs.Pairs.{Entry}
 use Rattle.st_pairs.specs.Pairs.{IsWholePair}
 use Rattle.steno.specs.declared.status.Status.{Status}
 use Rattle.steno.specs.declared.status.Status.TheVariants.{Done, WriteFault, DiskFault, Damaged, NoMemory}
-use Rattle.steno.specs.Causes.{Counts, HasCauses, NoneRose}
+use Rattle.steno.specs.Causes.{FaultCounts, HasCauses, NoneRose}
 use Rattle.steno.specs.Scenes.{Scene}
 use Rattle.steno.specs.Statuses.{Ends}
 use Rattle.steno.specs.Spooling.{AreWhole, ChecksUnfailed, ListsUnfailed, ReportsPairs, SaysOutcome, NamesDamage, SaidDamage, TellsDamage}
@@ -41,13 +41,13 @@ ill outcome.DiskFault pairs old new status message says lines write disk torn = 
 ill (outcome.Damaged stamp d) pairs old new status message says lines write disk torn = inl says.0
 ill outcome.NoMemory pairs old new status message says lines write disk torn = inr says.0
 
-pub list_ends : (old new : Scene) (before after : Counts) (status : Status) (message : List ℕ)
+pub list_ends : (old new : Scene) (before after : FaultCounts) (status : Status) (message : List ℕ)
     → ReportsPairs Summaries old new status message → HasCauses before after status → NoneRose before after → ListsUnfailed old status
 list_ends old new before after status message ran cause none = λ first pairs known found whole.
     well Summaries ran.outcome pairs old.output new.output status message ran.says (ran.lines first pairs known found)
     (λ e. none.output (cause.write e)) (λ e. none.shelf (cause.disk e)) whole
 
-pub check_ends : (old new : Scene) (before after : Counts) (status : Status) (message : List ℕ)
+pub check_ends : (old new : Scene) (before after : FaultCounts) (status : Status) (message : List ℕ)
     → ReportsPairs Verdicts old new status message → HasCauses before after status → NoneRose before after → ChecksUnfailed old status
 check_ends old new before after status message ran cause none = λ first pairs known found.
     let lines = ran.lines first pairs known found in

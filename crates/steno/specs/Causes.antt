@@ -8,16 +8,16 @@ use Rattle.steno.specs.declared.status.Status.{Status}
 use Rattle.steno.specs.declared.status.Status.TheVariants.{Usage, ReadFault, WriteFault, DiskFault}
 
 -- the counts of faults of the input, the output and the shelf
-pub record Counts : Type 0 where
+pub record FaultCounts : Type 0 where
   pub input : ℕ
   pub output : ℕ
   pub shelf : ℕ
 
-abbrev pub counts : ℕ → ℕ → ℕ → Counts
+abbrev pub counts : ℕ → ℕ → ℕ → FaultCounts
 counts input output shelf = record { input = input; output = output; shelf = shelf }
 
 -- a fault comes only if the count of what failed rose, and no count falls
-pub record HasCauses (old new : Counts) (status : Status) : Type 0 where
+pub record HasCauses (old new : FaultCounts) (status : Status) : Type 0 where
   pub read : status ≡ ReadFault → Rose old.input new.input
   pub write : status ≡ WriteFault → Rose old.output new.output
   pub disk : status ≡ DiskFault → Rose old.shelf new.shelf
@@ -26,18 +26,18 @@ pub record HasCauses (old new : Counts) (status : Status) : Type 0 where
   pub disks : old.shelf ≤ new.shelf
 
 -- no count rose
-pub record NoneRose (old new : Counts) : Type 0 where
+pub record NoneRose (old new : FaultCounts) : Type 0 where
   pub input : Rose old.input new.input → ⊥
   pub output : Rose old.output new.output → ⊥
   pub shelf : Rose old.shelf new.shelf → ⊥
 
 -- the streams failed in no other way than the status says
-pub record FailsSo (old new : Counts) (status : Status) : Type 0 where
+pub record FailsSo (old new : FaultCounts) (status : Status) : Type 0 where
   pub input : status ≢ ReadFault → new.input ≡ old.input
   pub output : status ≢ WriteFault → new.output ≡ old.output
 
 -- the counts that stay as they were if a run of this plan ends so
-abbrev pub KeepsCounts : Plan → Counts → Counts → Status → Type 0
+abbrev pub KeepsCounts : Plan → FaultCounts → FaultCounts → Status → Type 0
 KeepsCounts (plan.Once job) old new status = FailsSo old new status × (new.shelf ≡ old.shelf)
 KeepsCounts (plan.Load load) old new status = FailsSo old new status
 KeepsCounts (plan.Query query) old new status =
@@ -48,12 +48,12 @@ KeepsCounts (plan.Drill drill) old new status =
     FailsSo old new status × (new.input ≡ old.input)
 
 -- a run of this plan ends in a fault only with its cause
-pub record HasPlanFaults (p : Plan) (old new : Counts) (status : Status) : Type 0 where
+pub record HasPlanFaults (p : Plan) (old new : FaultCounts) (status : Status) : Type 0 where
   pub causes : HasCauses old new status
   pub keeps : KeepsCounts p old new status
 
 -- and so does a run of these arguments; nothing fails where they ask for nothing
-pub record HasFaultCause (words : List (List ℕ)) (old new : Counts) (status : Status)
+pub record HasFaultCause (words : List (List ℕ)) (old new : FaultCounts) (status : Status)
     : Type 0 where
   pub causes : HasCauses old new status
   pub usage : status ≡ Usage → new ≡ old

@@ -56,9 +56,9 @@ returns-clause-images g c = λ first known.
     let released = ap (λ (v : SpoolView g.row.D.Denot). v.state.doubt) c.release.ensures.state in
     let reported = ap (λ (v : SpoolView g.row.D.Denot). v.state.doubt) c.report_pairs-outcome.ensures.stays.kept.state in
     let holding = ap (λ (v : SpoolView g.row.D.Denot). v.state.doubt) c.in-Ok-hold.ensures.state.1 in
-    let calm = released ∙ (reported ∙ (holding ∙ ap (λ (s : Rattle.st_spool.specs.States.SpoolState). s.doubt) c.in-Ok.ensures.state)) in
+    let no_doubt = released ∙ (reported ∙ (holding ∙ ap (λ (s : Rattle.st_spool.specs.States.SpoolState). s.doubt) c.in-Ok.ensures.state)) in
     let both = keeps_then (D.log c.hold.new.self.shelf) (D.log c.report_pairs-outcome.new.spool.shelf) (D.log c.release.new.self.shelf) c.report_pairs-outcome.new.spool.state c.release.new.self.state (events first) h f released one two in
     let here = ap D.log (ap (λ (v : SpoolView g.row.D.Denot). v.shelf) c.in-Ok-hold.ensures.state.1) in
     let clears = stays_clear first (D.log c.in-Ok.spool.shelf) (D.log c.release.new.self.shelf) entered.pairs entered.found entered.images
-    (λ m is. subst (λ (d : Doubt). RanAsBefore m (D.log c.release.new.self.shelf) h (begun d f)) calm (both.images m (here ∙ is))) in
+    (λ m is. subst (λ (d : Doubt). RanAsBefore m (D.log c.release.new.self.shelf) h (begun d f)) no_doubt (both.images m (here ∙ is))) in
     subst (λ (o : Option Log). KeepsPairs first o c.report_pairs-outcome.result) (sym (ap D.log c.close-2.ensures)) (keeps_pairs first (D.log c.release.new.self.shelf) c.report_pairs-outcome.result clears)

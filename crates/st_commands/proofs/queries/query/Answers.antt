@@ -68,12 +68,12 @@ returns-clause-images g c first known =
     let f : Files = record { block = []; index = [] } in
     let stands = e.stands f in
     let became = c.answer_into-told.ensures.spent.0.became in
-    let calm = became.doubt ∙ ap (λ (s : SpoolState). s.doubt) c.in-Ok.ensures.state in
+    let no_doubt = became.doubt ∙ ap (λ (s : SpoolState). s.doubt) c.in-Ok.ensures.state in
     let clears = stays_clear first (D.log a.shelf) (D.log b.shelf) e.pairs e.found e.images
     (λ m is.
     let start = ((kept_none D.log D.id D.faults a).keeps (events first) h f stands).images m is in
     let still = became.still m (events first) h f (record { stands = stands; images = start }) in
-    subst (λ (d : Doubt). RanAsBefore m (D.log b.shelf) h (begun d f)) calm still.images) in
+    subst (λ (d : Doubt). RanAsBefore m (D.log b.shelf) h (begun d f)) no_doubt still.images) in
     subst (λ (o : Option Log). KeepsPairs first o c.outcome_of.result) (sym (ap D.log c.close.ensures)) (keeps_pairs first (D.log b.shelf) c.outcome_of.result clears)
 
 pub returns-clause-disk : goal.returns-clause-disk

@@ -1,4 +1,4 @@
-use Rattle.st_spool.proofs.Covering.{covers_all, covers_opening, covers_on, covers_still, covers_doubt, covers_more, covers_calm}
+use Rattle.st_spool.proofs.Covering.{covers_all, covers_opening, covers_on, covers_still, covers_doubt, covers_more, covers_without_doubt}
 use Rattle.st_spool.proofs.laws.covers.Goals as goal
 
 pub returns-clause-all : goal.returns-clause-all
@@ -19,5 +19,5 @@ returns-clause-doubt c = covers_doubt
 pub returns-clause-more : goal.returns-clause-more
 returns-clause-more c = covers_more
 
-pub returns-clause-calm : goal.returns-clause-calm
-returns-clause-calm c = covers_calm
+pub returns-clause-no_doubt : goal.returns-clause-no_doubt
+returns-clause-no_doubt c = covers_without_doubt

@@ -2,7 +2,7 @@ use Rattle.std.proofs.Common.{rules, ◌≡◌, ◌∷◌, [], Some, ◌∙◌, 
 use Rattle.atomic_table.specs.Table.{rest}
 use Rattle.st_disk.specs.Events.{Event}
 use Rattle.st_spool.specs.declared.state.Span.{Span}
-use Rattle.st_turn.specs.Turn.{turning, Seated}
+use Rattle.st_turn.specs.Turn.{turning, SeatState}
 use Rattle.st_turn.specs.Parts.{Booked, PassState}
 use Rattle.st_turn.specs.Steps.{Moves}
 use Rattle.st_turn.proofs.Stepping.{may_give}
@@ -16,8 +16,8 @@ store-requires g c =
     let x = turn.0 in
     let q = turn.1 in
     let has : seat.me ≡ (turning x before.me.0.pass, (0, Some c.args.home) ∷ []) =
-    c.exchange-old.ensures.3 ∙ ap (λ (m : Seated (Booked g.row.S.Denot) (PassState g.row.S.Denot Event Span)). (m.0, (0, Some c.args.home) ∷ rest m.1)) turn.2 in
-    let pass : before.me.0.pass ≡ seat.me.0.pass = sym (ap (λ (m : Seated (Booked g.row.S.Denot) (PassState g.row.S.Denot Event Span)). m.0.pass) has) in
+    c.exchange-old.ensures.3 ∙ ap (λ (m : SeatState (Booked g.row.S.Denot) (PassState g.row.S.Denot Event Span)). (m.0, (0, Some c.args.home) ∷ rest m.1)) turn.2 in
+    let pass : before.me.0.pass ≡ seat.me.0.pass = sym (ap (λ (m : SeatState (Booked g.row.S.Denot) (PassState g.row.S.Denot Event Span)). m.0.pass) has) in
     let is : seat.me ≡ (turning x seat.me.0.pass, (0, Some c.args.home) ∷ []) = subst (λ (p : PassState g.row.S.Denot Event Span). seat.me ≡ (turning x p, (0, Some c.args.home) ∷ [])) pass has in
     let moved : Moves g.S.Turned.facts g.S.Turned.keeps x c.args.home seat.me.0.pass q = subst (λ (p : PassState g.row.S.Denot Event Span). Moves g.S.Turned.facts g.S.Turned.keeps x c.args.home p q) pass turn.3 in
     let made : g.C.Call.makes x c.args.home seat.me.0.pass q = subst (λ (p : PassState g.row.S.Denot Event Span). g.C.Call.makes x c.args.home p q) pass turn.4 in (

@@ -1,6 +1,6 @@
-use Rattle.st_drill.specs.declared.questions.Question.TheVariants.{Dns, NearTcp, Early, Late}
+use Rattle.st_drill.specs.declared.queries.DrillQuery.TheVariants.{Dns, NearTcp, Early, Late}
 use Rattle.st_drill.proofs.Spelled.{text_printed}
-use Rattle.st_drill.proofs.questions.Question.text.Goals as goal
+use Rattle.st_drill.proofs.queries.DrillQuery.text.Goals as goal
 
 pub returns-in-Dns : goal.returns-in-Dns
 returns-in-Dns c = rw c.in-Dns.is (text_printed Dns)

@@ -1,6 +1,6 @@
 use Rattle.std.proofs.Common.{◌∙◌}
 use Rattle.st_drill.proofs.Spelled.{reads_tree, reads_memory}
-use Rattle.st_drill.proofs.questions.Question.parsed.Goals as goal
+use Rattle.st_drill.proofs.queries.DrillQuery.parsed.Goals as goal
 
 pub returns : goal.returns
 returns c =

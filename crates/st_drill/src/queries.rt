@@ -2,7 +2,7 @@
 ghost use Rattle.std.specs.Prelude.{◌≡◌, IfOk, IfErr};
 ghost use Rattle.st_query.specs.PrintedForm.{printed};
 ghost use Rattle.st_query.specs.Trees.{tree};
-ghost use Rattle.st_drill.specs.Questions.{question_tree};
+ghost use Rattle.st_drill.specs.Queries.{query_tree};
 
 use st_base::NoMemory;
 use st_query::{Query, QueryErr, parse};
@@ -10,7 +10,7 @@ use std::alloc::Global;
 
 /// A query that a drill asks.
 #[derive(Clone, Copy, Debug, PartialEq, Eq)]
-pub enum Question {
+pub enum DrillQuery {
     /// The packets with the port of DNS, every tenth.
     Dns,
     /// Those of TCP with an address of 10.0.0.0/25.
@@ -21,24 +21,24 @@ pub enum Question {
     Late,
 }
 
-impl Question {
+impl DrillQuery {
     /// The printed form of the query.
     ///
     /// Source: docs/FORMAT.md, "Drill".
     pub fn text(self) -> &'static str
-        ensures { result.now ≡ printed (question_tree self) }
+        ensures { result.now ≡ printed (query_tree self) }
     {
         match self {
-            Question::Dns => "port 53",
-            Question::NearTcp => "ip proto 6 and net 10.0.0.0/25",
-            Question::Early => "before 2001-09-09T01:48:20Z",
-            Question::Late => "after 2001-09-09T01:48:20Z",
+            DrillQuery::Dns => "port 53",
+            DrillQuery::NearTcp => "ip proto 6 and net 10.0.0.0/25",
+            DrillQuery::Early => "before 2001-09-09T01:48:20Z",
+            DrillQuery::Late => "after 2001-09-09T01:48:20Z",
         }
     }
 
     // What the printed form is read as. It is refused only if there is no memory.
     fn parsed(self, alloc: Global) -> Result<Query, QueryErr>
-        ensures tree { IfOk result (λ q. tree q ≡ question_tree self) }
+        ensures tree { IfOk result (λ q. tree q ≡ query_tree self) }
         ensures memory { IfErr result (λ e. e ≡ QueryErr.NoMemory) }
     {
         parse(alloc, self.text().as_bytes())
@@ -46,7 +46,7 @@ impl Question {
 
     /// The query that `text` spells. `NoMemory` is the only error.
     pub fn query(self, alloc: Global) -> Result<Query, NoMemory>
-        ensures { IfOk result (λ q. tree q ≡ question_tree self) }
+        ensures { IfOk result (λ q. tree q ≡ query_tree self) }
     {
         match self.parsed(alloc) {
             Ok(query) => Ok(query),
