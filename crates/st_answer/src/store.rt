@@ -65,10 +65,12 @@ pub trait Store {
     /// Ends a hold of this store.
     fn release(&mut self, hold: Self::Held)
         requires { 0 < times_held self.old hold }
+        // the hold
         ensures holds { GivesBack (set self.old hold) (holds self.old) (holds self.new) }
         ensures held { HoldsOneLess hold (times_held self.old) (times_held self.new)
             (size self.old) (size self.new) (set self.old) (set self.new) }
         ensures becomes { becomes self.old self.new }
+        // the counts
         ensures faults { faults self.old ≤ faults self.new }
         ensures rest { (id self.new ≡ id self.old) × (loans self.new ≡ loans self.old) };
 

@@ -34,12 +34,15 @@ pub trait Reader {
     ///
     /// `Failed` comes only if `faults` rose in this call; what `out` then has is not said.
     fn read_at(&mut self, place: u64, out: &mut [u8]) -> Result<usize, Failed>
+        // what comes; the file stays
         ensures bytes { ReadsAt (content self.old) (extent self.old) place result out.new }
         ensures content { content self.new ≡ content self.old }
         ensures extent { extent self.new ≡ extent self.old }
+        // the counts
         ensures cause { HasCause (faults self.old) (faults self.new) result }
         ensures reads { CountsOn (reads self.old) (reads self.new) 1 }
         ensures asked { CountsOn (asked self.old) (asked self.new) (length out.old) }
+        // what else stays
         ensures rest { beside self.new ≡ beside self.old };
 
     // known content has the length that `size` answers
@@ -51,12 +54,15 @@ pub trait Reader {
 /// `Failed` comes only if the file's `faults` rose in this call; what `out` then has is not said.
 pub fn read_whole<R: Reader>(file: &mut R, place: u64, out: &mut [u8]) -> Result<(), Failed>
     requires { place + length out.old ≤ R.extent file.old }
+    // what comes; the file stays
     ensures bytes { OnOk result (HasPart (R.content file.old) place out.new) }
     ensures content { R.content file.new ≡ R.content file.old }
     ensures extent { R.extent file.new ≡ R.extent file.old }
+    // the counts
     ensures cause { HasCause (R.faults file.old) (R.faults file.new) result }
     ensures reads { CountsOn (R.reads file.old) (R.reads file.new) 1 }
     ensures asked { CountsOn (R.asked file.old) (R.asked file.new) (length out.old) }
+    // what else stays
     ensures rest { R.beside file.new ≡ R.beside file.old }
 {
     match file.read_at(place, out) {

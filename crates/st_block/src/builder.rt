@@ -132,7 +132,9 @@ impl BlockBuilder {
     pub fn finish(&mut self, number: u32) -> &[u8]
         requires some { 1 ≤ self.old.count }
         requires below { number < MAX_BLOCKS }
+        // what the builder keeps
         ensures* after { sem 𝓛 (Rests the_row self.entry (λ d. KeepsRecords self.old d)) }
+        // the block
         ensures text { (rs : List Rec) → HoldsRecords self.old rs
             → result.now ≡ block_text self.old.size number rs }
         ensures size { length result.now ≡ self.old.size }

@@ -10,9 +10,11 @@ use crate::format::MAX_BLOCKS;
 ///
 /// Source: docs/FORMAT.md, "Block file".
 pub fn position_in(size: u32, number: u32, offset: u32) -> u32
+    // the block's size and number, and the offset in it
     requires size { IsBlockSize size }
     requires number { number < MAX_BLOCKS }
     requires offset { offset < size }
+    // the position
     ensures value { result ≡ size * number + offset }
     ensures last { (rs : List Rec) (r : Rec) → IsLastAt size number offset rs r
         → result ≡ PositionOf size (rs ++ r ∷ []) (length rs) }

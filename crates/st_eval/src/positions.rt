@@ -54,8 +54,10 @@ pub fn sorted(mut items: Vec<u32>) -> Positions
 /// The first place from `at` on where `items` has no number below `bound`, or their end.
 fn skip_below(items: &[u32], at: usize, bound: u32) -> usize
     requires { at ≤ length items.now }
+    // Where the place is.
     ensures from { at ≤ result }
     ensures within { result ≤ length items.now }
+    // What is passed over, and what stops it.
     ensures below { (k : ℕ) → at ≤ k → k < result → slice_index items.now k < bound }
     ensures stops { result < length items.now → bound ≤ slice_index items.now result }
 {

@@ -43,10 +43,13 @@ pub fn form_in(head: &[u8]) -> Result<Form, PcapErr>
 /// The form of the file whose head this is, its magic being that of `order` and `unit`; else the
 /// cause for which the bytes are no file head.
 fn form_with(order: Order, unit: Unit, head: &[u8]) -> Result<Form, PcapErr>
+    // What is known of the head.
     requires magic { little_number NUMBER_SIZE head.now ≡ magic order unit }
     requires size { length head.now ≤ FILE_HEAD_SIZE }
+    // The form, or the cause.
     ensures checks { MatchResult result (λ form. IsFileHead form.order form.unit head.now)
         (λ e. refusal_of_rest order head.now ≡ Some e) }
+    // Which causes come, and after how many bytes.
     ensures takes { IfErr result (RefusesHead 0 (length head.now)) }
     ensures below { IfErr result IsNoLimit }
 {

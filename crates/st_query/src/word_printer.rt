@@ -71,10 +71,13 @@ pub fn put_address(alloc: Global, addr: Addr, out: &mut Vec<u8>) -> Result<(), A
 
 /// `YYYY-MM-DDThh:mm:ssZ` of a date and a second of its day.
 fn stamp(year: u64, month: u64, day: u64, second: u64) -> [u8; 20]
+    // the date
     requires year { year < 10_000 }
     requires month { month < 100 }
     requires day { day < 100 }
+    // the second of the day
     requires second { second < DAY }
+    // the text
     ensures { result ≡ date_time_text year month day second ++ codes "Z" }
 {
     let (hour, minute, second) = (second / HOUR, second / MINUTE % 60, second % MINUTE);
@@ -104,11 +107,14 @@ fn stamp(year: u64, month: u64, day: u64, second: u64) -> [u8; 20]
 
 /// The year, the month and the day of the month of a day, counted from -9999-01-01.
 fn parts_of(day: u32) -> (u64, u64, u64)
+    // a day of the years 0 to 9999
     requires low { 3_652_059 ≤ day }
     requires high { day ≤ 7_304_483 }
+    // its year, month and day
     ensures year { result.0 ≡ year_of (day + 366) }
     ensures month { result.1 ≡ month_of (day + 366) }
     ensures day { result.2 ≡ day_of_month (day + 366) }
+    // what `stamp` requires of them
     ensures bound { (result.0 < 10_000) × (result.1 < 100) × (result.2 < 100) }
 {
     let date = Date::from_days_since_min(day);

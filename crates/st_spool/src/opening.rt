@@ -127,11 +127,13 @@ fn has_strays(names: &[Name]) -> bool
 
 // Removes each of these names, all that are there, that is no part of a pair.
 fn clear<D: Shelf>(shelf: &mut D, names: &[Name]) -> Result<(), Failed>
+    // what is removed, and what is read then
     ensures cleared { (first : Log) (f : Folder) → AreThere names.now f
         → RanBy first (D.log shelf.old) [] (found_rows f) (found_rows f)
         → RanBy first (D.log shelf.new) [] (found_rows f) (found_rows f) }
     ensures reads { OnOk result
         (ReadsCleared (D.log shelf.old) (D.log shelf.new) names.now) }
+    // the counts
     ensures known { KnownBefore (D.log shelf.old) (D.log shelf.new) }
     ensures cause { HasCause (D.faults shelf.old) (D.faults shelf.new) result }
     ensures rest { (D.id shelf.new ≡ D.id shelf.old) × (D.loans shelf.new ≡ D.loans shelf.old) }
@@ -179,11 +181,13 @@ pub(crate) struct Opening {
 
 // Makes durable what is there, and clears the folders of what is no part of a pair.
 pub(crate) fn open<D: Shelf>(alloc: Global, shelf: &mut D) -> Result<Opening, EnterErr>
+    // what is found
     ensures opened { (first : Log) → D.log shelf.old ≡ Some first → MatchResult result
         (λ o. Opens first (D.log shelf.new) o.stamps.items o.last)
         (λ _. FailsToEnter first (D.log shelf.new)) }
     ensures stamps { IfOk result (λ o. AllPairs (λ s t. s < t) o.stamps.items
         × ((s : ℕ) → Contains o.stamps.items s → s ≤ o.last)) }
+    // the counts
     ensures known { KnownBefore (D.log shelf.old) (D.log shelf.new) }
     ensures cause { HasCauseOf EnterErr.DiskFault (D.faults shelf.old) (D.faults shelf.new) result }
     ensures rest { (D.id shelf.new ≡ D.id shelf.old) × (D.loans shelf.new ≡ D.loans shelf.old) }

@@ -37,10 +37,12 @@ pub(crate) fn place<D: Shelf>(
         × ((D.Draft.sealed_origin pair.index).kind ≡ kind.Index) }
     requires free { Reads (D.log shelf.old) (name.Index stamp) (λ v. v ≡ None)
         × Reads (D.log shelf.old) (name.Block stamp) (λ v. v ≡ None) }
+    // what it does
     ensures placed { (first : Log) (rows : ℕ → Row) → D.log shelf.old ≡ Some first
         → Each first (Has rows) → rows stamp ≡ Free
         → Placed first (D.log shelf.new) rows stamp (files (given (D.Draft.sealed_bytes pair.block))
         (given (D.Draft.sealed_bytes pair.index))) result }
+    // the counts
     ensures known { KnownBefore (D.log shelf.old) (D.log shelf.new) }
     ensures cause { HasCause (D.faults shelf.old) (D.faults shelf.new) result }
     ensures rest { (D.id shelf.new ≡ D.id shelf.old) × (D.loans shelf.new ≡ D.loans shelf.old) }

@@ -32,13 +32,16 @@ fn put_named<S: Sink>(
     sink: &mut S,
 ) -> Result<(), BuildErr>
     requires { MayName block.old index.old }
+    // What is written.
     ensures bytes { Puts (S.written sink.old) (S.written sink.new)
         (stored_text (block_text block.old)) result }
     ensures good { OnOk result ((rows : List RowView) → HasRows block.old rows
         → IsBlock (block_text block.old) rows) }
+    // What the index then is.
     ensures index { Names index.old index.new (key_or_empty block.old.last) handle result }
     ensures named { OnOk result ((rows : List RowView) → HasRows index.old rows
         → HasRows index.new (rows ++ (key_or_empty block.old.last, handle_text handle) ∷ [])) }
+    // When it fails, and what stays.
     ensures same { block.new ≡ block.old }
     ensures cause { HasCauseOf BuildErr.WriteFault (S.faults sink.old) (S.faults sink.new) result }
     ensures rest { S.beside sink.new ≡ S.beside sink.old }
@@ -62,10 +65,12 @@ fn close<S: Sink>(
 ) -> Result<(), BuildErr>
     requires may { MayName block.old index.old }
     requires at { at.old + block_size block.old < 2 ^ 63 }
+    // What is written.
     ensures bytes { Puts (S.written sink.old) (S.written sink.new)
         (stored_text (block_text block.old)) result }
     ensures good { OnOk result ((rows : List RowView) → HasRows block.old rows
         → IsBlock (block_text block.old) rows) }
+    // What the index then is, and the block that begins.
     ensures index { Names index.old index.new (key_or_empty block.old.last)
         (next_handle at.old (block_size block.old)) result }
     ensures named { OnOk result ((rows : List RowView) → HasRows index.old rows
@@ -78,6 +83,7 @@ fn close<S: Sink>(
         ) ∷ [])) }
     ensures next { (block.new ≡ empty block.old.interval)
         × (at.new ≡ at.old + (block_size block.old + TRAILER_SIZE)) }
+    // When it fails, and what stays.
     ensures sink { HasCauseOf BuildErr.WriteFault (S.faults sink.old) (S.faults sink.new) result
         × (S.beside sink.new ≡ S.beside sink.old) }
 {
@@ -96,12 +102,15 @@ fn put_index<S: Sink>(
     named: Handle,
     sink: &mut S,
 ) -> Result<(), BuildErr>
+    // What is written.
     ensures bytes { Puts (S.written sink.old) (S.written sink.new)
         (stored_text (block_text index.old) ++ footer_text meta named) result }
     ensures good { OnOk result ((rows : List RowView) → HasRows index.old rows
         → IsBlock (block_text index.old) rows) }
+    // The footer.
     ensures size { length (footer_text meta named) ≡ FOOTER_SIZE }
     ensures read { footer_in (footer_text meta named) ≡ Ok (meta, named) }
+    // When it fails, and what stays.
     ensures cause { HasCauseOf BuildErr.WriteFault (S.faults sink.old) (S.faults sink.new) result }
     ensures rest { S.beside sink.new ≡ S.beside sink.old }
 {
@@ -119,10 +128,13 @@ fn put_index<S: Sink>(
 fn put_ending<S: Sink>(index: &mut EntryBlock, at: u64, sink: &mut S) -> Result<u64, BuildErr>
     requires at { at < 2 ^ 62 }
     requires room { block_size index.old < 2 ^ 62 }
+    // What is written, and the file's length.
     ensures bytes { Puts (S.written sink.old) (S.written sink.new) (ending_at at index.old) result }
     ensures length { IfOk result (λ n. n ≡ at + length (ending_at at index.old)) }
+    // The table that it completes.
     ensures table { OnOk result ((bytes : List ℕ) (rows : List RowView) → length bytes ≡ at
         → Indexes index.old bytes rows → IsTable (bytes ++ ending_at at index.old) rows) }
+    // When it fails, and what stays.
     ensures cause { HasCauseOf BuildErr.WriteFault (S.faults sink.old) (S.faults sink.new) result }
     ensures rest { S.beside sink.new ≡ S.beside sink.old }
 {
@@ -152,13 +164,16 @@ fn put_rest<S: Sink>(
     sink: &mut S,
 ) -> Result<u64, BuildErr>
     requires { MayEnd block.old index.old at }
+    // What is written, and the file's length.
     ensures bytes { Puts (S.written sink.old) (S.written sink.new)
         (finishing (builder_view block.old index.old at 0)) result }
     ensures length { IfOk result
         (λ n. n ≡ at + length (finishing (builder_view block.old index.old at 0))) }
+    // The table that it completes.
     ensures table { OnOk result ((bytes : List ℕ) (rows : List RowView)
         → Builds (builder_view block.old index.old at 0) bytes rows
         → IsTable (bytes ++ finishing (builder_view block.old index.old at 0)) rows) }
+    // When it fails, and what stays.
     ensures cause { HasCauseOf BuildErr.WriteFault (S.faults sink.old) (S.faults sink.new) result }
     ensures rest { S.beside sink.new ≡ S.beside sink.old }
 {
@@ -280,10 +295,13 @@ impl TableBuilder {
     /// the table's end follows what the sink had.
     /// Source: LevelDB, table/table_builder.cc; docs/FORMAT.md, "Table file".
     pub fn finish<S: Sink>(self, sink: &mut S) -> Result<u64, BuildErr>
+        // What is written, and the file's length.
         ensures bytes { Puts (S.written sink.old) (S.written sink.new) (finishing self) result }
         ensures length { IfOk result (λ n. n ≡ self.at + length (finishing self)) }
+        // The table that it completes.
         ensures table { OnOk result ((bytes : List ℕ) (rows : List RowView) → Builds self bytes rows
             → IsTable (bytes ++ finishing self) rows) }
+        // When it fails, and what stays.
         ensures cause { HasCauseOf BuildErr.WriteFault (S.faults sink.old)
             (S.faults sink.new) result }
         ensures rest { S.beside sink.new ≡ S.beside sink.old }

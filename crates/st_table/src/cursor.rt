@@ -79,12 +79,14 @@ impl Cursor {
         block: &mut Vec<u8>,
     ) -> Result<(), TableErr>
         requires { self.old.next < length entries.now }
+        // Which rows are at hand then, or why not.
         ensures fills { (bytes : List ℕ) (index : List RowView) → R.content file.old ≡ Some bytes
             → Decodes index entries.now
             → Fills (footer_at bytes) bytes index self.old self.new result }
         ensures next { OnOk result (self.new.next ≡ self.old.next + 1) }
         ensures few { OnOk result (length self.new.rows ≤ R.extent file.old) }
         ensures err { OnErr result (self.new ≡ self.old) }
+        // What becomes of the file.
         ensures reads { R.reads file.new ≤ R.reads file.old + 1 }
         ensures cause { HasCauseOf TableErr.ReadFault (R.faults file.old)
             (R.faults file.new) result }
@@ -131,12 +133,14 @@ fn read_rows<R: Reader>(
     high: &[u8],
 ) -> Result<VecDeque<Row>, TableErr>
     requires { next < length entries.now }
+    // Which rows come, or why not.
     ensures rows { (bytes : List ℕ) (index : List RowView) → R.content file.old ≡ Some bytes
         → Decodes index entries.now
         → MatchResult result
         (λ kept. ReadsNext (footer_at bytes) bytes index next low.now high.now kept.items)
         (λ e. RefusesNext (footer_at bytes) bytes index next e) }
     ensures few { IfOk result (λ kept. length kept.items ≤ R.extent file.old) }
+    // What becomes of the file.
     ensures reads { R.reads file.new ≤ R.reads file.old + 1 }
     ensures cause { HasCauseOf TableErr.ReadFault (R.faults file.old) (R.faults file.new) result }
     ensures same { IsSameFile (R.content file.old) (R.content file.new) (R.extent file.old)

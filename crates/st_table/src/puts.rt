@@ -39,10 +39,12 @@ pub fn put_stored<S: Sink>(sink: &mut S, block: &[u8]) -> Result<(), Failed>
 
 /// Puts the block that was built, which itself stays as it was.
 pub fn put_block<S: Sink>(block: &mut EntryBlock, sink: &mut S) -> Result<(), BuildErr>
+    // What is written.
     ensures bytes { Puts (S.written sink.old) (S.written sink.new)
         (stored_text (block_text block.old)) result }
     ensures good { OnOk result ((rows : List RowView) → HasRows block.old rows
         → IsBlock (block_text block.old) rows) }
+    // When it fails, and what stays.
     ensures same { block.new ≡ block.old }
     ensures cause { HasCauseOf BuildErr.WriteFault (S.faults sink.old) (S.faults sink.new) result }
     ensures rest { S.beside sink.new ≡ S.beside sink.old }

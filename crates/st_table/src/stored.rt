@@ -80,9 +80,11 @@ fn read_part<R: Reader>(
     part: &mut Vec<u8>,
 ) -> Result<(), TableErr>
     requires { place + len ≤ R.extent file.old }
+    // What is read, or why not.
     ensures bytes { OnOk result ((vec_len part.new ≡ len)
         × HasPart (R.content file.old) place part.new.items) }
     ensures error { IfErr result NoCheckFailed }
+    // What becomes of the file.
     ensures cause { HasCauseOf TableErr.ReadFault (R.faults file.old) (R.faults file.new) result }
     ensures reads { R.reads file.new ≤ R.reads file.old + 1 }
     ensures asked { R.asked file.new ≤ R.asked file.old + len }
@@ -107,10 +109,12 @@ pub fn read_block<R: Reader>(
     handle: Handle,
     block: &mut Vec<u8>,
 ) -> Result<(), TableErr>
+    // What is read, and how long it is.
     ensures block { (bytes : List ℕ) → R.content file.old ≡ Some bytes
         → ReadsBlock (footer_at bytes) bytes handle block.new.items result }
     ensures fits { OnOk result (handle.offset + vec_len block.new < 2 ^ 64) }
     ensures within { OnOk result (vec_len block.new ≤ R.extent file.old) }
+    // What becomes of the file.
     ensures cause { HasCauseOf TableErr.ReadFault (R.faults file.old) (R.faults file.new) result }
     ensures reads { R.reads file.new ≤ R.reads file.old + 1 }
     ensures asked { R.asked file.new ≤ R.asked file.old + (handle.size + TRAILER_SIZE) }

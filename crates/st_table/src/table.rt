@@ -62,6 +62,7 @@ fn get_in<R: Reader>(
     block: &mut Vec<u8>,
     key: &[u8],
 ) -> Result<Option<Octets>, TableErr>
+    // What comes, and what the marks then say.
     ensures gets { (bytes : List ℕ) (index : List RowView) → R.content file.old ≡ Some bytes
         → Decodes index entries.now → KeysRiseAbove None index
         → Checked (footer_at bytes) bytes None entries.now marks.old
@@ -70,6 +71,7 @@ fn get_in<R: Reader>(
         → Decodes index entries.now
         → Checked (footer_at bytes) bytes None entries.now marks.old
         → Checked (footer_at bytes) bytes None entries.now marks.new }
+    // What becomes of the file.
     ensures cause { HasCauseOf TableErr.ReadFault (R.faults file.old) (R.faults file.new) result }
     ensures reads { R.reads file.new ≤ R.reads file.old + 1 }
     ensures same { IsSameFile (R.content file.old) (R.content file.new) (R.extent file.old)

@@ -157,12 +157,15 @@ impl EntryBlock {
 
     /// Puts an entry that shares this many bytes after the others. Unchanged after an error.
     fn append(&mut self, shared: usize, key: &[u8], value: &[u8]) -> Result<(), NoMemory>
+        // what the key shares with the last one
         requires shared { shared ≡ shared_of self.old key.now }
         requires fits { shared ≤ length key.now }
         requires last { shared ≤ length (key_or_empty self.old.last) }
+        // the room
         requires key { length key.now < 2 ^ 32 }
         requires value { length value.now < 2 ^ 32 }
         requires room { block_size self.old < 2 ^ 32 }
+        // what the block then is
         ensures ok { OnOk result (self.new ≡ added self.old key.now value.now) }
         ensures err { OnErr result (self.new ≡ self.old) }
     {
@@ -185,10 +188,12 @@ impl EntryBlock {
     ///
     /// Source: LevelDB, table/block_builder.cc; docs/FORMAT.md, "Table file".
     pub fn add(&mut self, key: &[u8], value: &[u8]) -> Result<(), NoMemory>
+        // the entry, and the room for it
         requires above { IsTrue (is_above self.old.last key.now) }
         requires key { length key.now < 2 ^ 32 }
         requires value { length value.now < 2 ^ 32 }
         requires room { block_size self.old < 2 ^ 32 }
+        // what the block then is
         ensures ok { OnOk result (self.new ≡ added self.old key.now value.now) }
         ensures rows { OnOk result ((rows : List RowView) → HasRows self.old rows
             → HasRows self.new (rows ++ (key.now, value.now) ∷ [])) }

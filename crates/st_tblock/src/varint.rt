@@ -9,8 +9,11 @@ use arrayvec::ArrayVec;
 #[tactic(auto, using(crate::proofs::Groups::powers))]
 fn groups(bytes: &[u8], room: u32) -> Option<(u128, usize)>
     requires { room ≤ 10 }
+    // what comes
     ensures value { result ≡ groups_in room bytes.now }
+    // how large the number is
     ensures fits { IfSome result (λ x. x.0 < 128 ^ room) }
+    // how many bytes it takes
     ensures size { IfSome result (λ x. x.1 ≤ room) }
     ensures some { IfSome result (λ x. 1 ≤ x.1) }
     ensures within { IfSome result (λ x. x.1 ≤ length bytes.now) }

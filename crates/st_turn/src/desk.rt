@@ -102,7 +102,9 @@ pub(crate) fn take<S: Turned, R: Wait>(rt: &R, desk: &Desk<S>, place: &mut Place
         × (desk.now.table_id.words ≡ 1) × (desk.now.table_id.slots ≡ 1) }
     requires waits { (place.old.me ≡ (idle place.old.me.0.pass, []))
         × HasNumber place.old.me.0.pass }
+    // the place
     ensures same { (place.new.table_id ≡ place.old.table_id) × (place.new.id ≡ place.old.id) }
+    // the turn
     ensures turn { place.new.me ≡ (turning result place.old.me.0.pass, (0, None) ∷ []) }
     ensures learns { Learns S.facts S.keeps result place.old.me.0.pass }
 {
@@ -125,8 +127,10 @@ pub(crate) fn give<S: Turned, C: Call<S>>(desk: &Desk<S>, place: &mut Place<S>, 
         × (place.old.me ≡ (turning x place.old.me.0.pass, (0, None) ∷ []))
         × Moves S.facts S.keeps x home place.old.me.0.pass q
         × C.makes x home place.old.me.0.pass q }
+    // the place
     ensures same { (place.new.table_id ≡ place.old.table_id) × (place.new.id ≡ place.old.id) }
     ensures waits { place.new.me ≡ (idle place.new.me.0.pass, []) }
+    // the turn
     ensures moves { (x : Booked S) → place.old.me.0.taken ≡ Some x
         → Moves S.facts S.keeps x home place.old.me.0.pass place.new.me.0.pass
         × C.makes x home place.old.me.0.pass place.new.me.0.pass }
@@ -191,8 +195,10 @@ pub(crate) fn end<S: Turned>(
         × Learns S.facts S.keeps x place.old.me.0.pass
         × (home.1.items ≡ x.lines) × (before ≡ (S.facts x.spool).faults)
         × MayTurn S.facts S.keeps x.spool home.0 place.old.me.0.pass.held next stopped }
+    // the place
     ensures same { (place.new.table_id ≡ place.old.table_id) × (place.new.id ≡ place.old.id) }
     ensures waits { place.new.me ≡ (idle place.new.me.0.pass, []) }
+    // the turn
     ensures turn { (x : Booked S) → place.old.me.0.taken ≡ Some x
         → IsTurn S.facts x.spool home.0 place.old.me.0.pass place.new.me.0.pass }
 {

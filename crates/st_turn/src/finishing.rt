@@ -49,9 +49,11 @@ impl<S: Turned> Shared<S> {
     /// `passes` are all passes that `share` gave, in the order of their numbers, and none holds
     /// anything.
     pub fn finish(self, passes: Vec<Pass<S>>) -> S
+        // the passes
         requires table { AreOf self.table passes.items }
         requires numbers { AreNumbered 0 (map state_of passes.items) }
         requires count { (length passes.items ≡ self.passes) × (1 ≤ self.passes) }
+        // the spool
         ensures ended { Ended (S.facts self.base) (S.facts result) (map state_of passes.items) }
         ensures keeps { S.keeps self.base result }
     {

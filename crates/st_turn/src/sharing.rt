@@ -94,12 +94,15 @@ fn number_next<S: Turned>(desk: &Desk<S>, lead: &mut Pass<S>, number: usize) -> 
 }
 
 fn number_all<S: Turned>(desk: &Desk<S>, given: &mut Vec<Pass<S>>, passes: usize)
+    // the table, and the room for the passes
     requires table { (desk.now.table_id.words ≡ 1)
         × (length desk.now.key.value.lines ≡ passes) × (1 ≤ passes) }
     requires room { (vec_len given.old ≡ 1) × (passes ≤ vec_capacity given.old) }
+    // the first pass
     requires lead { AreStarted desk.now.table_id desk.now.key.value.spool
         (S.facts desk.now.key.value.spool) passes 1 given.old.items }
     requires loans { Each HasNoLoans given.old.items }
+    // all passes
     ensures all { AreStarted desk.now.table_id desk.now.key.value.spool
         (S.facts desk.now.key.value.spool) passes passes given.new.items }
     ensures loans { Each HasNoLoans given.new.items }
@@ -119,10 +122,12 @@ fn lay<S: Turned>(alloc: Global, home: Home<S>) -> Result<(Laid<S>, Place<S>), H
     requires lines { (home.lines ≡ replicate (length home.lines) blank)
         × (1 ≤ length home.lines) }
     requires holds { (S.facts home.spool).holds ≡ [] }
+    // the table, and the first pass's place
     ensures table { IfOk result (λ t. (t.0.shared.table_id.words ≡ 1)
         × (t.0.shared.table_id.slots ≡ 1) × (t.0.shared.key.value ≡ home)) }
     ensures place { IfOk result (λ t. (t.1.table_id ≡ t.0.shared.table_id)
         × (t.1.me ≡ (idle (starts home.spool (S.facts home.spool) 0 (length home.lines) 1), []))) }
+    // a refusal
     ensures back { IfErr result (λ h. h ≡ home) }
 {
     home.spool.keep();

@@ -19,9 +19,11 @@ fn read_pair<D: Shelf, R: Wait>(
     hold: &Hold,
     i: usize,
 ) -> Option<(u64, u8, u8)>
+    // whose pass it is, and which pair
     requires of { IsOf shared.now pass.old }
     requires held { Contains pass.old.state.held hold.now }
     requires within { i < size_of hold.now }
+    // the pass
     ensures same { IsSame pass.old pass.new }
     ensures holds { pass.new.state.held ≡ pass.old.state.held }
 {

@@ -47,9 +47,11 @@ fn give_up<D: Shelf, R: Wait>(
     pass: &mut SpoolPass<D>,
     pair: SealedPair<D::Draft>,
 )
+    // whose pass and pair they are
     requires of { IsOf shared.now pass.old }
     requires block { (D.Draft.sealed_origin pair.block).home ≡ D.id shared.now.base.shelf }
     requires index { (D.Draft.sealed_origin pair.index).home ≡ D.id shared.now.base.shelf }
+    // the pass
     ensures same { IsSame pass.old pass.new }
     ensures holds { pass.new.state.held ≡ pass.old.state.held }
 {
@@ -135,9 +137,11 @@ fn first_byte<D: Shelf, R: Wait>(
     pass: &mut SpoolPass<D>,
     file: D::File,
 ) -> Option<u8>
+    // whose pass and file they are
     requires of { IsOf shared.now pass.old }
     requires home { (D.file_origin file).home ≡ D.id shared.now.base.shelf }
     requires lent { 0 < pass.old.loans.lent }
+    // the pass
     ensures same { IsSame pass.old pass.new }
     ensures holds { pass.new.state.held ≡ pass.old.state.held }
 {
@@ -160,9 +164,11 @@ pub fn block_byte<D: Shelf, R: Wait>(
     hold: &Hold,
     i: usize,
 ) -> Option<u8>
+    // whose pass it is, and which pair
     requires of { IsOf shared.now pass.old }
     requires held { Contains pass.old.state.held hold.now }
     requires within { i < size_of hold.now }
+    // the pass
     ensures same { IsSame pass.old pass.new }
     ensures holds { pass.new.state.held ≡ pass.old.state.held }
 {
@@ -181,9 +187,11 @@ pub fn index_byte<D: Shelf, R: Wait>(
     hold: &Hold,
     i: usize,
 ) -> Option<u8>
+    // whose pass it is, and which pair
     requires of { IsOf shared.now pass.old }
     requires held { Contains pass.old.state.held hold.now }
     requires within { i < size_of hold.now }
+    // the pass
     ensures same { IsSame pass.old pass.new }
     ensures holds { pass.new.state.held ≡ pass.old.state.held }
 {

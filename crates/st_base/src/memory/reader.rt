@@ -77,11 +77,13 @@ impl Reader for MemReader {
     }
 
     fn read_at(&mut self, place: u64, out: &mut [u8]) -> Result<usize, Failed>
+        // What every reader gives.
         ensures bytes { ReadsAt (Some self.old.content) (length self.old.content)
             place result out.new }
         ensures cause { HasCause self.old.faults self.new.faults result }
         ensures reads { CountsOn self.old.reads self.new.reads 1 }
         ensures asked { CountsOn self.old.asked self.new.asked (length out.old) }
+        // Which calls fail, and what the file then is.
         ensures exact { ReadsOrFails self.old self.new out.old result }
     {
         let call = self.reads;

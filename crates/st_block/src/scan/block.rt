@@ -36,12 +36,15 @@ fn join_wrong(place: u64, before: Option<usize>, block: &[u8]) -> Option<Damage>
 /// block before, if there is one.
 #[tactic(auto, unfolding(crate::specs::Checks::block_wrong))]
 pub fn check_block(number: u32, before: Option<usize>, block: &[u8]) -> Result<Layout, Damage>
+    // the block's size and place
     requires least { MIN_BLOCK ≤ length block.now }
     requires whole { length block.now % ALIGNMENT ≡ 0 }
     requires place { length block.now * number + length block.now ≤ 2 ^ 32 }
+    // the first check that fails
     ensures wrong { MatchResult result
         (λ _. block_wrong (length block.now) number before block.now ≡ None)
         (λ d. block_wrong (length block.now) number before block.now ≡ Some (damage_view d)) }
+    // a block that passes
     ensures whole { OnOk result (IsWholeBlock block.now) }
     ensures laid { IfOk result (IsLayout block.now) }
 {

@@ -134,10 +134,13 @@ fn counts_wrong(place: u64, number: u32, layout: Layout, block: &[u8]) -> Option
 /// `last`.
 #[tactic(auto, using(crate::proofs::Checking::head_times_checks))]
 fn times_wrong(place: u64, first: &[u8], last: &[u8], block: &[u8]) -> Option<Damage>
+    // the heads of two records
     requires first { RECORD_HEAD ≤ length first.now }
     requires last { RECORD_HEAD ≤ length last.now }
+    // the block
     requires least { BLOCK_HEAD ≤ length block.now }
     requires place { place + length block.now ≤ 2 ^ 32 }
+    // what comes
     ensures { option_map damage_view result ≡ first_wrong (place + FIRST_SEC_AT)
         (head_times (time (record_at first.now)) (time (record_at last.now)))
         (drop FIRST_SEC_AT block.now) }

@@ -29,9 +29,11 @@ fn count_at(block: &[u8]) -> u32
 
 /// Lays out the records of a block that begins at `place` of its file.
 pub fn lay_out(place: u64, block: &[u8]) -> Result<Layout, Damage>
+    // the block's place and size
     requires place { place + length block.now ≤ 2 ^ 32 }
     requires least { MIN_BLOCK ≤ length block.now }
     requires whole { length block.now % ALIGNMENT ≡ 0 }
+    // the damage, or the layout
     ensures wrong { MatchResult result (λ _. layout_wrong place block.now ≡ None)
         (λ d. layout_wrong place block.now ≡ Some (damage_view d)) }
     ensures laid { IfOk result (IsLayout block.now) }

@@ -318,10 +318,13 @@ impl Shelf for MemShelf {
 impl MemShelf {
     // Renames a draft to its name, or gives its bytes back.
     fn put_under(&mut self, kind: Kind, draft: u64, stamp: u64, bytes: Octets) -> Result<(), Octets>
+        // the log
         ensures log { Does (Some self.old.book) (Some self.new.book) result
             (λ _. call.Did (change.Settle kind draft stamp bytes)) }
         ensures there { OnOk result (reads self.new.book (published kind stamp) ≡ Some bytes) }
+        // the bytes
         ensures back { IfErr result (λ b. b ≡ bytes) }
+        // the counts
         ensures cause { HasCause self.old.faults self.new.faults result }
         ensures loans { self.new.loans ≡ self.old.loans }
     {
