@@ -4,10 +4,12 @@ use Rattle.std.proofs.Common.{sym, ap, ◌∙◌, subst, take-append-drop}
 use Rattle.st_disk.specs.Events.{Event}
 use Rattle.st_answer.specs.Sets.{GoesOn}
 
+-- no history is known
 abbrev IsUnknown : Option (List Event) → Type 0
 IsUnknown None = Unit {0}
 IsUnknown (Some events) = ⊥
 
+-- the events of a history, none if it is not known
 abbrev events_in : Option (List Event) → List Event
 events_in None = []
 events_in (Some events) = events

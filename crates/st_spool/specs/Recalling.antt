@@ -71,13 +71,9 @@ history st log =
 abbrev pub taken_count : SpoolState → ℕ
 taken_count st = ((st.asked.to - st.found) + st.asked.from) + 1
 
--- the history of a spool, the events before its opening, and the history that its last hold took,
--- where its shelf's log is known
+-- the history of a spool, and the one that its last hold took, where its shelf's log is known
 abbrev pub history_of : {D : Type 0} → (D → Option Log) → SpoolView D → Option (List Event)
 history_of {D} log spool = option_map (history spool.state) (log spool.shelf)
-
-abbrev pub earlier_of : {D : Type 0} → (D → Option Log) → SpoolView D → Option (List Event)
-earlier_of {D} log spool = option_map (earlier spool.state) (log spool.shelf)
 
 abbrev pub taken_of : {D : Type 0} → (D → Option Log) → SpoolView D → Option (List Event)
 taken_of {D} log spool =

@@ -13,6 +13,7 @@ use Rattle.st_spool.specs.Recalling.{history, event_count}
 use Rattle.st_spool.specs.declared.state.Doubt.{Doubt}
 use Rattle.st_spool.specs.declared.state.Doubt.TheVariants.{Nothing, Unsettled, Settled, Unhidden, Hidden}
 
+-- the stamp of a pair
 abbrev pub stamp_of : Entry → ℕ
 stamp_of e = e.stamp
 

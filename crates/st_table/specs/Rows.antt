@@ -74,11 +74,6 @@ StepsOn takes old new (Ok (Some v)) =
     × IsTrue (takes (row_of old.reading x)) × (new ≡ past_entry old x)
 StepsOn takes old new (Err e) = RefusesEntry takes old e
 
--- a block's rows, each of which passes the test
-abbrev pub ReadsRows : (RowView → Bool) → ℕ → List ℕ → Result (List RowView) TableErr → Type 0
-ReadsRows takes base block (Ok rows) = IsBlock block rows × All (λ r. IsTrue (takes r)) rows
-ReadsRows takes base block (Err e) = RefusesBlock takes base block e
-
 -- the value of a key in a block, each of whose rows passes the test
 abbrev pub ReadsValue : (RowView → Bool) → List ℕ → ℕ → List ℕ → Result (Option (List ℕ)) TableErr
     → Type 0

@@ -22,6 +22,7 @@ pub record SharedView (S : Type 0) : Type 0 where
   pub passes : ℕ
 
 module _ {S : Type 0} where
+  -- what a pass saw and did
   abbrev pub state_of : PassView S → PassState S Event Span
   state_of p = p.state
 

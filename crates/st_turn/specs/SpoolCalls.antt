@@ -65,6 +65,7 @@ module _ {D : Type 0} (W : List ℕ → List ℕ → Type 0) (log : D → Option
     pub state : w ≡ record v { shelf = w.shelf }
     pub shelf : home w.shelf ≡ home v.shelf
 
+  -- a draft of this kind was made, or none
   pub record Creates {T : Type 0} (origin : T → DraftOrigin) (written : T → Option (List ℕ))
       (draft_faults : T → ℕ) (kind : Kind) (result : Result T DiskFault) : Type 0 where
     pub stays : StaysAs
@@ -74,6 +75,7 @@ module _ {D : Type 0} (W : List ℕ → List ℕ → Type 0) (log : D → Option
     pub cause : HasCause (faults v.shelf) (faults w.shelf) result
     pub loans_are : loans w.shelf ≡ loans v.shelf
 
+  -- a draft, sealed or not, was given up
   pub record Abandons {T S : Type 0} (draft_faults : T → ℕ) (sealed_faults : S → ℕ)
       (end : End T S) : Type 0 where
     pub stays : StaysAs
@@ -81,6 +83,7 @@ module _ {D : Type 0} (W : List ℕ → List ℕ → Type 0) (log : D → Option
         (faults v.shelf) (faults w.shelf)
     pub loans_are : loans w.shelf ≡ loans v.shelf
 
+  -- the set at home is held, or there was no memory
   pub record Holds {E : Type 0} (result : Result Span E) : Type 0 where
     pub stands : (earlier h : List Event) (f : Files)
         → StandsFor W (log v.shelf) v.state earlier h f
@@ -91,6 +94,7 @@ module _ {D : Type 0} (W : List ℕ → List ℕ → Type 0) (log : D → Option
         (λ k. (k ≡ whole_set v.state) × (w ≡ record v { state = with_hold v.state }))
         (λ e. w ≡ v)
 
+  -- a hold was given back, and the files that it alone kept are removed
   pub record Releases (hold : Span) : Type 0 where
     pub keeps : (earlier h : List Event) (f : Files)
         → StandsFor W (log v.shelf) v.state earlier h f
@@ -105,6 +109,7 @@ module _ {D : Type 0} (W : List ℕ → List ℕ → Type 0) (log : D → Option
     pub cause : faults v.shelf ≤ faults w.shelf
     pub rest : (home w.shelf ≡ home v.shelf) × (loans w.shelf ≡ loans v.shelf)
 
+  -- the oldest pair was removed, or there is none above the limit, or the ageing failed
   pub record AgesBy (result : Result Bool AgeErr) : Type 0 where
     pub aged : (earlier h : List Event) (f : Files) (e : Entry) (after : List Entry)
         → MayAge v.state → StandsFor W (log v.shelf) v.state earlier h f → set_of h ≡ e ∷ after
@@ -120,6 +125,7 @@ module _ {D : Type 0} (W : List ℕ → List ℕ → Type 0) (log : D → Option
     pub rest : (home w.shelf ≡ home v.shelf) × (loans w.shelf ≡ loans v.shelf)
         × (w.spare ≡ v.spare) × (w.state.holds ≡ v.state.holds)
 
+  -- a pair was published under a stamp of `floor` or above, or it was refused, or it failed
   pub record PublishesBy {T S : Type 0} (bytes : S → Option (List ℕ)) (pair : SealedPair T S)
       (floor : ℕ) (result : Result ℕ (PublishErr T S)) : Type 0 where
     pub published : (earlier h : List Event) (f : Files) → MayPublish v.state

@@ -44,6 +44,7 @@ pub record KeepsImages (b x : SpoolState) (first now : Log) : Type 0 where
   pub covers : b.halted ≡ None → CoversInDoubt (history b first) more doubt first now
 
 module _ {D : Type 0} (log : D → Option Log) (faults home : D → ℕ) where
+  -- what a turn reads off a spool
   abbrev pub facts_of : SpoolView D → Facts Event Span
   facts_of s = record {
     history = told_history (history_of log s) (event_count s.state + 1);

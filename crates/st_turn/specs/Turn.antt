@@ -17,6 +17,7 @@ idle p = record { taken = None; pass = p }
 abbrev pub turning : {X P : Type 0} → X → P → Caller X P
 turning x p = record { taken = Some x; pass = p }
 
+-- the pass of a caller
 abbrev pub pass_of : {X P : Type 0} → Caller X P → P
 pass_of d = d.pass
 
