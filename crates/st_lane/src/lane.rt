@@ -126,15 +126,14 @@ impl<T: Draft> Lane<T> {
         // which records it then has
         ensures records { (rs : List Rec) → Represents T.written self.old rs
             → Pushes T.written self.old self.new rs r.entry result }
-        ensures count { self.new.filling.records
-            ≡ pushed_count self.old.filling.records result }
+        ensures leaves { Leaves self.old self.new result
+            × (self.new.filling.records ≡ pushed_count self.old.filling.records result) }
         // when each answer comes
         ensures ready { (result ≡ Ok Pushed.Ready) ↔ IsFull self.old.filling r.entry }
         ensures ends { (rs : List Rec) → Represents T.written self.old rs
             → (result ≡ Ok Pushed.Ready) ↔ (IsShort self.old.filling.size r.entry
             × EndsList self.old.filling.size self.old.filling.most rs r.entry) }
         ensures long { RefusesLong self.old.filling.size r.entry result }
-        ensures leaves { Leaves self.old self.new result }
         // the drafts
         ensures cause { HasCauseOf (LaneErr.DiskFault self.old.filling.records)
             (T.faults self.old.block) (T.faults self.new.block) result }

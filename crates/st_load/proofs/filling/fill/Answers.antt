@@ -17,20 +17,20 @@ returns-in-Ok-Ready-clause-fills g c = λ empty.
     let ready = ap Ok c.in-Ok-Ready.field-0-is in
     let full = c.in-Ok-Ready.ensures.ready.0 ready in
     let ends = (c.in-Ok-Ready.ensures.ends took.rs took.has).0 ready in
-    let is = subst (λ (p : Pushed). LaneLeaves c.records.lane c.push.new.self (Ok p)) c.in-Ok-Ready.field-0-is c.in-Ok-Ready.ensures.leaves in
+    let is = subst (λ (p : Pushed). LaneLeaves c.records.lane c.push.new.self (Ok p)) c.in-Ok-Ready.field-0-is c.in-Ok-Ready.ensures.leaves.0 in
     ready_fills g.T.Sink.written (λ bytes given. HasReadTo c.args.reader.now bytes (given ++ c.args.first ∷ []) (g.S.Source.left c.args.source.now)) (λ bytes rs. HasReadTo c.records.reader bytes rs (g.S.Source.left c.records.source))
     c.args.first c.records.packet c.lend.result c.args.number c.records.lane c.push.new.self c.records.reader (g.S.Source.left c.records.source) took is c.lend.ensures.same full.others ends (λ bytes rs read. read)
 
 pub overflow_add-number : goal.overflow_add-number
 overflow_add-number g c =
-    let is = subst (λ (e : LaneErr). LaneLeaves c.records.lane c.push.new.self (Err e)) c.in-Err-TooLong.field-0-is c.in-Err-TooLong.ensures.leaves in
+    let is = subst (λ (e : LaneErr). LaneLeaves c.records.lane c.push.new.self (Err e)) c.in-Err-TooLong.field-0-is c.in-Err-TooLong.ensures.leaves.0 in
     let count = ap (λ (x : LaneView g.row.T.Denot). x.filling.records) is in
     omega (arith, c.records-in-Err-TooLong.ensures, count, c.records.invariant.number.0, c.records.invariant.number.1)
 
 pub returns-in-Err-TooLong-clause-fills : goal.returns-in-Err-TooLong-clause-fills
 returns-in-Err-TooLong-clause-fills g c = λ empty.
     let took = c.records.invariant.took empty in
-    let is = subst (λ (e : LaneErr). LaneLeaves c.records.lane c.push.new.self (Err e)) c.in-Err-TooLong.field-0-is c.in-Err-TooLong.ensures.leaves in
+    let is = subst (λ (e : LaneErr). LaneLeaves c.records.lane c.push.new.self (Err e)) c.in-Err-TooLong.field-0-is c.in-Err-TooLong.ensures.leaves.0 in
     let long = c.in-Err-TooLong.ensures.long.only c.in-Err-TooLong.len (ap Err c.in-Err-TooLong.field-0-is) in
     long_fills g.T.Sink.written (λ bytes given. HasReadTo c.args.reader.now bytes (given ++ c.args.first ∷ []) (g.S.Source.left c.args.source.now)) (λ bytes rs. HasReadTo c.records.reader bytes rs (g.S.Source.left c.records.source))
     c.args.first c.records.packet c.args.number c.records-in-Err-TooLong.result c.in-Err-TooLong.len c.records.lane c.push.new.self c.records.reader (g.S.Source.left c.records.source) took is
@@ -39,7 +39,7 @@ returns-in-Err-TooLong-clause-fills g c = λ empty.
 
 pub records-preserved : goal.records-preserved
 records-preserved g c =
-    let count = c.in-Ok-Kept.ensures.count ∙ ap (λ (p : Pushed). pushed_count c.records.lane.filling.records (Ok p)) c.in-Ok-Kept.field-0-is in
+    let count = c.in-Ok-Kept.ensures.leaves.1 ∙ ap (λ (p : Pushed). pushed_count c.records.lane.filling.records (Ok p)) c.in-Ok-Kept.field-0-is in
     let grows = subst (λ (o : Option Rec). OnSome o (c.records.reader.taken + 16 ≤ c.next_into.new.self.taken)) c.in-Ok-Some.field-0-is c.in-Ok-Some.ensures.count.grows in
     record {
       took = λ empty.
@@ -55,7 +55,7 @@ records-preserved g c =
           (g.S.Source.left c.records.source) (g.S.Source.left c.next_into.new.source) short (omega (arith, count)) (c.records.invariant.input bytes first)
           (λ rs (rest, left, has).
           subst (λ (o : Option Rec). Gives bytes rs c.next_into.new.self (g.S.Source.left c.next_into.new.source) (Ok o)) c.in-Ok-Some.field-0-is (c.in-Ok-Some.ensures.gives bytes rest rs left has));
-      whole = subst (λ (p : Pushed). LaneLeaves c.records.lane c.push.new.self (Ok p)) c.in-Ok-Kept.field-0-is c.in-Ok-Kept.ensures.leaves;
+      whole = subst (λ (p : Pushed). LaneLeaves c.records.lane c.push.new.self (Ok p)) c.in-Ok-Kept.field-0-is c.in-Ok-Kept.ensures.leaves.0;
       going = c.in-Ok-Some.ensures.goes;
       number = (omega (arith, count, grows, c.records.invariant.number.0), c.in-Ok-Some.ensures.count.bound);
       later = omega (arith, grows, c.records.invariant.later);
@@ -90,13 +90,13 @@ returns-in-Err-clause-fills g c = λ empty.
 
 pub returns-in-Ok-Ready-clause-input : goal.returns-in-Ok-Ready-clause-input
 returns-in-Ok-Ready-clause-input g c = λ bytes first.
-    let is = subst (λ (p : Pushed). LaneLeaves c.records.lane c.push.new.self (Ok p)) c.in-Ok-Ready.field-0-is c.in-Ok-Ready.ensures.leaves in
+    let is = subst (λ (p : Pushed). LaneLeaves c.records.lane c.push.new.self (Ok p)) c.in-Ok-Ready.field-0-is c.in-Ok-Ready.ensures.leaves.0 in
     subst (λ (x : LaneView g.row.T.Denot). HasCome c.args.lane.now.filling.size (c.args.number + x.filling.records) bytes c.records.packet c.records.reader (g.S.Source.left c.records.source)) (sym is)
     (c.records.invariant.input bytes first)
 
 pub returns-in-Err-TooLong-clause-input : goal.returns-in-Err-TooLong-clause-input
 returns-in-Err-TooLong-clause-input g c = λ bytes first.
-    let is = subst (λ (e : LaneErr). LaneLeaves c.records.lane c.push.new.self (Err e)) c.in-Err-TooLong.field-0-is c.in-Err-TooLong.ensures.leaves in
+    let is = subst (λ (e : LaneErr). LaneLeaves c.records.lane c.push.new.self (Err e)) c.in-Err-TooLong.field-0-is c.in-Err-TooLong.ensures.leaves.0 in
     let long = c.in-Err-TooLong.ensures.long.only c.in-Err-TooLong.len (ap Err c.in-Err-TooLong.field-0-is) in
     let here = subst (λ (r : Rec). IsShort c.records.lane.filling.size r → ⊥) c.lend.ensures.same long.0 in
     let count = c.records-in-Err-TooLong.ensures ∙ ap (λ (x : LaneView g.row.T.Denot). x.filling.records) is in
