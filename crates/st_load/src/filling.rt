@@ -46,10 +46,8 @@ pub(crate) fn fill<T: Draft, S: Source>(
     reader: &mut PcapReader,
     source: &mut S,
 ) -> Filled
-    requires whole { lane.old.broken ≡ false }
-    requires none { lane.old.filling.records ≡ 0 }
-    requires going { IsGoing reader.old.phase }
-    requires number { HasCounted number reader.old }
+    requires lane { (lane.old.broken ≡ false) × (lane.old.filling.records ≡ 0) }
+    requires reader { IsGoing reader.old.phase × HasCounted number reader.old }
     // what the lane takes, and how far it comes
     ensures fills { Represents T.written lane.old [] → Fills T.written
         (λ bytes given. HasReadTo reader.old bytes (given ++ first ∷ []) (S.left source.old))
@@ -59,13 +57,13 @@ pub(crate) fn fill<T: Draft, S: Source>(
         → ComesTo lane.old.filling.size (number + lane.new.filling.records) bytes reader.new
         (S.left source.new) result }
     ensures leaves { Leaves number lane.new reader.old reader.new result }
-    ensures lane { IsSameLane T.origin lane.old lane.new }
-    // the faults
+    // the faults, and what stays
     ensures disk { result ≡ Filled.Failed LoadEnd.DiskFault
         → Rose (T.faults lane.old.block) (T.faults lane.new.block) }
     ensures read { RoseJustIf (result ≡ Filled.Failed LoadEnd.ReadFault)
         (S.faults source.old) (S.faults source.new) }
-    ensures rest { S.beside source.new ≡ S.beside source.old }
+    ensures rest { IsSameLane T.origin lane.old lane.new
+        × (S.beside source.new ≡ S.beside source.old) }
 {
     let mut packet = first;
     'records: loop {

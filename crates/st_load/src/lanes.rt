@@ -1,6 +1,6 @@
 //! Drafts that become a lane, and what is left of one.
 
-ghost use Rattle.std.specs.Prelude.{◌≡◌, ◌<◌, ◌≤◌, ◌≢◌, [], List, Some, false, OnOk, OnErr, IfOk, IfErr, Err};
+ghost use Rattle.std.specs.Prelude.{◌≡◌, ◌<◌, ◌≤◌, ◌≢◌, [], List, Some, false, IfOk, IfErr, MatchResult, Err};
 ghost use Rattle.st_base.specs.Faults.{Rose};
 ghost use Rattle.st_base.specs.Records.{Rec};
 ghost use Rattle.st_block.specs.BlockText.{IsBlockSize};
@@ -30,9 +30,8 @@ pub(crate) fn open_lane<D: Shelf>(
     spool: &mut Spool<D, Indexed>,
     layout: LanePlan,
 ) -> Result<Lane<D::Draft>, LoadEnd>
-    requires size { IsBlockSize layout.size }
-    requires some { 1 ≤ layout.blocks }
-    requires most { layout.blocks ≤ MAX_BLOCKS }
+    requires layout { IsBlockSize layout.size × (1 ≤ layout.blocks)
+        × (layout.blocks ≤ MAX_BLOCKS) }
     // the spool
     ensures keeps { KeepsSpool D.log spool.old spool.new }
     ensures rest { (D.id spool.new.shelf ≡ D.id spool.old.shelf)
@@ -87,8 +86,7 @@ pub(crate) fn seal<D: Shelf>(
     spool: &mut Spool<D, Indexed>,
     lane: Lane<D::Draft>,
 ) -> Result<SealedPair<D::Draft>, LoadEnd>
-    requires whole { lane.broken ≡ false }
-    requires some { 1 ≤ lane.filling.records }
+    requires lane { (lane.broken ≡ false) × (1 ≤ lane.filling.records) }
     requires home { IsLaneOf D.Draft.origin (D.id spool.old.shelf) lane }
     // the pair
     ensures pair { (rs : List Rec) → Represents D.Draft.written lane rs
@@ -97,8 +95,8 @@ pub(crate) fn seal<D: Shelf>(
     ensures home { IfOk result (λ p. IsPairOf (D.id spool.old.shelf)
         (D.Draft.sealed_origin p.block) (D.Draft.sealed_origin p.index)) }
     // the spool
-    ensures same { OnOk result (spool.new ≡ spool.old) }
-    ensures keeps { OnErr result (KeepsSpool D.log spool.old spool.new) }
+    ensures spool { MatchResult result (λ _. spool.new ≡ spool.old)
+        (λ _. KeepsSpool D.log spool.old spool.new) }
     ensures rest { (D.id spool.new.shelf ≡ D.id spool.old.shelf)
         × (D.loans spool.new.shelf ≡ D.loans spool.old.shelf) }
     // an error

@@ -14,8 +14,8 @@
 //!   line, then the removals (`load`, `load_into`: `job`).
 //! - At every moment a crash leaves the pairs after some of the job's events, the first ones; at
 //!   the return those after all, but for an event in doubt if the shelf failed (clause `job`).
-//! - A fault comes only if that object's count rose (`disk`, `read`, `write`). Over any shelf an
-//!   input ends a load only at its end, its refusal or its first packet too long (`input`, `says`).
+//! - A fault comes only if that object's count rose (`faults`). Over any shelf an input ends a load
+//!   only at its end, its refusal or its first packet too long (`input`, `says`).
 //! - The shelf comes back on every path, with as many files lent as before (`rest`).
 //!
 //! # What it leaves to others

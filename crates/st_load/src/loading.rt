@@ -86,16 +86,14 @@ fn load_pairs<D: Shelf, S: Source, O: Sink, C: Clock>(
         → StopsInput layout.size bytes result }
     ensures says { Says layout.size result }
     // the counts
-    ensures disk { RoseIf (result ≡ LoadEnd.DiskFault) (D.faults spool.old.shelf)
-        (D.faults spool.new.shelf) }
-    ensures read { RoseJustIf (result ≡ LoadEnd.ReadFault)
-        (S.faults source.old) (S.faults source.new) }
-    ensures write { RoseJustIf (result ≡ LoadEnd.WriteFault)
-        (O.faults out.old) (O.faults out.new) }
+    ensures faults { RoseIf (result ≡ LoadEnd.DiskFault)
+        (D.faults spool.old.shelf) (D.faults spool.new.shelf)
+        × RoseJustIf (result ≡ LoadEnd.ReadFault) (S.faults source.old) (S.faults source.new)
+        × RoseJustIf (result ≡ LoadEnd.WriteFault) (O.faults out.old) (O.faults out.new) }
     // what stays
-    ensures state { Runs spool.old.state spool.new.state
-        × (result ≢ LoadEnd.DiskFault → spool.new.state.halted ≡ None) }
-    ensures rest { (D.id spool.new.shelf ≡ D.id spool.old.shelf)
+    ensures rest { Runs spool.old.state spool.new.state
+        × (result ≢ LoadEnd.DiskFault → spool.new.state.halted ≡ None)
+        × (D.id spool.new.shelf ≡ D.id spool.old.shelf)
         × (D.loans spool.new.shelf ≡ D.loans spool.old.shelf)
         × (S.beside source.new ≡ S.beside source.old) × (O.beside out.new ≡ O.beside out.old) }
 {
@@ -168,12 +166,10 @@ pub fn load_into<D: Shelf, S: Source, O: Sink, C: Clock>(
         → StopsInput layout.size bytes result }
     ensures says { Says layout.size result }
     // the counts
-    ensures disk { RoseIf (result ≡ LoadEnd.DiskFault) (D.faults spool.old.shelf)
-        (D.faults spool.new.shelf) }
-    ensures read { RoseJustIf (result ≡ LoadEnd.ReadFault)
-        (S.faults source.old) (S.faults source.new) }
-    ensures write { RoseJustIf (result ≡ LoadEnd.WriteFault)
-        (O.faults out.old) (O.faults out.new) }
+    ensures faults { RoseIf (result ≡ LoadEnd.DiskFault)
+        (D.faults spool.old.shelf) (D.faults spool.new.shelf)
+        × RoseJustIf (result ≡ LoadEnd.ReadFault) (S.faults source.old) (S.faults source.new)
+        × RoseJustIf (result ≡ LoadEnd.WriteFault) (O.faults out.old) (O.faults out.new) }
     // what stays
     ensures state { Runs spool.old.state spool.new.state
         × (result ≢ LoadEnd.DiskFault → spool.new.state.halted ≡ None) }
@@ -216,12 +212,10 @@ pub fn load<D: Shelf, S: Source, O: Sink, C: Clock>(
         → StopsInput layout.size bytes result.end }
     ensures says { Says layout.size result.end }
     // the counts
-    ensures disk { RoseIf (result.end ≡ LoadEnd.DiskFault) (D.faults shelf)
-        (D.faults result.shelf) }
-    ensures read { RoseJustIf (result.end ≡ LoadEnd.ReadFault)
-        (S.faults source.old) (S.faults source.new) }
-    ensures write { RoseJustIf (result.end ≡ LoadEnd.WriteFault)
-        (O.faults out.old) (O.faults out.new) }
+    ensures faults { RoseIf (result.end ≡ LoadEnd.DiskFault)
+        (D.faults shelf) (D.faults result.shelf)
+        × RoseJustIf (result.end ≡ LoadEnd.ReadFault) (S.faults source.old) (S.faults source.new)
+        × RoseJustIf (result.end ≡ LoadEnd.WriteFault) (O.faults out.old) (O.faults out.new) }
     // what stays
     ensures rest { (D.id result.shelf ≡ D.id shelf) × (D.loans result.shelf ≡ D.loans shelf)
         × (S.beside source.new ≡ S.beside source.old) × (O.beside out.new ≡ O.beside out.old) }

@@ -157,8 +157,8 @@ pub(crate) fn finish<D: Shelf, O: Sink, C: Clock>(
     out: &mut O,
     clock: &mut C,
 ) -> Result<(), LoadEnd>
-    requires lane { (lane.broken ≡ false) × (1 ≤ lane.filling.records) }
-    requires home { IsLaneOf D.Draft.origin (D.id spool.old.shelf) lane }
+    requires lane { (lane.broken ≡ false) × (1 ≤ lane.filling.records)
+        × IsLaneOf D.Draft.origin (D.id spool.old.shelf) lane }
     requires known { (log : Log) → D.log spool.old.shelf ≡ Some log
         → (rs : List Rec) × Represents D.Draft.written lane rs }
     requires running { spool.old.state.halted ≡ None }
@@ -171,14 +171,13 @@ pub(crate) fn finish<D: Shelf, O: Sink, C: Clock>(
         (situation h spool.old.state (C.to_come clock.old)) rs
         (D.log spool.old.shelf) (D.log spool.new.shelf) spool.new.state earlier h f
         (C.to_come clock.new) (O.written out.old) (O.written out.new) result }
-    ensures state { Runs spool.old.state spool.new.state }
-    ensures runs { result ≢ Err LoadEnd.DiskFault → spool.new.state.halted ≡ None }
+    ensures state { Runs spool.old.state spool.new.state
+        × (result ≢ Err LoadEnd.DiskFault → spool.new.state.halted ≡ None) }
     ensures failed { IfErr result IsFinishEnd }
     // the counts
-    ensures disk { RoseIf (result ≡ Err LoadEnd.DiskFault) (D.faults spool.old.shelf)
-        (D.faults spool.new.shelf) }
-    ensures write { RoseJustIf (result ≡ Err LoadEnd.WriteFault)
-        (O.faults out.old) (O.faults out.new) }
+    ensures faults { RoseIf (result ≡ Err LoadEnd.DiskFault)
+        (D.faults spool.old.shelf) (D.faults spool.new.shelf)
+        × RoseJustIf (result ≡ Err LoadEnd.WriteFault) (O.faults out.old) (O.faults out.new) }
     ensures rest { (D.id spool.new.shelf ≡ D.id spool.old.shelf)
         × (D.loans spool.new.shelf ≡ D.loans spool.old.shelf)
         × (O.beside out.new ≡ O.beside out.old) }

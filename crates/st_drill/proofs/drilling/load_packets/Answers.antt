@@ -23,7 +23,7 @@ unloaded-requires g c =
     let ran = c.load_into-loaded in
     can_end c.args.packets c.requires.packets ran.result
     (ran.ensures.input (input c.args.packets) (ap Some c.new-source.ensures))
-    (λ e. let rose = ran.ensures.read.rose e in omega (arith, rose))
+    (λ e. let rose = ran.ensures.faults.1.rose e in omega (arith, rose))
 
 pub returns-in-None-clause-job : goal.returns-in-None-clause-job
 returns-in-None-clause-job g c log earlier h f known stands =
@@ -57,10 +57,10 @@ returns-clause-says g c =
 
 pub returns-clause-disk : goal.returns-clause-disk
 returns-clause-disk g c = record {
-  later = c.load_into-loaded.ensures.disk.later;
+  later = c.load_into-loaded.ensures.faults.0.later;
   rose = λ is.
       let same : c.in-Some.end ≡ end.DiskFault = cc in
-      c.load_into-loaded.ensures.disk.rose
+      c.load_into-loaded.ensures.faults.0.rose
       (disk_by c.load_into-loaded.result c.in-Some.end c.in-Some.ensures same);
 }
 

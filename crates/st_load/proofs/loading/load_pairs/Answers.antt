@@ -37,7 +37,7 @@ pairs-preserved g c = record {
       let lim = ap (λ (v : SpoolView g.row.D.Denot). v.state.limit) c.open_lane.ensures.keeps.state ∙ c.pairs.invariant.state.0 in
       let empty = c.in-Ok.ensures.empty s.log s.is in
       round_next _ c.args.layout _ _ earlier h f _ _ _ c.open_lane.new.spool.state _ _ c.pairs.reader (g.S.Source.left c.pairs.source) c.pairs.first c.pairs.number s g.D.Draft.Sink.written c.fill.new.lane
-      (c.fill.ensures.lane.2 ∙ c.in-Ok.ensures.new.size) (c.fill.ensures.lane.3 ∙ c.in-Ok.ensures.new.most) c.pairs.invariant.going lim
+      (c.fill.ensures.rest.0.2 ∙ c.in-Ok.ensures.new.size) (c.fill.ensures.rest.0.3 ∙ c.in-Ok.ensures.new.most) c.pairs.invariant.going lim
       _ c.finish.new.spool.state _ _ c.fill.new.reader (g.S.Source.left c.fill.new.source) c.in-Ready.next c.records-number.result c.records-number.ensures (c.in-Ready.ensures.fills empty)
       (λ rs has. c.in-Ok-finish.ensures.finishes s.log earlier (h ++ events_of s.acts) f rs s.is s.stands has);
   input = λ bytes read.
@@ -64,7 +64,7 @@ returns-in-Err-finish-clause-job g c = λ log earlier h f known stands.
     let lim = ap (λ (v : SpoolView g.row.D.Denot). v.state.limit) c.open_lane.ensures.keeps.state ∙ c.pairs.invariant.state.0 in
     let empty = c.in-Ok.ensures.empty s.log s.is in
     round_stops _ c.args.layout _ _ earlier h f _ _ _ c.open_lane.new.spool.state _ _ c.pairs.reader (g.S.Source.left c.pairs.source) c.pairs.first c.pairs.number s g.D.Draft.Sink.written c.fill.new.lane
-    (c.fill.ensures.lane.2 ∙ c.in-Ok.ensures.new.size) (c.fill.ensures.lane.3 ∙ c.in-Ok.ensures.new.most) c.pairs.invariant.going lim
+    (c.fill.ensures.rest.0.2 ∙ c.in-Ok.ensures.new.size) (c.fill.ensures.rest.0.3 ∙ c.in-Ok.ensures.new.most) c.pairs.invariant.going lim
     _ c.finish.new.spool.state _ _ c.fill.new.reader (g.S.Source.left c.fill.new.source) c.in-Ready.next c.in-Err-finish.end c.in-Ready.ensures.leaves.2 (c.in-Ready.ensures.fills empty)
     (λ rs has. c.in-Err-finish.ensures.finishes s.log earlier (h ++ events_of s.acts) f rs s.is s.stands has)
 
@@ -76,7 +76,7 @@ returns-then-records-eq0-clause-job g c = λ log earlier h f known stands.
     let s = round_keeps g.D.Shelf.log c.open_lane.new.spool c.give_up.new.spool _ _ _ _ earlier h f _ _ _ _ _ _ _ one runs c.give_up.ensures.keeps in
     let empty = c.in-Ok.ensures.empty one.log one.is in
     round_long _ c.args.layout _ _ earlier h f _ _ _ c.give_up.new.spool.state _ _ c.pairs.reader (g.S.Source.left c.pairs.source) c.pairs.first c.pairs.number s g.D.Draft.Sink.written c.fill.new.lane
-    (c.fill.ensures.lane.2 ∙ c.in-Ok.ensures.new.size) (c.fill.ensures.lane.3 ∙ c.in-Ok.ensures.new.most) c.pairs.invariant.going
+    (c.fill.ensures.rest.0.2 ∙ c.in-Ok.ensures.new.size) (c.fill.ensures.rest.0.3 ∙ c.in-Ok.ensures.new.most) c.pairs.invariant.going
     c.fill.new.reader (g.S.Source.left c.fill.new.source) c.in-Ended.end now (sym c.records.ensures ∙ c.if-records-eq0.true) c.in-Ended.ensures.leaves.1 (c.in-Ended.ensures.fills empty)
 
 pub returns-in-Ok-finish-2-clause-job : goal.returns-in-Ok-finish-2-clause-job
@@ -85,8 +85,8 @@ returns-in-Ok-finish-2-clause-job g c = λ log earlier h f known stands.
     let lim = ap (λ (v : SpoolView g.row.D.Denot). v.state.limit) c.open_lane.ensures.keeps.state ∙ c.pairs.invariant.state.0 in
     let empty = c.in-Ok.ensures.empty s.log s.is in
     round_last _ c.args.layout _ _ earlier h f _ _ _ c.open_lane.new.spool.state _ _ c.pairs.reader (g.S.Source.left c.pairs.source) c.pairs.first c.pairs.number s g.D.Draft.Sink.written c.fill.new.lane
-    (c.fill.ensures.lane.2 ∙ c.in-Ok.ensures.new.size) (c.fill.ensures.lane.3 ∙ c.in-Ok.ensures.new.most) c.pairs.invariant.going lim
-    _ c.finish-in-Ended.new.spool.state _ _ c.fill.new.reader (g.S.Source.left c.fill.new.source) c.in-Ended.end (c.in-Ok-finish-2.ensures.runs (λ is. cc)) (λ none. c.if-records-eq0.false (c.records.ensures ∙ none)) c.in-Ended.ensures.leaves.1 (c.in-Ended.ensures.fills empty)
+    (c.fill.ensures.rest.0.2 ∙ c.in-Ok.ensures.new.size) (c.fill.ensures.rest.0.3 ∙ c.in-Ok.ensures.new.most) c.pairs.invariant.going lim
+    _ c.finish-in-Ended.new.spool.state _ _ c.fill.new.reader (g.S.Source.left c.fill.new.source) c.in-Ended.end (c.in-Ok-finish-2.ensures.state.1 (λ is. cc)) (λ none. c.if-records-eq0.false (c.records.ensures ∙ none)) c.in-Ended.ensures.leaves.1 (c.in-Ended.ensures.fills empty)
     (λ rs has. c.in-Ok-finish-2.ensures.finishes s.log earlier (h ++ events_of s.acts) f rs s.is s.stands has)
 
 pub returns-in-Err-finish-2-clause-job : goal.returns-in-Err-finish-2-clause-job
@@ -95,7 +95,7 @@ returns-in-Err-finish-2-clause-job g c = λ log earlier h f known stands.
     let lim = ap (λ (v : SpoolView g.row.D.Denot). v.state.limit) c.open_lane.ensures.keeps.state ∙ c.pairs.invariant.state.0 in
     let empty = c.in-Ok.ensures.empty s.log s.is in
     round_ends _ c.args.layout _ _ earlier h f _ _ _ c.open_lane.new.spool.state _ _ c.pairs.reader (g.S.Source.left c.pairs.source) c.pairs.first c.pairs.number s g.D.Draft.Sink.written c.fill.new.lane
-    (c.fill.ensures.lane.2 ∙ c.in-Ok.ensures.new.size) (c.fill.ensures.lane.3 ∙ c.in-Ok.ensures.new.most) c.pairs.invariant.going lim
+    (c.fill.ensures.rest.0.2 ∙ c.in-Ok.ensures.new.size) (c.fill.ensures.rest.0.3 ∙ c.in-Ok.ensures.new.most) c.pairs.invariant.going lim
     _ c.finish-in-Ended.new.spool.state _ _ c.fill.new.reader (g.S.Source.left c.fill.new.source) c.in-Ended.end c.in-Err-finish-2.failed (λ none. c.if-records-eq0.false (c.records.ensures ∙ none)) (c.in-Ended.ensures.fills empty)
     (λ rs has. c.in-Err-finish-2.ensures.finishes s.log earlier (h ++ events_of s.acts) f rs s.is s.stands has)
 
