@@ -40,8 +40,8 @@ pub fn answer_shared<R: Wait, D: Shelf, W: PairRule, O: Outlet>(
         (asked (pass_holds (D.log shared.now.base.shelf) result.0.state)) result.1 }
     ensures blames { Blames (asked (pass_holds (D.log shared.now.base.shelf) result.0.state))
         result.1 }
-    ensures write { HasOutletCause (O.faults outlet.old) (O.faults outlet.new) result.1 }
-    ensures disk { HasDiskCause (pass_faults pass.state) (pass_faults result.0.state) result.1 }
+    ensures causes { HasOutletCause (O.faults outlet.old) (O.faults outlet.new) result.1
+        × HasDiskCause (pass_faults pass.state) (pass_faults result.0.state) result.1 }
     // what the pass was asked
     ensures asks { AsksOnce (pass_holds (D.log shared.now.base.shelf) pass.state)
         (pass_holds (D.log shared.now.base.shelf) result.0.state)
