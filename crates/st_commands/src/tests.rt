@@ -1,11 +1,14 @@
-//! Lines over shelves in memory. The pair is that of docs/FORMAT.md; its packet is at second
-//! 1,000,000,000 and microsecond 123,456. The lines were written by hand.
+//! Lines and packets over shelves in memory. The pair is that of docs/FORMAT.md; its packet is at
+//! second 1,000,000,000 and microsecond 123,456. The lines and the pcap were written by hand.
 
 ghost use Rattle.std.specs.Prelude.{◌≡◌, ⊤, [], IfSome};
 
 use crate::commands::{Ended, check, list};
 use crate::outcomes::Outcome;
-use st_base::{Damage, MemSink, put};
+use crate::queries::query;
+use st_base::{Damage, Limits, MemSink, put};
+use st_pcap::Unit;
+use st_query::parse;
 use st_shelf::{Draft, End, Kind, MemShelf, SealedPair, Shelf};
 use st_spool::{NotEntered, PairRule, PublishErr, Spool};
 use std::alloc::Global;
@@ -269,5 +272,39 @@ fn a_fault_of_the_disk_ends_a_command(rt: HostRuntime) -> Result<(), Fail> {
         assert_eq!(rt; outcome, Outcome::DiskFault, "a check at {more}");
         assert!(rt; lines.is_empty(), "a check at {more}");
     }
+    Ok(())
+}
+
+// The pcap of both packets in microseconds: the file head, and twice the record head and the frame,
+// the last 46 bytes of `FILLED`.
+const BOTH_PACKETS: &[u8] = b"\xd4\xc3\xb2\xa1\x02\x00\x04\x00\x00\x00\x00\x00\x00\x00\x00\x00\
+\x00\x00\x04\x00\x01\x00\x00\x00\
+\x00\xca\x9a\x3b\x40\xe2\x01\x00\x2e\x00\x00\x00\x2e\x00\x00\x00\
+\x02\x00\x00\x00\x00\x02\x02\x00\x00\x00\x00\x01\x08\x00\x45\x00\
+\x00\x20\x00\x00\x00\x00\x40\x11\x00\x00\x0a\x00\x00\x01\x0a\x00\
+\x00\x02\x30\x39\x00\x35\x00\x0c\x00\x00\x64\x6e\x73\x21\
+\x00\xca\x9a\x3b\x40\xe2\x01\x00\x2e\x00\x00\x00\x2e\x00\x00\x00\
+\x02\x00\x00\x00\x00\x02\x02\x00\x00\x00\x00\x01\x08\x00\x45\x00\
+\x00\x20\x00\x00\x00\x00\x40\x11\x00\x00\x0a\x00\x00\x01\x0a\x00\
+\x00\x02\x30\x39\x00\x35\x00\x0c\x00\x00\x64\x6e\x73\x21";
+
+// These limits take two packets of 46 bytes and no more.
+#[test]
+fn a_query_writes_the_packets_of_all_pairs(rt: HostRuntime) -> Result<(), Fail> {
+    let alloc = rt.alloc();
+    let block = block_file(alloc, 1)?;
+    let shelf = two_pairs(alloc, block.as_slice(), INDEX, &[])?;
+    let asked = parse(alloc, b"port 53")?;
+    let limits = Limits {
+        packets: 2,
+        bytes: 92,
+    };
+    let mut out = MemSink::new(alloc, &[])?;
+    let Ended {
+        outcome,
+        shelf: _shelf,
+    } = query(alloc, shelf, &asked, 0, Unit::Micro, limits, &mut out);
+    assert_eq!(rt; outcome, Outcome::Done);
+    assert_eq!(rt; out.bytes(), BOTH_PACKETS);
     Ok(())
 }
