@@ -2,33 +2,29 @@
 use Rattle.std.specs.Prelude.{String, string_bytes}
 use Rattle.std.specs.Global.{Global}
 use Rattle.std.specs.Io.KnownBytes.{Appends}
-use Rattle.std.proofs.Common.{◌≡◌, ℕ, ◌⊎◌, inl, inr, List, [], ◌∷◌, ◌++◌, append-nil, length, Option, None, Some, Result, Ok, Err, refl, sym, ap, ◌∙◌, subst}
+use Rattle.std.proofs.Common.{◌≡◌, ℕ, ◌⊎◌, inl, inr, List, [], ◌∷◌, length, Option, None, Some, Result, Ok, Err, refl, sym, ap, ◌∙◌, subst}
 use Rattle.st_base.specs.Pieces.{AppendsPrefix}
 use Rattle.st_base.specs.Records.{Rec}
-use Rattle.st_disk.specs.Disks.{Log, reads}
+use Rattle.st_disk.specs.Disks.{Log}
 use Rattle.st_disk.specs.Events.{Event, Found, events}
-use Rattle.st_disk.specs.Pairs.{Entry, Files, PairsIn}
+use Rattle.st_disk.specs.Pairs.{Entry, Files}
 use Rattle.st_pairs.specs.Pairs.{IsWholePair as IsWhole}
 use Rattle.st_plan.specs.declared.limits.TheConstants.{MAX_PAIRS}
-use Rattle.st_spool.specs.Covers.{CoversInDoubt}
-use Rattle.st_spool.specs.Entering.{Enters, FailsToEnter, flushed_log}
-use Rattle.st_spool.specs.History.{set_of, Legal}
+use Rattle.st_spool.specs.Entering.{Enters, FailsToEnter}
+use Rattle.st_spool.specs.History.{set_of}
 use Rattle.st_spool.specs.Standing.{StandsFor, in_doubt, begun, PublishWhole}
 use Rattle.st_spool.specs.States.{SpoolState}
 use Rattle.st_spool.specs.declared.opening.EnterErr.{EnterErr}
 use Rattle.st_spool.specs.declared.opening.EnterErr.TheVariants as enter
 use Rattle.st_spool.specs.declared.state.Doubt.{Doubt}
 use Rattle.st_spool.specs.declared.state.Doubt.TheVariants.{Nothing}
-use Rattle.st_spool.proofs.Covering.{covers_opening}
 use Rattle.st_spool.proofs.Histories.{whole_first}
 use Rattle.st_answer.specs.Packets.{IsWholeSet}
 use Rattle.st_load.specs.Acts.{events_of}
 use Rattle.st_load.specs.Opening.{LoadsOpened}
 use Rattle.st_load.specs.declared.ends.LoadEnd.{LoadEnd}
 use Rattle.st_load.specs.declared.ends.LoadEnd.TheVariants as load
-use Rattle.st_load.proofs.Covered.{covers_join}
-use Rattle.st_load.proofs.Opened.{opened}
-use Rattle.st_load.proofs.ReadBack.{read_set}
+use Rattle.st_load.proofs.Opened.{opened, opened_sure}
 use Rattle.st_drill.specs.declared.ends.DrillEnd.{DrillEnd}
 use Rattle.st_drill.specs.declared.ends.DrillEnd.TheVariants as end
 use Rattle.st_drill.specs.Asking.{AnswerFails}
@@ -62,59 +58,9 @@ module _ (n : ℕ) (first : Log) (mid known : Option Log) (before st : SpoolStat
   none done = ap (λ (d : Doubt). begun d p.loads.f)
       (p.no_doubt (λ disk. let no : load.Done ≡ load.DiskFault = sym done ∙ disk in cc))
 
-  ran : (now : Log) × (known ≡ Some now)
-      × CoversInDoubt (Found entered.pairs ∷ []) (events_of p.loads.acts) (begun st.doubt p.loads.f)
-      (flushed_log first) now
-  ran =
-      let cleared = entered.images.cleared in
-      let one = covers_opening entered.pairs first cleared.log mid entered.found entered.images
-      cleared.is in
-      let (now, is, more) = p.loads.images cleared.log cleared.is in (
-        now,
-        is,
-        covers_join (Found entered.pairs ∷ []) [] (events_of p.loads.acts)
-            (begun st.doubt p.loads.f) (flushed_log first) cleared.log now one more,
-      )
-
-  abbrev h : List Event
-  h = Found entered.pairs ∷ []
-
-  abbrev did : List Event
-  did = events_of p.loads.acts
-
-  past : loaded ≡ load.Done → events ran.0 ≡ events first ++ did
-  past done = (p.loads.stands.disk ran.0 ran.1).past
-      ∙ ap (λ (es : List Event). events first ++ (did ++ es)) (none done)
-      ∙ ap (λ (es : List Event). events first ++ es) (append-nil did)
-
-  read : loaded ≡ load.Done → PairsIn (reads ran.0) (set_of (h ++ did))
-  read done = subst (λ (es : List Event). PairsIn (reads ran.0) (set_of es))
-      (ap (λ (es : List Event). (h ++ did) ++ es) (none done) ∙ append-nil (h ++ did))
-      (read_set IsWhole known st (events first) (h ++ did) p.loads.f p.loads.stands ran.0 ran.1)
-
   abbrev sure : loaded ≡ load.Done → Opens
-  sure done = record {
-    found = entered.pairs;
-    are_found = entered.found;
-    last = before.last;
-    greatest = entered.last;
-    pairs = p.loads.pairs;
-    are = p.loads.are;
-    acts = p.loads.acts;
-    to_come = p.loads.to_come;
-    did = p.loads.did;
-    log = ran.0;
-    is = ran.1;
-    past = past done;
-    legal = subst (λ (m : ℕ). Legal m (h ++ did)) lim p.loads.stands.legal;
-    set = read done;
-    flushed = entered.images.flushed;
-    sure = did;
-    doubt = begun st.doubt p.loads.f;
-    events_are = sym (ap (λ (es : List Event). did ++ es) (none done) ∙ append-nil did);
-    no_doubt = λ other. none done;
-    images = ran.2;
-  }
+  sure done = opened_sure MAX_PAIRS layout first mid known (Some (input n)) times times_now
+      (Some []) p.lines loaded st before entered lim p.loads (none done)
 
   any : Opens
   any = opened MAX_PAIRS layout first mid known (Some (input n)) times times_now

@@ -55,45 +55,43 @@ module _ (limit : ℕ) (layout : LanePlan) (first : Log) (mid known : Option Log
   h = Found entered.pairs ∷ []
 
   -- the run since both folders were flushed
-  ran : (now : Log) × (known ≡ Some now) × CoversInDoubt h (events_of l.acts) (begun st.doubt l.f) (flushed_log first) now
+  pub ran : (now : Log) × (known ≡ Some now) × CoversInDoubt h (events_of l.acts) (begun st.doubt l.f) (flushed_log first) now
   ran =
       let cleared = entered.images.cleared in
       let one = covers_opening entered.pairs first cleared.log mid entered.found entered.images cleared.is in
       let (now, is, more) = l.images cleared.log cleared.is in
       (now, is, covers_join h [] (events_of l.acts) (begun st.doubt l.f) (flushed_log first) cleared.log now one more)
 
-  past : (now : Log) → known ≡ Some now → events now ≡ events first ++ (events_of l.acts ++ begun st.doubt l.f)
+  pub past : (now : Log) → known ≡ Some now → events now ≡ events first ++ (events_of l.acts ++ begun st.doubt l.f)
   past now is = (l.stands.disk now is).past
 
-  read : (now : Log) → known ≡ Some now → PairsIn (reads now) (set_of ((h ++ events_of l.acts) ++ begun st.doubt l.f))
+  pub read : (now : Log) → known ≡ Some now → PairsIn (reads now) (set_of ((h ++ events_of l.acts) ++ begun st.doubt l.f))
   read now is = read_set IsWholePair known st (events first) (h ++ events_of l.acts) l.f l.stands now is
 
   -- nothing in doubt has begun
-  pub opened_sure : begun st.doubt l.f ≡ [] → LoadsOpened limit layout first known left times times_now old new e
-  opened_sure none =
-      let (now, is, covers) = ran in
-      record {
-        found = entered.pairs;
-        are_found = entered.found;
-        last = before.last;
-        greatest = entered.last;
-        pairs = l.pairs;
-        are = l.are;
-        acts = l.acts;
-        to_come = l.to_come;
-        did = l.did;
-        log = now;
-        is = is;
-        past = past now is ∙ ap (λ es. events first ++ es) (ap (λ es. events_of l.acts ++ es) none ∙ append-nil (events_of l.acts));
-        legal = subst (λ n. Legal n (h ++ events_of l.acts)) lim l.stands.legal;
-        set = subst (λ (es : List Event). PairsIn (reads now) (set_of es)) (ap (λ (es : List Event). (h ++ events_of l.acts) ++ es) none ∙ append-nil (h ++ events_of l.acts)) (read now is);
-        flushed = entered.images.flushed;
-        sure = events_of l.acts;
-        doubt = begun st.doubt l.f;
-        events_are = sym (ap (λ es. events_of l.acts ++ es) none ∙ append-nil (events_of l.acts));
-        no_doubt = λ other. none;
-        images = covers;
-      }
+  abbrev pub opened_sure : begun st.doubt l.f ≡ [] → LoadsOpened limit layout first known left times times_now old new e
+  opened_sure none = record {
+    found = entered.pairs;
+    are_found = entered.found;
+    last = before.last;
+    greatest = entered.last;
+    pairs = l.pairs;
+    are = l.are;
+    acts = l.acts;
+    to_come = l.to_come;
+    did = l.did;
+    log = ran.0;
+    is = ran.1;
+    past = past ran.0 ran.1 ∙ ap (λ es. events first ++ es) (ap (λ es. events_of l.acts ++ es) none ∙ append-nil (events_of l.acts));
+    legal = subst (λ n. Legal n (h ++ events_of l.acts)) lim l.stands.legal;
+    set = subst (λ (es : List Event). PairsIn (reads ran.0) (set_of es)) (ap (λ (es : List Event). (h ++ events_of l.acts) ++ es) none ∙ append-nil (h ++ events_of l.acts)) (read ran.0 ran.1);
+    flushed = entered.images.flushed;
+    sure = events_of l.acts;
+    doubt = begun st.doubt l.f;
+    events_are = sym (ap (λ es. events_of l.acts ++ es) none ∙ append-nil (events_of l.acts));
+    no_doubt = λ other. none;
+    images = ran.2;
+  }
 
   -- the event in doubt has begun
   pub opened_doubt : e ≡ end.DiskFault → begun st.doubt l.f ≡ in_doubt st.doubt l.f → LoadsOpened limit layout first known left times times_now old new e
