@@ -1,6 +1,7 @@
 //! Turns that read a hold: counts, stamps and lent files.
 ghost use Rattle.std.specs.Prelude.{◌≡◌, ◌<◌, ◌++◌, ◌∷◌, [], true, Contains, MatchResult};
 ghost use Rattle.st_disk.specs.declared.naming.Kind.TheVariants as kind;
+ghost use Rattle.st_disk.specs.Names.{by_kind};
 ghost use Rattle.st_shelf.specs.Loans.{lend, take_back};
 ghost use Rattle.st_spool.specs.Holding.{size_of};
 ghost use Rattle.st_spool.specs.States.{SpoolView};
@@ -15,7 +16,7 @@ use crate::home::Home;
 use crate::pass::Pass;
 use crate::sharing::Shared;
 use crate::trail::Trail;
-use st_shelf::Shelf;
+use st_shelf::{Kind, Shelf};
 use st_spool::{DiskFault, Hold, PairRule, Spool};
 use std::sync::Wait;
 
@@ -26,6 +27,25 @@ fn note_lent<F, E>(files: &mut Trail<F, bool>, answer: &Result<F, E>)
 {
     if let Ok(file) = answer {
         *files = files.and(file, &true);
+    }
+}
+
+// The file of this kind of the pair with this index in a hold, as the spool lends it.
+fn file_of<D: Shelf, W: PairRule>(
+    spool: &mut Spool<D, W>,
+    kind: Kind,
+    hold: &Hold,
+    i: usize,
+) -> Result<D::File, DiskFault>
+    requires held { Contains spool.old.state.holds hold.now }
+    requires within { i < size_of hold.now }
+    ensures { Lends W.is_whole D.log D.faults D.id D.loans spool.old spool.new kind
+        (λ e. by_kind kind e.block e.index) D.File.content D.file_origin D.File.reads
+        D.File.asked D.File.faults hold.now i result }
+{
+    match kind {
+        Kind::Block => spool.block_of(hold, i),
+        Kind::Index => spool.index_of(hold, i),
     }
 }
 
@@ -98,6 +118,48 @@ impl<D: Shelf, W: PairRule> Shared<Spool<D, W>> {
         answer
     }
 
+    // Lends the file of this kind of the pair with this index in a hold of this pass, in one turn.
+    fn lend_by<R: Wait>(
+        &self,
+        rt: &R,
+        pass: &mut Pass<Spool<D, W>>,
+        hold: &Hold,
+        i: usize,
+        kind: Kind,
+    ) -> Result<D::File, DiskFault>
+        requires of { IsOf self.now pass.old }
+        requires held { Contains pass.old.state.held hold.now }
+        requires within { i < size_of hold.now }
+        // the pass
+        ensures same { IsSame pass.old pass.new }
+        ensures holds { pass.new.state.held ≡ pass.old.state.held }
+        ensures loans { MatchResult result (λ _. pass.new.loans ≡ lend pass.old.loans)
+            (λ _. pass.new.loans ≡ pass.old.loans) }
+        // the turn
+        ensures turn { (v : SpoolView D) × (w : SpoolView D)
+            × IsAtHome W.is_whole D.log D.faults D.id self.now.base v
+            × IsTurn (facts_of D.log D.faults D.id) v w pass.old.state pass.new.state
+            × Lends W.is_whole D.log D.faults D.id D.loans v w kind
+            (λ e. by_kind kind e.block e.index) D.File.content D.file_origin D.File.reads
+            D.File.asked D.File.faults hold.now i result }
+    {
+        let desk = &self.table.shared;
+        let Home { mut spool, lines } = take(rt, desk, &mut pass.place);
+        spool.recall();
+        let before = spool.fault_count();
+        let answer = file_of(&mut spool, kind, hold, i);
+        end(
+            desk,
+            &mut pass.place,
+            pass.number,
+            (spool, lines),
+            before,
+            false,
+        );
+        note_lent(&mut pass.files, &answer);
+        answer
+    }
+
     /// Lends the block file of the pair with this index in a hold of this pass, from 0 on, by
     /// stamps, as the spool's `block_of` does, in one turn. It must be spent, by `close_file`.
     ///
@@ -124,21 +186,7 @@ impl<D: Shelf, W: PairRule> Shared<Spool<D, W>> {
             × Lends W.is_whole D.log D.faults D.id D.loans v w kind.Block (λ e. e.block)
             D.File.content D.file_origin D.File.reads D.File.asked D.File.faults hold.now i result }
     {
-        let desk = &self.table.shared;
-        let Home { mut spool, lines } = take(rt, desk, &mut pass.place);
-        spool.recall();
-        let before = spool.fault_count();
-        let answer = spool.block_of(hold, i);
-        end(
-            desk,
-            &mut pass.place,
-            pass.number,
-            (spool, lines),
-            before,
-            false,
-        );
-        note_lent(&mut pass.files, &answer);
-        answer
+        self.lend_by(rt, pass, hold, i, Kind::Block)
     }
 
     /// Lends the index file of the pair with this index in a hold of this pass, from 0 on, by
@@ -167,21 +215,7 @@ impl<D: Shelf, W: PairRule> Shared<Spool<D, W>> {
             × Lends W.is_whole D.log D.faults D.id D.loans v w kind.Index (λ e. e.index)
             D.File.content D.file_origin D.File.reads D.File.asked D.File.faults hold.now i result }
     {
-        let desk = &self.table.shared;
-        let Home { mut spool, lines } = take(rt, desk, &mut pass.place);
-        spool.recall();
-        let before = spool.fault_count();
-        let answer = spool.index_of(hold, i);
-        end(
-            desk,
-            &mut pass.place,
-            pass.number,
-            (spool, lines),
-            before,
-            false,
-        );
-        note_lent(&mut pass.files, &answer);
-        answer
+        self.lend_by(rt, pass, hold, i, Kind::Index)
     }
 
     /// Takes back a file that the shared spool's shelf lent, as the spool's `close_file` does, in
