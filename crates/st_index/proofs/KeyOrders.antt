@@ -12,9 +12,9 @@ use Rattle.std.proofs.lemmas.Option.{slice_get_cases}
 use Rattle.std.proofs.lemmas.List.Elements.{All-contains}
 use Rattle.st_walk.specs.declared.text.Key.{Key}
 use Rattle.st_rows.specs.KeyOrder.{key_cmp}
-use Rattle.st_index.specs.NumberedLists.{at_number, at_key}
+use Rattle.st_index.specs.NumberedLists.{at_number, list_at}
 use Rattle.st_index.specs.PositionLists.{positions_at}
-use Rattle.st_index.specs.EntryLists.{KeyList, list_before, lists_of_numbers, lists_of_entries}
+use Rattle.st_index.specs.EntryLists.{KeyList, list_before, lists_of_numbers, lists_of_values}
 use Rattle.st_index.specs.KeyLists.{Ascend}
 use Rattle.st_index.specs.declared.lists.PositionLists.{PositionLists}
 use Rattle.st_index.proofs.Ties.{tied}
@@ -82,40 +82,40 @@ numbers_ascend key n (v ∷ vs) low = before_ascend (key n) v.items (lists_of_nu
 
 -- ---- the entries of a map
 
-entries_each : (key : ℕ → Key) (es : List (ℕ × Vec ℕ Global)) (x : KeyList) → Contains (lists_of_entries key es) x
-    → (n : ℕ) × (v : Vec ℕ Global) × Contains es (n, v) × (x.0 ≡ key n) × (x.1 ≡ v.items) × (0 < length x.1)
-entries_each key [] x c = none_in x c
-entries_each key (e ∷ es) x c = ⊎_elim
+entries_each : {X : Type 0} (list : X → List ℕ) (key : ℕ → Key) (es : List (ℕ × X)) (x : KeyList) → Contains (lists_of_values list key es) x
+    → (n : ℕ) × (v : X) × Contains es (n, v) × (x.0 ≡ key n) × (x.1 ≡ list v) × (0 < length x.1)
+entries_each list key [] x c = none_in x c
+entries_each list key (e ∷ es) x c = ⊎_elim
     (λ (f, g, some). (e.0, e.1, here e es, f, g, subst (λ (ps : List ℕ). 0 < length ps) (sym g) some))
-    (λ d. let (n, v, m, f, g, some) = entries_each key es x d in (n, v, there e (n, v) es m, f, g, some))
-    (before_cases (key e.0) e.1.items (lists_of_entries key es) x c)
+    (λ d. let (n, v, m, f, g, some) = entries_each list key es x d in (n, v, there e (n, v) es m, f, g, some))
+    (before_cases (key e.0) (list e.1) (lists_of_values list key es) x c)
 
-entries_all : (key : ℕ → Key) (es : List (ℕ × Vec ℕ Global)) (n : ℕ) (v : Vec ℕ Global) → Contains es (n, v) → 0 < length v.items → Contains (lists_of_entries key es) (key n, v.items)
-entries_all key [] n v c some = none_in (n, v) c
-entries_all key (e ∷ es) n v c some = ⊎_elim
-    (λ f. subst (λ (x : ℕ × Vec ℕ Global). Contains (lists_of_entries key (e ∷ es)) (key x.0, x.1.items)) f (before_here (key e.0) e.1.items (lists_of_entries key es) (subst (λ (x : ℕ × Vec ℕ Global). 0 < length x.1.items) (sym f) some)))
-    (λ d. before_there (key e.0) e.1.items (lists_of_entries key es) (key n, v.items) (entries_all key es n v d some))
+entries_all : {X : Type 0} (list : X → List ℕ) (key : ℕ → Key) (es : List (ℕ × X)) (n : ℕ) (v : X) → Contains es (n, v) → 0 < length (list v) → Contains (lists_of_values list key es) (key n, list v)
+entries_all list key [] n v c some = none_in (n, v) c
+entries_all {X} list key (e ∷ es) n v c some = ⊎_elim
+    (λ f. subst (λ (x : ℕ × X). Contains (lists_of_values list key (e ∷ es)) (key x.0, list x.1)) f (before_here (key e.0) (list e.1) (lists_of_values list key es) (subst (λ (x : ℕ × X). 0 < length (list x.1)) (sym f) some)))
+    (λ d. before_there (key e.0) (list e.1) (lists_of_values list key es) (key n, list v) (entries_all list key es n v d some))
     (here_or e (n, v) es c)
 
 by_recursion : {X : Type 0} (P : X → Type 0) (xs : List X) → AllByRecursion P xs → (x : X) → Contains xs x → P x
 by_recursion P [] h x c = none_in x c
 by_recursion P (y ∷ ys) h x c = ⊎_elim (λ e. subst P e h.0) (λ d. by_recursion P ys h.1 x d) (here_or y x ys c)
 
-number_in : (es : List (ℕ × Vec ℕ Global)) (n : ℕ) (v : Vec ℕ Global) → Contains es (n, v) → Contains (keys_of es) n
+number_in : {X : Type 0} (es : List (ℕ × X)) (n : ℕ) (v : X) → Contains es (n, v) → Contains (keys_of es) n
 number_in [] n v c = none_in (n, v) c
-number_in (e ∷ es) n v c = ⊎_elim (λ f. subst (λ (x : ℕ × Vec ℕ Global). Contains (e.0 ∷ keys_of es) x.0) f (here e.0 (keys_of es))) (λ d. there e.0 n (keys_of es) (number_in es n v d)) (here_or e (n, v) es c)
+number_in {X} (e ∷ es) n v c = ⊎_elim (λ f. subst (λ (x : ℕ × X). Contains (e.0 ∷ keys_of es) x.0) f (here e.0 (keys_of es))) (λ d. there e.0 n (keys_of es) (number_in es n v d)) (here_or e (n, v) es c)
 
 below : (a b : ℕ) → nat_cmp a b ≡ Less → a < b
 below a b h = grind (arith, nat_tests)
 
-pub entries_ascend : (key : ℕ → Key) (es : List (ℕ × Vec ℕ Global)) → ((i j : ℕ) → i < j → Lower (key i) (key j)) → IsStrictlySortedBy nat_cmp (keys_of es) → Ascend (lists_of_entries key es)
+pub entries_ascend : {X : Type 0} (list : X → List ℕ) (key : ℕ → Key) (es : List (ℕ × X)) → ((i j : ℕ) → i < j → Lower (key i) (key j)) → IsStrictlySortedBy nat_cmp (keys_of es) → Ascend (lists_of_values list key es)
 unfolding IsStrictlySortedBy
-entries_ascend key [] low h = tt
-entries_ascend key (e ∷ es) low h = before_ascend (key e.0) e.1.items (lists_of_entries key es)
-    (λ y c. let (n, v, m, f, g, some) = entries_each key es y c in
+entries_ascend list key [] low h = tt
+entries_ascend list key (e ∷ es) low h = before_ascend (key e.0) (list e.1) (lists_of_values list key es)
+    (λ y c. let (n, v, m, f, g, some) = entries_each list key es y c in
     let less : nat_cmp e.0 n ≡ Less = by_recursion (λ (k : ℕ). nat_cmp e.0 k ≡ Less) (keys_of es) h.0 n (number_in es n v m) in
     subst (λ (k : Key). Lower (key e.0) k) (sym f) (low e.0 n (below e.0 n less)))
-    (entries_ascend key es low h.1)
+    (entries_ascend list key es low h.1)
 
 from_place : {X : Type 0} (xs : List X) (i : ℕ) (x : X) → slice_get xs i ≡ Some x → Contains xs x
 from_place xs i x e = ⊎_elim
@@ -124,8 +124,8 @@ from_place xs i x e = ⊎_elim
     (slice_get_cases xs i).1
 
 -- the list of a number that has positions is an entry
-entry_of : (m : BTreeMap ℕ (Vec ℕ Global)) (n : ℕ) → 0 < length (at_key nat_cmp m n) → (v : Vec ℕ Global) × (get nat_cmp m n ≡ Some v) × Contains m.entries (n, v)
-entry_of m n some = elim (get nat_cmp m n) as (λ (o : Option (Vec ℕ Global)). get nat_cmp m n ≡ o → 0 < length (unwrap_or (option_map (λ v. v.items) o) []) → (v : Vec ℕ Global) × (get nat_cmp m n ≡ Some v) × Contains m.entries (n, v)) [
+entry_of : {X : Type 0} (list : X → List ℕ) (m : BTreeMap ℕ X) (n : ℕ) → 0 < length (list_at list nat_cmp m n) → (v : X) × (get nat_cmp m n ≡ Some v) × Contains m.entries (n, v)
+entry_of {X} list m n some = elim (get nat_cmp m n) as (λ (o : Option X). get nat_cmp m n ≡ o → 0 < length (unwrap_or (option_map list o) []) → (v : X) × (get nat_cmp m n ≡ Some v) × Contains m.entries (n, v)) [
   | None ↦ λ e h. absurd (omega (arith, h))
   | Some v ↦ λ e h.
       let (i, j, place, passed) = place_from_lookup (is_at (nat_cmp n)) m.entries v e in
@@ -136,7 +136,7 @@ entry_of m n some = elim (get nat_cmp m n) as (λ (o : Option (Vec ℕ Global)).
 -- ---- one kind of keys
 
 -- a map's keys ascend, and each entry is found by its key
-abbrev pub IsMap : BTreeMap ℕ (Vec ℕ Global) → Type 0
+abbrev pub IsMap : {X : Type 0} → BTreeMap ℕ X → Type 0
 IsMap m = IsOrdered nat_cmp m × All (λ e. get nat_cmp m e.0 ≡ Some e.1) m.entries
 
 -- a list of a kind: its key, and its positions
@@ -152,18 +152,18 @@ of_number l key vs own x c =
 pub of_number_all : (key : ℕ → Key) (vs : List (Vec ℕ Global)) (n : ℕ) → 0 < length (at_number vs n) → Contains (lists_of_numbers key 0 vs) (key n, at_number vs n)
 of_number_all key vs n some = let z : 0 + n ≡ n = omega arith in subst (λ m. Contains (lists_of_numbers key 0 vs) (key m, at_number vs n)) z (numbers_all key 0 vs n some)
 
-items_of : (m : BTreeMap ℕ (Vec ℕ Global)) (n : ℕ) (v : Vec ℕ Global) → get nat_cmp m n ≡ Some v → at_key nat_cmp m n ≡ v.items
-items_of m n v e = ap (λ (o : Option (Vec ℕ Global)). unwrap_or (option_map (λ v. v.items) o) []) e
+list_of : {X : Type 0} (list : X → List ℕ) (m : BTreeMap ℕ X) (n : ℕ) (v : X) → get nat_cmp m n ≡ Some v → list_at list nat_cmp m n ≡ list v
+list_of {X} list m n v e = ap (λ (o : Option X). unwrap_or (option_map list o) []) e
 
-pub of_map : (l : PositionLists) (key : ℕ → Key) (m : BTreeMap ℕ (Vec ℕ Global)) → ((n : ℕ) → positions_at l (key n) ≡ at_key nat_cmp m n) → IsMap m → (x : KeyList) → Contains (lists_of_entries key m.entries) x → IsOf l key x
-of_map l key m own is x c =
-    let (n, v, i, e, f, some) = entries_each key m.entries x c in
-    let there_is = All-contains (λ (e : ℕ × Vec ℕ Global). get nat_cmp m e.0 ≡ Some e.1) m.entries (n, v) is.1 i in
-    (n, e, f ∙ (sym (items_of m n v there_is) ∙ (sym (own n) ∙ ap (positions_at l) (sym e))), some)
+pub of_map : {X : Type 0} (l : PositionLists) (key : ℕ → Key) (list : X → List ℕ) (m : BTreeMap ℕ X) → ((n : ℕ) → positions_at l (key n) ≡ list_at list nat_cmp m n) → IsMap m → (x : KeyList) → Contains (lists_of_values list key m.entries) x → IsOf l key x
+of_map {X} l key list m own is x c =
+    let (n, v, i, e, f, some) = entries_each list key m.entries x c in
+    let there_is = All-contains (λ (e : ℕ × X). get nat_cmp m e.0 ≡ Some e.1) m.entries (n, v) is.1 i in
+    (n, e, f ∙ (sym (list_of list m n v there_is) ∙ (sym (own n) ∙ ap (positions_at l) (sym e))), some)
 
-pub of_map_all : (key : ℕ → Key) (m : BTreeMap ℕ (Vec ℕ Global)) (n : ℕ) → 0 < length (at_key nat_cmp m n) → Contains (lists_of_entries key m.entries) (key n, at_key nat_cmp m n)
-of_map_all key m n some =
-    let (v, e, c) = entry_of m n some in
-    let items = items_of m n v e in
-    subst (λ (ps : List ℕ). Contains (lists_of_entries key m.entries) (key n, ps)) (sym items)
-    (entries_all key m.entries n v c (subst (λ (ps : List ℕ). 0 < length ps) items some))
+pub of_map_all : {X : Type 0} (key : ℕ → Key) (list : X → List ℕ) (m : BTreeMap ℕ X) (n : ℕ) → 0 < length (list_at list nat_cmp m n) → Contains (lists_of_values list key m.entries) (key n, list_at list nat_cmp m n)
+of_map_all key list m n some =
+    let (v, e, c) = entry_of list m n some in
+    let same = list_of list m n v e in
+    subst (λ (ps : List ℕ). Contains (lists_of_values list key m.entries) (key n, ps)) (sym same)
+    (entries_all list key m.entries n v c (subst (λ (ps : List ℕ). 0 < length ps) same some))

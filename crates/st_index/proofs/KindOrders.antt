@@ -9,7 +9,8 @@ use Rattle.st_walk.specs.declared.text.Key.{Key}
 use Rattle.st_walk.specs.declared.text.Key.TheVariants.{Proto, Port, Vlan, V4, Mpls, V6, Second}
 use Rattle.st_rows.specs.KeyOrder.{kind_of, number_of}
 use Rattle.st_index.specs.PositionLists.{positions_at}
-use Rattle.st_index.specs.EntryLists.{KeyList, lists_of_numbers, lists_of_entries}
+use Rattle.st_index.specs.EntryLists.{KeyList, lists_of_numbers, lists_of_values, lists_of_entries}
+use Rattle.st_index.specs.Slots.{in_slot}
 use Rattle.st_index.specs.KeyLists.{key_lists, Ascend, AreLists}
 use Rattle.st_index.specs.declared.lists.PositionLists.{PositionLists}
 use Rattle.st_index.proofs.KeyOrders.{here, there, Lower, IsMap, IsOf, numbers_ascend, entries_ascend, of_number, of_number_all, of_map, of_map_all}
@@ -74,6 +75,9 @@ all_of P (x ∷ xs) h = λ i d less. h (slice_index_or (x ∷ xs) i d) (i, less,
 
 -- ---- the lists of each kind, and those from a kind on
 
+abbrev items : Vec ℕ Global → List ℕ
+items v = v.items
+
 abbrev protos_of : PositionLists → List KeyList
 protos_of l = lists_of_numbers (λ n. Proto n) 0 l.protos.items
 
@@ -84,7 +88,7 @@ abbrev vlans_of : PositionLists → List KeyList
 vlans_of l = lists_of_entries (λ n. Vlan n) l.vlans.entries
 
 abbrev v4_of : PositionLists → List KeyList
-v4_of l = lists_of_entries (λ n. V4 n) l.v4_addresses.entries
+v4_of l = lists_of_values (in_slot l.v4_addresses.lists.items) (λ n. V4 n) l.v4_addresses.order.entries
 
 abbrev labels_of : PositionLists → List KeyList
 labels_of l = lists_of_entries (λ n. Mpls n) l.labels.entries
@@ -125,24 +129,24 @@ after_labels l x c = after_v4 l x (Contains-append_right (labels_of l) (from_v6 
 every : (l : PositionLists) (k : Key) → 0 < length (positions_at l k) → Contains (key_lists l) (k, positions_at l k)
 every l (Proto n) some = Contains-append_left (protos_of l) (from_ports l) _ (of_number_all (λ n. Proto n) l.protos.items n some)
 every l (Port n) some = Contains-append_right (protos_of l) (from_ports l) _ (Contains-append_left (ports_of l) (from_vlans l) _ (of_number_all (λ n. Port n) l.ports.items n some))
-every l (Vlan n) some = after_ports l _ (Contains-append_left (vlans_of l) (from_v4 l) _ (of_map_all (λ n. Vlan n) l.vlans n some))
-every l (V4 n) some = after_vlans l _ (Contains-append_left (v4_of l) (from_labels l) _ (of_map_all (λ n. V4 n) l.v4_addresses n some))
-every l (Mpls n) some = after_v4 l _ (Contains-append_left (labels_of l) (from_v6 l) _ (of_map_all (λ n. Mpls n) l.labels n some))
-every l (V6 n) some = after_labels l _ (Contains-append_left (v6_of l) (seconds_of l) _ (of_map_all (λ n. V6 n) l.v6_addresses n some))
-every l (Second n) some = after_labels l _ (Contains-append_right (v6_of l) (seconds_of l) _ (of_map_all (λ n. Second n) l.seconds n some))
+every l (Vlan n) some = after_ports l _ (Contains-append_left (vlans_of l) (from_v4 l) _ (of_map_all (λ n. Vlan n) items l.vlans n some))
+every l (V4 n) some = after_vlans l _ (Contains-append_left (v4_of l) (from_labels l) _ (of_map_all (λ n. V4 n) (in_slot l.v4_addresses.lists.items) l.v4_addresses.order n some))
+every l (Mpls n) some = after_v4 l _ (Contains-append_left (labels_of l) (from_v6 l) _ (of_map_all (λ n. Mpls n) items l.labels n some))
+every l (V6 n) some = after_labels l _ (Contains-append_left (v6_of l) (seconds_of l) _ (of_map_all (λ n. V6 n) items l.v6_addresses n some))
+every l (Second n) some = after_labels l _ (Contains-append_right (v6_of l) (seconds_of l) _ (of_map_all (λ n. Second n) items l.seconds n some))
 
 -- those of a map's kind ascend
-map_ascends : (key : ℕ → Key) (m : BTreeMap ℕ (Vec ℕ Global)) → ((n : ℕ) → kind_of (key n) ≡ kind_of (key 0)) → ((n : ℕ) → number_of (key n) ≡ n) → IsMap m → Ascend (lists_of_entries key m.entries)
-map_ascends key m kinds numbers is = entries_ascend key m.entries (by_number key kinds numbers) is.0
+map_ascends : {X : Type 0} (key : ℕ → Key) (list : X → List ℕ) (m : BTreeMap ℕ X) → ((n : ℕ) → kind_of (key n) ≡ kind_of (key 0)) → ((n : ℕ) → number_of (key n) ≡ n) → IsMap m → Ascend (lists_of_values list key m.entries)
+map_ascends key list m kinds numbers is = entries_ascend list key m.entries (by_number key kinds numbers) is.0
 
 -- the lists of the kinds that have maps
-of_maps : (l : PositionLists) → IsMap l.vlans → IsMap l.v4_addresses → IsMap l.labels → IsMap l.v6_addresses → IsMap l.seconds → AreFrom l 3 (from_vlans l)
+of_maps : (l : PositionLists) → IsMap l.vlans → IsMap l.v4_addresses.order → IsMap l.labels → IsMap l.v6_addresses → IsMap l.seconds → AreFrom l 3 (from_vlans l)
 of_maps l vlans v4 labels v6 seconds =
-    let last = of_one l (λ n. Second n) 7 (seconds_of l) (λ n. refl) (map_ascends (λ n. Second n) l.seconds (λ n. refl) (λ n. refl) seconds) (of_map l (λ n. Second n) l.seconds (λ n. refl) seconds) in
-    let sixth = before_later l (λ n. V6 n) 6 7 (v6_of l) (seconds_of l) (λ n. refl) (lit< tt) (map_ascends (λ n. V6 n) l.v6_addresses (λ n. refl) (λ n. refl) v6) (of_map l (λ n. V6 n) l.v6_addresses (λ n. refl) v6) last in
-    let fifth = before_later l (λ n. Mpls n) 5 6 (labels_of l) (from_v6 l) (λ n. refl) (lit< tt) (map_ascends (λ n. Mpls n) l.labels (λ n. refl) (λ n. refl) labels) (of_map l (λ n. Mpls n) l.labels (λ n. refl) labels) sixth in
-    let fourth = before_later l (λ n. V4 n) 4 5 (v4_of l) (from_labels l) (λ n. refl) (lit< tt) (map_ascends (λ n. V4 n) l.v4_addresses (λ n. refl) (λ n. refl) v4) (of_map l (λ n. V4 n) l.v4_addresses (λ n. refl) v4) fifth in
-    before_later l (λ n. Vlan n) 3 4 (vlans_of l) (from_v4 l) (λ n. refl) (lit< tt) (map_ascends (λ n. Vlan n) l.vlans (λ n. refl) (λ n. refl) vlans) (of_map l (λ n. Vlan n) l.vlans (λ n. refl) vlans) fourth
+    let last = of_one l (λ n. Second n) 7 (seconds_of l) (λ n. refl) (map_ascends (λ n. Second n) items l.seconds (λ n. refl) (λ n. refl) seconds) (of_map l (λ n. Second n) items l.seconds (λ n. refl) seconds) in
+    let sixth = before_later l (λ n. V6 n) 6 7 (v6_of l) (seconds_of l) (λ n. refl) (lit< tt) (map_ascends (λ n. V6 n) items l.v6_addresses (λ n. refl) (λ n. refl) v6) (of_map l (λ n. V6 n) items l.v6_addresses (λ n. refl) v6) last in
+    let fifth = before_later l (λ n. Mpls n) 5 6 (labels_of l) (from_v6 l) (λ n. refl) (lit< tt) (map_ascends (λ n. Mpls n) items l.labels (λ n. refl) (λ n. refl) labels) (of_map l (λ n. Mpls n) items l.labels (λ n. refl) labels) sixth in
+    let fourth = before_later l (λ n. V4 n) 4 5 (v4_of l) (from_labels l) (λ n. refl) (lit< tt) (map_ascends (λ n. V4 n) (in_slot l.v4_addresses.lists.items) l.v4_addresses.order (λ n. refl) (λ n. refl) v4) (of_map l (λ n. V4 n) (in_slot l.v4_addresses.lists.items) l.v4_addresses.order (λ n. refl) v4) fifth in
+    before_later l (λ n. Vlan n) 3 4 (vlans_of l) (from_v4 l) (λ n. refl) (lit< tt) (map_ascends (λ n. Vlan n) items l.vlans (λ n. refl) (λ n. refl) vlans) (of_map l (λ n. Vlan n) items l.vlans (λ n. refl) vlans) fourth
 
 -- the lists of all kinds
 of_all : (l : PositionLists) → AreFrom l 3 (from_vlans l) → AreFrom l 1 (key_lists l)
@@ -150,7 +154,7 @@ of_all l later =
     let second = before_later l (λ n. Port n) 2 3 (ports_of l) (from_vlans l) (λ n. refl) (lit< tt) (numbers_ascend (λ n. Port n) 0 l.ports.items (by_number (λ n. Port n) (λ n. refl) (λ n. refl))) (of_number l (λ n. Port n) l.ports.items (λ n. refl)) later in
     before_later l (λ n. Proto n) 1 2 (protos_of l) (from_ports l) (λ n. refl) (lit< tt) (numbers_ascend (λ n. Proto n) 0 l.protos.items (by_number (λ n. Proto n) (λ n. refl) (λ n. refl))) (of_number l (λ n. Proto n) l.protos.items (λ n. refl)) second
 
-pub are_lists : (l : PositionLists) → IsMap l.vlans → IsMap l.v4_addresses → IsMap l.labels → IsMap l.v6_addresses → IsMap l.seconds → AreLists l (key_lists l)
+pub are_lists : (l : PositionLists) → IsMap l.vlans → IsMap l.v4_addresses.order → IsMap l.labels → IsMap l.v6_addresses → IsMap l.seconds → AreLists l (key_lists l)
 are_lists l vlans v4 labels v6 seconds =
     let all = of_all l (of_maps l vlans v4 labels v6 seconds) in
     record {

@@ -16,6 +16,7 @@ pub mod OneDamage
 pub mod OneFailure
 pub mod Deciding
 pub mod Ties
+pub mod Slotting
 pub mod KeyOrders
 pub mod KindOrders
 pub mod RowsOf

@@ -17,10 +17,15 @@ abbrev pub lists_of_numbers : (ℕ → Key) → ℕ → List (Vec ℕ Global) �
 lists_of_numbers key n [] = []
 lists_of_numbers key n (v ∷ vs) = list_before (key n) v.items (lists_of_numbers key (n + 1) vs)
 
--- those of the entries of a map
+-- those of the entries of a map whose values have these lists
+abbrev pub lists_of_values : {N X : Type 0} → (X → List ℕ) → (N → Key) → List (N × X) → List KeyList
+lists_of_values list key [] = []
+lists_of_values list key (e ∷ es) =
+    list_before (key e.0) (list e.1) (lists_of_values list key es)
+
+-- those of the entries of a map of lists
 abbrev pub lists_of_entries : {N : Type 0} → (N → Key) → List (N × Vec ℕ Global) → List KeyList
-lists_of_entries key [] = []
-lists_of_entries key (e ∷ es) = list_before (key e.0) e.1.items (lists_of_entries key es)
+lists_of_entries key es = lists_of_values (λ v. v.items) key es
 
 -- of the lists to come the first was given, or there is none
 abbrev pub GivesList : List KeyList → List KeyList → Option KeyList → Type 0

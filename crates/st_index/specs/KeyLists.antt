@@ -5,7 +5,8 @@ use Rattle.st_walk.specs.declared.text.Key.{Key}
 use Rattle.st_walk.specs.declared.text.Key.TheVariants.{Proto, Port, Vlan, V4, Mpls, V6, Second}
 use Rattle.st_rows.specs.KeyOrder.{key_cmp}
 use Rattle.st_index.specs.PositionLists.{positions_at}
-use Rattle.st_index.specs.EntryLists.{KeyList, lists_of_numbers, lists_of_entries}
+use Rattle.st_index.specs.EntryLists.{KeyList, lists_of_numbers, lists_of_values, lists_of_entries}
+use Rattle.st_index.specs.Slots.{in_slot}
 use Rattle.st_index.specs.declared.lists.PositionLists.{PositionLists}
 use Rattle.st_index.specs.declared.key_lists.KeyLists.{KeyLists}
 
@@ -15,7 +16,8 @@ key_lists l =
     lists_of_numbers (λ n. Proto n) 0 l.protos.items
     ++ (lists_of_numbers (λ n. Port n) 0 l.ports.items
     ++ (lists_of_entries (λ n. Vlan n) l.vlans.entries
-    ++ (lists_of_entries (λ n. V4 n) l.v4_addresses.entries
+    ++ (lists_of_values (in_slot l.v4_addresses.lists.items) (λ n. V4 n)
+    l.v4_addresses.order.entries
     ++ (lists_of_entries (λ n. Mpls n) l.labels.entries
     ++ (lists_of_entries (λ n. V6 n) l.v6_addresses.entries
     ++ lists_of_entries (λ n. Second n) l.seconds.entries)))))
@@ -26,7 +28,7 @@ lists_left s =
     lists_of_numbers (λ n. Proto n) s.protos.number s.protos.rest.now
     ++ (lists_of_numbers (λ n. Port n) s.ports.number s.ports.rest.now
     ++ (lists_of_entries (λ n. Vlan n) s.vlans
-    ++ (lists_of_entries (λ n. V4 n) s.v4_addresses
+    ++ (lists_of_values (in_slot s.v4_addresses.lists.now) (λ n. V4 n) s.v4_addresses.order
     ++ (lists_of_entries (λ n. Mpls n) s.labels
     ++ (lists_of_entries (λ n. V6 n) s.v6_addresses
     ++ lists_of_entries (λ n. Second n) s.seconds)))))

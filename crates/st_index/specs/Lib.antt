@@ -5,6 +5,8 @@ pub mod Verdict
 pub mod CheckIndex
 pub mod CheckLaws
 pub mod NumberedLists
+pub mod Slots
+pub mod AddressLists
 pub mod CheckPackets
 pub mod PositionLists
 pub mod Summaries

@@ -8,9 +8,13 @@ use Rattle.std.specs.declared.cmp.Ordering.{Ordering}
 abbrev pub at_number : List (Vec ℕ Global) → ℕ → List ℕ
 at_number lists n = unwrap_or (option_map (λ v. v.items) (slice_get lists n)) []
 
--- the list of a key in a map of this order, empty if there is none
+-- the list of a key in a map of this order whose values have these lists, empty if there is none
+abbrev pub list_at : {N X : Type 0} → (X → List ℕ) → (N → N → Ordering) → BTreeMap N X → N → List ℕ
+list_at list cmp m k = unwrap_or (option_map list (get cmp m k)) []
+
+-- the list of a key in a map of lists
 abbrev pub at_key : {N : Type 0} → (N → N → Ordering) → BTreeMap N (Vec ℕ Global) → N → List ℕ
-at_key cmp lists k = unwrap_or (option_map (λ v. v.items) (get cmp lists k)) []
+at_key cmp lists k = list_at (λ v. v.items) cmp lists k
 
 -- the last of these positions is this one
 abbrev pub ends_with : List ℕ → ℕ → Bool

@@ -5,6 +5,7 @@ ghost use Rattle.st_walk.specs.declared.text.Key.{Key};
 ghost use Rattle.st_index.specs.EntryLists.{GivesList, lists_of_entries};
 ghost use Rattle.st_index.specs.declared.lists.TheConstants.{PROTOS, PORTS};
 
+use crate::addresses::AddressList;
 use crate::lists::PositionLists;
 use st_walk::Key;
 use std::collections::btree_map::Iter;
@@ -60,13 +61,46 @@ fn next_keyed<'a, N: Copy>(lists: &mut Iter<'a, N, Vec<u32>>) -> Option<(N, &'a 
     None
 }
 
+/// The lists of the addresses that are still to come, in the order of addresses.
+#[derive(Drop)]
+struct Addressed<'a> {
+    /// The slot of each address.
+    order: Iter<'a, u32, usize>,
+    lists: &'a [AddressList],
+}
+
+impl<'a> Addressed<'a> {
+    ghost use Rattle.std.specs.Prelude.{◌≡◌, ℕ, ◌<◌, length, option_map, IfSome};
+    ghost use Rattle.st_walk.specs.declared.text.Key.{Key};
+    ghost use Rattle.st_index.specs.Slots.{in_slot};
+    ghost use Rattle.st_index.specs.EntryLists.{lists_of_values, GivesList};
+
+    /// The next address that has positions, and these.
+    fn next(&mut self) -> Option<(u32, &'a [u32])>
+        ensures list { (key : ℕ → Key)
+            → GivesList (lists_of_values (in_slot self.old.lists.now) key self.old.order)
+            (lists_of_values (in_slot self.new.lists.now) key self.new.order)
+            (option_map (λ x. (key x.0, x.1.now)) result) }
+        ensures some { IfSome result (λ x. 0 < length x.1.now) }
+    {
+        'lists: while let Some((address, slot)) = self.order.next() {
+            if let Some(list) = self.lists.get(*slot) {
+                if !list.positions.is_empty() {
+                    return Some((*address, list.positions.as_slice()));
+                }
+            }
+        }
+        None
+    }
+}
+
 /// The lists that have positions and are still to come, in the order of their keys.
 #[derive(Drop)]
 pub(crate) struct KeyLists<'a> {
     protos: Numbered<'a>,
     ports: Numbered<'a>,
     vlans: Iter<'a, u16, Vec<u32>>,
-    v4_addresses: Iter<'a, u32, Vec<u32>>,
+    v4_addresses: Addressed<'a>,
     labels: Iter<'a, u32, Vec<u32>>,
     v6_addresses: Iter<'a, u128, Vec<u32>>,
     seconds: Iter<'a, u32, Vec<u32>>,
@@ -94,7 +128,10 @@ impl<'a> KeyLists<'a> {
                 rest: lists.ports.as_slice(),
             },
             vlans: lists.vlans.iter(),
-            v4_addresses: lists.v4_addresses.iter(),
+            v4_addresses: Addressed {
+                order: lists.v4_addresses.order.iter(),
+                lists: lists.v4_addresses.lists.as_slice(),
+            },
             labels: lists.labels.iter(),
             v6_addresses: lists.v6_addresses.iter(),
             seconds: lists.seconds.iter(),
@@ -117,7 +154,7 @@ impl<'a> KeyLists<'a> {
         if let Some((id, list)) = next_keyed(&mut self.vlans) {
             return Some((Key::Vlan(id), list));
         }
-        if let Some((address, list)) = next_keyed(&mut self.v4_addresses) {
+        if let Some((address, list)) = self.v4_addresses.next() {
             return Some((Key::V4(address), list));
         }
         if let Some((label, list)) = next_keyed(&mut self.labels) {

@@ -28,11 +28,13 @@
 //! # Where to read
 //!
 //! `specs/Maker.antt` says which packets a maker has, `specs/Write.antt` which bytes are written.
-//! What a maker keeps: `specs/NumberedLists.antt`, `PositionLists`, `Summaries`; how it is gone
-//! over: `EntryLists`, `KeyLists`, `RowList`. Then `lists`, `maker`; `key_lists`, `row_list`,
-//! `write`. What a check of a pair answers: `Verdict`, `CheckRows`; then `checker`.
+//! What a maker keeps: `specs/NumberedLists.antt`, `Slots`, `AddressLists`, `PositionLists`,
+//! `Summaries`; how it is gone over: `EntryLists`, `KeyLists`, `RowList`. Then `lists`,
+//! `addresses`, `maker`; `key_lists`, `row_list`, `write`. What a check of a pair answers:
+//! `Verdict`, `CheckRows`; then `checker`.
 #![tactic(auto)]
 
+mod addresses;
 mod checker;
 mod key_lists;
 mod lists;

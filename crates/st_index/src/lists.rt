@@ -5,6 +5,7 @@ ghost use Rattle.std.specs.Ordering.{is_eq};
 ghost use Rattle.st_index.specs.NumberedLists.{at_number, at_key, ends_with, with_last, without_last};
 ghost use Rattle.st_index.specs.declared.lists.TheConstants.{PROTOS, PORTS};
 
+use crate::addresses::AddressLists;
 use st_walk::{Key, keys};
 use std::alloc::{AllocError, Global};
 use std::collections::BTreeMap;
@@ -23,7 +24,7 @@ fn ends_with(list: &[u32], position: u32) -> bool
 }
 
 // Puts the position at the end of a list, unless it is there. After `AllocError` the list stays.
-fn put_last(list: &mut Vec<u32>, position: u32) -> Result<(), AllocError>
+pub(crate) fn put_last(list: &mut Vec<u32>, position: u32) -> Result<(), AllocError>
     ensures put { OnOk result (list.new.items ≡ with_last list.old.items position) }
     ensures same { OnErr result (list.new.items ≡ list.old.items) }
 {
@@ -35,7 +36,7 @@ fn put_last(list: &mut Vec<u32>, position: u32) -> Result<(), AllocError>
 }
 
 // Takes the position from the end of a list, if it is there.
-fn take_last(list: &mut Vec<u32>, position: u32)
+pub(crate) fn take_last(list: &mut Vec<u32>, position: u32)
     ensures { list.new.items ≡ without_last list.old.items position }
 {
     if ends_with(list.as_slice(), position) {
@@ -127,7 +128,7 @@ pub(crate) struct PositionLists {
     /// By VLAN identifier.
     pub(crate) vlans: BTreeMap<u16, Vec<u32>>,
     /// By address of IPv4.
-    pub(crate) v4_addresses: BTreeMap<u32, Vec<u32>>,
+    pub(crate) v4_addresses: AddressLists,
     /// By label of MPLS.
     pub(crate) labels: BTreeMap<u32, Vec<u32>>,
     /// By address of IPv6.
@@ -154,7 +155,7 @@ impl PositionLists {
             protos: Vec::new(alloc),
             ports: Vec::new(alloc),
             vlans: BTreeMap::new(alloc),
-            v4_addresses: BTreeMap::new(alloc),
+            v4_addresses: AddressLists::new(alloc),
             labels: BTreeMap::new(alloc),
             v6_addresses: BTreeMap::new(alloc),
             seconds: BTreeMap::new(alloc),
@@ -178,7 +179,7 @@ impl PositionLists {
             }
             Key::Port(port) => put_numbered(alloc, &mut self.ports, usize::from(port), position),
             Key::Vlan(id) => put_keyed(alloc, &mut self.vlans, id, position),
-            Key::V4(address) => put_keyed(alloc, &mut self.v4_addresses, address, position),
+            Key::V4(address) => self.v4_addresses.put(alloc, address, position),
             Key::Mpls(label) => put_keyed(alloc, &mut self.labels, label, position),
             Key::V6(address) => put_keyed(alloc, &mut self.v6_addresses, address, position),
             Key::Second(second) => put_keyed(alloc, &mut self.seconds, second, position),
@@ -197,7 +198,7 @@ impl PositionLists {
             Key::Proto(number) => take_numbered(&mut self.protos, usize::from(number), position),
             Key::Port(port) => take_numbered(&mut self.ports, usize::from(port), position),
             Key::Vlan(id) => take_keyed(&mut self.vlans, &id, position),
-            Key::V4(address) => take_keyed(&mut self.v4_addresses, &address, position),
+            Key::V4(address) => self.v4_addresses.take(address, position),
             Key::Mpls(label) => take_keyed(&mut self.labels, &label, position),
             Key::V6(address) => take_keyed(&mut self.v6_addresses, &address, position),
             Key::Second(second) => take_keyed(&mut self.seconds, &second, position),
