@@ -50,7 +50,8 @@ fn run(rt: &HostRuntime) -> Result<bool> {
         }
         [command, table] if command.as_str() == "count" => count(rt, table.as_str())?,
         _ => bail!(
-            "usage: pair_files pack SIZE, index BLOCKS, check BLOCKS INDEX, answer BLOCKS INDEX QUERY, count INDEX"
+            "usage: pair_files pack SIZE, index BLOCKS, check BLOCKS INDEX, \
+             answer BLOCKS INDEX QUERY, count INDEX"
         ),
     }
     Ok(true)

@@ -27,8 +27,8 @@
 //!   check ends `Done` only if each pair is whole (`done_is_whole`).
 //!
 //! `DiskFault` and `WriteFault` come only with their cause, and after every other end than
-//! `WriteFault` the output's count of faults stayed (`disk`, `write`). All files that were lent come
-//! back (`loans`).
+//! `WriteFault` the output's count of faults stayed (`disk`, `write`). All files that were lent
+//! come back (`loans`).
 //!
 //! # Where to read
 //!

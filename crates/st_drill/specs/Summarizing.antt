@@ -67,7 +67,8 @@ pub record Summarizes (packets limit : ℕ) (before known : Option Log) (old new
       (λ text. (loaded ≡ load.Done)
       × IsSummary packets (length packed.loads.pairs)
       (set_of (h ++ events_of packed.loads.acts)) (string_bytes text))
-      (λ ended. ((loaded ≡ load.Done) × AnswerFails (set_of (h ++ events_of packed.loads.acts)) ended)
+      (λ ended. ((loaded ≡ load.Done)
+      × AnswerFails (set_of (h ++ events_of packed.loads.acts)) ended)
       ⊎ EndsUnloaded loaded ended)
 
 -- the ways in which there is no summary

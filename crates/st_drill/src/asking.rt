@@ -72,7 +72,8 @@ fn ask<D: Shelf>(
         → D.log spool.old.shelf ≡ Some log
         → StandsFor IsWholePair (D.log spool.old.shelf) spool.old.state earlier h f
         → MatchResult result
-        (λ told. IsWholeSet (set_of h) → CountsMatches (set_of h) question told) (AnswerFails (set_of h)) }
+        (λ told. IsWholeSet (set_of h) → CountsMatches (set_of h) question told)
+        (AnswerFails (set_of h)) }
     ensures breaks { IfErr result IsAnswerFailure }
     ensures disk { HasShelfCause (D.faults spool.old.shelf) (D.faults spool.new.shelf) result }
     // what stays

@@ -11,7 +11,8 @@
 //!   never fails (`DrillSource::new`, and `read` of `Source`).
 //! - That pcap is a whole input of these packets, as many as were asked for, in the order of their
 //!   numbers (`laws`).
-//! - Each query of a drill is the one that its text spells (`DrillQuery::query`, `DrillQuery::text`).
+//! - Each query of a drill is the one that its text spells (`DrillQuery::query`,
+//!   `DrillQuery::text`).
 //! - A drill loads its packets as a load of that pcap does, then asks, then writes. Its summary
 //!   has the number of pairs that it published, and the counts of the answers over the spool's file
 //!   set, if the pairs that were found are whole; nothing is written before (`drill`, `job`).

@@ -23,4 +23,5 @@ earlier (Some first) failure = Some first
 
 -- one fault more
 abbrev pub add_fault : FaultsView → Failure → FaultsView
-add_fault before failure = record { count = next_count before.count; first = earlier before.first failure }
+add_fault before failure =
+    record { count = next_count before.count; first = earlier before.first failure }

@@ -36,7 +36,8 @@ impl Model for PcapReader {
 
     ghost view = { λ a. record { phase = a.phase; taken = a.taken; number = a.number } };
 
-    ghost invariant = { λ a. IsInBounds (record { phase = a.phase; taken = a.taken; number = a.number }) };
+    ghost invariant = { λ a. IsInBounds
+        (record { phase = a.phase; taken = a.taken; number = a.number }) };
 }
 
 impl PcapReader {

@@ -40,7 +40,8 @@ fn run(rt: &HostRuntime) -> Result<()> {
         [command, path] if command.as_str() == "print" => print(rt, path.as_str()),
         [command, path] if command.as_str() == "find" => find(rt, path.as_str()),
         _ => bail!(
-            "usage: table_rows make < LINES > FILE, table_rows print FILE, table_rows find FILE < KEYS"
+            "usage: table_rows make < LINES > FILE, table_rows print FILE, \
+             table_rows find FILE < KEYS"
         ),
     }
 }

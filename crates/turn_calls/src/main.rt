@@ -8,10 +8,10 @@
 //!
 //! # What it leaves to others
 //!
-//! That it prints what it should is only tried: a publication's stamp is one more than the last, from
-//! 1 on; the limit is one pair, so the first ageing removes the pair of stamp 1, whose files stay
-//! readable while they are held, and the second finds nothing to remove; the release removes these
-//! files, and a draft that was given up is gone too.
+//! That it prints what it should is only tried: a publication's stamp is one more than the last,
+//! from 1 on; the limit is one pair, so the first ageing removes the pair of stamp 1, whose files
+//! stay readable while they are held, and the second finds nothing to remove; the release removes
+//! these files, and a draft that was given up is gone too.
 #![tactic(auto)]
 
 mod caller;

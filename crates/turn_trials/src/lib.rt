@@ -4,7 +4,8 @@
 //! # What it promises
 //!
 //! - Each call over a pass has the pass go on as the same one of its shared spool, with the holds
-//!   that it had, whatever fails (`publish_pair`, `publish`, `age`, `block_byte`, `index_byte`: `same`, `holds`).
+//!   that it had, whatever fails (`publish_pair`, `publish`, `age`, `block_byte`, `index_byte`:
+//!   `same`, `holds`).
 //! - Each job runs once, with its own pass, on a thread of its own or one after another (`all`).
 //!
 //! # What it leaves to others

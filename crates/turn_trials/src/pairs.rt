@@ -92,8 +92,8 @@ pub fn publish_pair<D: Shelf, R: Wait>(
     }
 }
 
-/// Publishes a pair whose files have these bytes, as `publish_pair` does. None, too, if a file could
-/// not be made.
+/// Publishes a pair whose files have these bytes, as `publish_pair` does. None, too, if a file
+/// could not be made.
 pub fn publish<D: Shelf, R: Wait>(
     rt: &R,
     shared: &SharedSpool<D>,

@@ -124,7 +124,8 @@ fn plain_number(text: &str) -> Option<u64>
 // Whether a number's text begins with no plus, and with a zero only if it is that.
 fn is_plain(digits: &[u8]) -> bool
     ensures { IsTrue result
-        ↔ ((slice_index digits.now 0 ≢ 43) × (slice_index digits.now 0 ≡ 48 → length digits.now ≡ 1)) }
+        ↔ ((slice_index digits.now 0 ≢ 43)
+        × (slice_index digits.now 0 ≡ 48 → length digits.now ≡ 1)) }
 {
     if digits.is_empty() {
         return true;

@@ -73,7 +73,8 @@ impl RealShelf {
     /// The line that names the first failure's call, its path and the system's words for it.
     pub fn failure_line(&self, alloc: Global) -> Result<Option<String>, AllocError>
         ensures { IfOk result (λ line. MatchOption line (self.now.faults.first ≡ None)
-            (λ text. IsLineOf (string_bytes self.now.root) self.now.faults.first (string_bytes text))) }
+            (λ text. IsLineOf (string_bytes self.now.root) self.now.faults.first
+            (string_bytes text))) }
     {
         let Some(failure) = self.faults.first() else {
             return Ok(None);
