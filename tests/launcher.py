@@ -8,6 +8,7 @@ import os
 import pathlib
 import pty
 import re
+import resource
 import shutil
 import signal
 import subprocess
@@ -25,9 +26,9 @@ BUILDING = b"proving and building first"
 PROVED = ["proved high", "proved low", "proved side", "proved steno"]
 
 # Writes down what it is asked for, and which crates it proved. 'run' makes a program that prints the
-# text of its source, its arguments, with SHOWS what the C library is asked for, and its input; a source
-# with the word 'wrong' is not proved. TOOLCHAIN_EDITS has it write to that file first, and
-# TOOLCHAIN_LINGERS has it stay once the program is made.
+# text of its source, its arguments, with SHOWS what the C library is asked for and how many files may
+# be open, and its input; a source with the word 'wrong' is not proved. TOOLCHAIN_EDITS has it write to
+# that file first, and TOOLCHAIN_LINGERS has it stay once the program is made.
 TOOLCHAIN = r"""#!/usr/bin/env bash
 echo "$*, in ${PWD##*/}" >>"$TOOLCHAIN_LOG"
 case $1 in
@@ -46,7 +47,7 @@ run)
   [ -z "${TOOLCHAIN_EDITS:-}" ] || printf edited >"$TOOLCHAIN_EDITS"
   mkdir -p out
   { printf '#!/usr/bin/env bash\ntext=%q\n' "$(cat src/main.rt)"
-    printf '%s\n' 'printf "%s\0" "$text" "$@"; [ -z "${SHOWS:-}" ] || printf "%s\0" "$GLIBC_TUNABLES"; cat; exit 5'
+    printf '%s\n' 'printf "%s\0" "$text" "$@"; [ -z "${SHOWS:-}" ] || printf "%s\0" "$GLIBC_TUNABLES" "$(ulimit -S -n)"; cat; exit 5'
   } >out/steno.new
   chmod +x out/steno.new && mv out/steno.new out/steno
   echo linked >>"$TOOLCHAIN_LOG"
@@ -85,11 +86,15 @@ class Repository:
         path = os.pathsep.join([str(self.tools), "/usr/bin", "/bin"])
         return {"PATH": path, "TOOLCHAIN_LOG": str(self.log), **more}
 
-    def start(self, *arguments, stdin=b"", launcher=None, **more):
-        """Starts the launcher; gives its output, messages and status, and what rt was asked for."""
+    def start(self, *arguments, stdin=b"", launcher=None, files=None, **more):
+        """Starts the launcher; gives its output, messages and status, and what rt was asked for.
+
+        `files` are the soft and the hard limit of open files, if they are given.
+        """
         self.log.write_text("")
+        limit = (lambda: resource.setrlimit(resource.RLIMIT_NOFILE, files)) if files else None
         done = subprocess.run([launcher or self.root / "steno", *arguments], input=stdin, capture_output=True,
-                              env=self.surroundings(**more), timeout=SECONDS)
+                              env=self.surroundings(**more), timeout=SECONDS, preexec_fn=limit)
         return done.stdout, done.stderr, done.returncode, self.log.read_text().splitlines()
 
 
@@ -155,6 +160,14 @@ def asks_for_memory(repository):
     yield "what the caller asks the C library for stays", seen[0].split(b"\0")[1] == b"glibc.malloc.arena_max=1", seen
     seen = repository.start(SHOWS="1", GLIBC_TUNABLES="")
     yield "a caller that asks it for nothing", seen[0].split(b"\0")[1] == b"", seen
+
+
+def raises_the_limit_of_open_files(repository):
+    repository.start()
+    for soft, hard in ((64, 256), (256, 256)):
+        seen = repository.start(SHOWS="1", files=(soft, hard))
+        good = seen[0].split(b"\0")[2:3] == [b"256"] and seen[1:3] == (b"", 5)
+        yield f"of {hard} open files, {soft} before", good, seen
 
 
 def source(repository, line):
@@ -344,8 +357,10 @@ def says_how_far_it_is(repository):
     yield "elsewhere it says once that it builds", built(seen, "second") and seen[1].count(b"\n") == 1 and b"\r" not in seen[1], seen
 
 
-GROUPS = [starts, passes_arguments, asks_for_memory, takes_a_program_that_was_built, builds_by_content, builds_by_toolchain,
-          refuses_what_is_not_proved, builds_again_after_a_break, proves_side_by_side, leaves_no_list, says_how_far_it_is]
+GROUPS = [starts, passes_arguments, asks_for_memory, raises_the_limit_of_open_files,
+          takes_a_program_that_was_built, builds_by_content, builds_by_toolchain,
+          refuses_what_is_not_proved, builds_again_after_a_break, proves_side_by_side, leaves_no_list,
+          says_how_far_it_is]
 
 
 def main():
