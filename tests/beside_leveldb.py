@@ -1,8 +1,9 @@
 #!/usr/bin/env python3
-"""Compares tables with LevelDB's: each program reads what the other writes, and gives the same rows.
+"""Compares tables with LevelDB's: each program reads what the other writes, and gives the same
+rows.
 
-Sums are verified. First each byte is tried as a digit of table_rows' lines. What needs LevelDB is left
-out, and that is said, if a C++ compiler or LevelDB's headers are missing (Debian: g++,
+Sums are verified. First each byte is tried as a digit of table_rows' lines. What needs LevelDB is
+left out, and that is said, if a C++ compiler or LevelDB's headers are missing (Debian: g++,
 libleveldb-dev). The last line is 'N passed, M failed'; the status is 0 if none failed.
 """
 import pathlib
@@ -109,7 +110,8 @@ def refusals(theirs, folder):
 
 
 def digits():
-    """Each byte as the first and as the second digit of a value: it is read, or the line is refused."""
+    """Each byte as the first and as the second digit of a value: it is read, or the line is
+    refused."""
     for byte in set(range(256)) - {0x0A}:
         good = byte in b"0123456789abcdefABCDEF"
         for text in (bytes([byte, 0x30]), bytes([0x30, byte])):

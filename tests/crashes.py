@@ -1,19 +1,21 @@
 #!/usr/bin/env python3
-"""Kills `steno load` and `steno drill` at random moments, and looks at what is left of the spool each time.
+"""Kills `steno load` and `steno drill` at random moments, and looks at what is left of the spool
+each time.
 
 Usage: crashes.py [--kills N] [--seed N]
 
-Loads with blocks of 4,096 bytes, two to a pair, are killed by SIGKILL: N times (15 by default) without
-a limit and a third as often with `--limit 2`, after a random time or shortly after a random line.
-Whoever was told of a pair finds it: the pairs that are there are those whose lines were printed and at
-most the one in flight, their packets are those of the input in its order, as this script's own reader
-of block files finds them; `check` calls each pair whole; `query` gives exactly their packets; and the
-next load works, and leaves no file that belongs to no pair. With the limit the pairs are the newest of
-those that were published, and none is missing between. Then `load` is killed before each of its calls
-of the system during one publication, in turn, if there is a C compiler. A drill of three pairs is killed
-half as often, after a random time or shortly after a pair of its own is there: what was in the spool
-stays, of the drill's pairs the first ones are there, `check` calls each whole, and the next drill or load
-works. The last line is 'N passed, M failed'; the status is 0 if none failed.
+Loads with blocks of 4,096 bytes, two to a pair, are killed by SIGKILL: N times (15 by default)
+without a limit and a third as often with `--limit 2`, after a random time or shortly after a random
+line. Whoever was told of a pair finds it: the pairs that are there are those whose lines were
+printed and at most the one in flight, their packets are those of the input in its order, as this
+script's own reader of block files finds them; `check` calls each pair whole; `query` gives exactly
+their packets; and the next load works, and leaves no file that belongs to no pair. With the limit
+the pairs are the newest of those that were published, and none is missing between. Then `load` is
+killed before each of its calls of the system during one publication, in turn, if there is a C
+compiler. A drill of three pairs is killed half as often, after a random time or shortly after a
+pair of its own is there: what was in the spool stays, of the drill's pairs the first ones are
+there, `check` calls each whole, and the next drill or load works. The last line is 'N passed, M
+failed'; the status is 0 if none failed.
 """
 import argparse
 import os
@@ -65,7 +67,8 @@ class Spool:
         return [tuple(map(int, line.split())) for line in self.lines.read_text().split("\n")[:-1]]
 
     def look(self, packets):
-        """What is wrong after a load of these packets that came so far, in words; what is there is known from then on."""
+        """What is wrong after a load of these packets that came so far, in words; what is there is
+        known from then on."""
         pairs = spool.cut(packets, SIZE, BLOCKS)
         told, there = self.told(), spool.stamps(self.folder) if os.path.isdir(os.path.join(self.folder, "IDX0")) else []
         found = {stamp: spool.packets_of(self.folder, stamp) for stamp in there}
@@ -162,7 +165,8 @@ def kills(folder, numbers, count, options, seconds):
 
 
 def at_each_call(folder, numbers):
-    """Kills a load of two pairs before each call of the system that it makes on the spool, in turn."""
+    """Kills a load of two pairs before each call of the system that it makes on the spool, in turn.
+    """
     compiler = shutil.which("cc") or shutil.which("gcc") or shutil.which("clang")
     library = folder / "calls.so"
     if compiler is None or subprocess.run([compiler, "-O1", "-shared", "-fPIC", "-o", library, SOURCE, "-ldl"],
@@ -218,7 +222,8 @@ class Drilled:
         return ([] if said == (spool.drill_summary(count, self.pairs), b"", 0) else [f"a drill says {said}"]) + self.look()
 
     def look(self, in_flight=()):
-        """What is wrong if the spool is to have its pairs, and perhaps the first of these, in words; `check` is asked too."""
+        """What is wrong if the spool is to have its pairs, and perhaps the first of these, in
+        words; `check` is asked too."""
         stamps = spool.stamps(self.folder)
         there = [spool.packets_of(self.folder, stamp) for stamp in stamps]
         if there not in [self.pairs + list(in_flight[:count]) for count in range(len(in_flight) + 1)]:
@@ -232,7 +237,8 @@ class Drilled:
         return wrong
 
     def kill(self, seconds):
-        """Kills a drill after a random time, or shortly after a pair of it is there; whether it still ran."""
+        """Kills a drill after a random time, or shortly after a pair of it is there; whether it
+        still ran."""
         child = subprocess.Popen([*STENO, "drill", self.folder, str(DRILLED)], stdin=subprocess.DEVNULL,
                                  stdout=subprocess.PIPE, stderr=subprocess.PIPE)
         if self.numbers.random() < 0.5:
@@ -277,7 +283,8 @@ def main():
     parser.add_argument("--kills", type=int, default=15)
     parser.add_argument("--seed", type=int, default=7)
     given = parser.parse_args()
-    subprocess.run([ROOT / "steno"], stdin=subprocess.DEVNULL, capture_output=True)  # builds the program if need be
+    # Builds the program if need be.
+    subprocess.run([ROOT / "steno"], stdin=subprocess.DEVNULL, capture_output=True)
     with tempfile.TemporaryDirectory() as name:
         return report(cases(pathlib.Path(name), given.kills, random.Random(given.seed)))
 

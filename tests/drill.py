@@ -136,7 +136,8 @@ def damage_summary(folder):
 
 def runs(folder):
     spool = folder / "spool"
-    subprocess.run([STENO], stdin=subprocess.DEVNULL, capture_output=True)  # builds the program if need be
+    # Builds the program if need be.
+    subprocess.run([STENO], stdin=subprocess.DEVNULL, capture_output=True)
     for name, wanted in ("one drill", ONCE), ("a second one, over the pairs of both", TWICE):
         seen = steno("drill", spool, 20000)
         yield f"the program writes the summary of {name}", seen == (0, wanted, ""), seen

@@ -166,8 +166,8 @@ def cases():
 
 
 def relative_times():
-    """A packet of ten minutes ago, and one of ninety, each on the right side of each time: the clock
-    counts seconds since 1970, and goes on."""
+    """A packet of ten minutes ago, and one of ninety, each on the right side of each time: the
+    clock counts seconds since 1970, and goes on."""
     for minutes, times in ((10, [("1m", "15m"), ("9m", "11m"), ("0h", "1h")]), (90, [("89m", "91m"), ("1h", "2h")])):
         packet = micro(int(time.time()) - 60 * minutes, 0, "udp53")
         for near, far in times:

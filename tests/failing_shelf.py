@@ -1,10 +1,11 @@
 #!/usr/bin/env python3
-"""Has each call of the file system fail that a shelf makes, one at a time, and looks at what is left.
+"""Has each call of the file system fail that a shelf makes, one at a time, and looks at what is
+left.
 
 The program is shelf_probe, and then steno with each of its commands on a spool; a library that is
-preloaded before it (tests/preload/calls.c) writes down its calls and fails those that it is told to.
-It is left out, and that is said, if there is no C compiler. The last line is 'N passed, M failed'; the
-status is 0 if none failed.
+preloaded before it (tests/preload/calls.c) writes down its calls and fails those that it is told
+to. It is left out, and that is said, if there is no C compiler. The last line is 'N passed, M
+failed'; the status is 0 if none failed.
 """
 import errno
 import os
@@ -46,12 +47,14 @@ class Probe:
         return Session(self.program, spool, env={**os.environ, **more})
 
     def written(self):
-        """The calls that were written down, as lists of texts, with paths below the folder; answers too."""
+        """The calls that were written down, as lists of texts, with paths below the folder; answers
+        too."""
         lines = pathlib.Path(self.log).read_text(errors="surrogateescape").splitlines()
         return [[word.removeprefix(self.folder + "/") for word in line.split(" ") if word] for line in lines]
 
     def calls(self, asked, fail=""):
-        """What the program answers to these calls in an empty folder, and its calls of the system for each."""
+        """What the program answers to these calls in an empty folder, and its calls of the system
+        for each."""
         spool = os.path.join(self.folder, "above", "spool")
         shutil.rmtree(self.folder, ignore_errors=True)
         os.mkdir(self.folder)
@@ -110,7 +113,8 @@ def keeps_the_order(probe):
 
 
 def above(path):
-    """The folder that a path of the log lies in; of the topmost folder the log has the empty path."""
+    """The folder that a path of the log lies in; of the topmost folder the log has the empty path.
+    """
     return path.rpartition("/")[0]
 
 
@@ -142,7 +146,8 @@ def is_locked(probe, spool):
 
 
 def counted(parts):
-    """Each call of the system in its turn: its kind, which of its kind it is, and for which shelf call it was made."""
+    """Each call of the system in its turn: its kind, which of its kind it is, and for which shelf
+    call it was made."""
     counts = {}
     for place, part in enumerate(parts):
         for line in part:
@@ -151,7 +156,8 @@ def counted(parts):
 
 
 def run_with_fault(probe, fail):
-    """Makes the calls in an empty folder while one call of the system fails, and each call again that failed.
+    """Makes the calls in an empty folder while one call of the system fails, and each call again
+    that failed.
 
     Gives the answers of those that succeeded, the places and answers of those that failed, what was
     half done or unlocked after them, and the count of faults.
@@ -224,7 +230,8 @@ def meets_two_faults(probe):
         answers, _ = probe.calls(calls, f"{kind}:1:{errno.EIO},unlink:1:{errno.EIO}")
         if kind == "write":
             answers, _ = probe.calls(calls, f"write:1:{errno.ENOSPC},unlink:1:{errno.EIO}")
-        # A failed rename is counted by the shelf at once, and the draft's own faults as it is given up.
+        # A failed rename is counted by the shelf at once, and the draft's own faults as it is given
+        # up.
         counts = ("2",) if kind == "rename" else ("1", "2")
         good = answers[:2] == [step, "draft block 0, ok"] and answers[2] in counts
         good = good and answers[3:7] == ["ok", "block 1, draft block 0, ok", "ok", "block 1, ok"] and answers[7] == answers[2]
@@ -264,7 +271,8 @@ MANY = 400
 
 
 def lists_all_or_nothing(probe):
-    """A folder whose names take several reads: each that fails is a fault, and no list is shorter."""
+    """A folder whose names take several reads: each that fails is a fault, and no list is shorter.
+    """
     spool = os.path.join(probe.folder, "spool")
     for folder in ("PKT0", "IDX0"):
         os.makedirs(os.path.join(spool, folder))
@@ -298,13 +306,15 @@ CALL_NAMES = {"open": ["open", "create", "list"], "write": ["write"], "read": ["
 
 
 def place_of(name, path):
-    """The path that the second line names: of a list that of the folder, and of no folder with a slash at its end."""
+    """The path that the second line names: of a list that of the folder, and of no folder with a
+    slash at its end."""
     path = path.rstrip("/")
     return path if name != "list" or os.path.basename(path) in ("PKT0", "IDX0") else os.path.dirname(path)
 
 
 class Commands:
-    """The program's commands over a spool of these packets and a left draft, with the library before it."""
+    """The program's commands over a spool of these packets and a left draft, with the library
+    before it."""
 
     def __init__(self, library, folder, count=130):
         self.folder, self.spool, self.library = folder, os.path.join(folder, "spool"), library
@@ -319,7 +329,8 @@ class Commands:
         pathlib.Path(self.input).write_bytes(spools.write_pcap(self.new))
 
     def run(self, command, options, fail="", spool=None):
-        """Output, messages and status of a command on the spool, and the calls that it made there."""
+        """Output, messages and status of a command on the spool, and the calls that it made there.
+        """
         pathlib.Path(self.log).write_text("")
         more = {"LD_PRELOAD": self.library, "CALLS_LOG": self.log, "CALLS_UNDER": self.folder, "CALLS_FAIL": fail}
         words = [STENO, command.split()[0], spool or self.spool, *options]
@@ -334,7 +345,8 @@ class Commands:
         shutil.copytree(self.fresh, self.spool)
 
     def is_sound(self, told, limit=None):
-        """Whether the pairs are the old ones and the new ones that were told of, or one more, and answers are theirs."""
+        """Whether the pairs are the old ones and the new ones that were told of, or one more, and
+        answers are theirs."""
         there = [spools.packets_of(self.spool, stamp) for stamp in spools.stamps(self.spool)]
         old, new = self.pairs
         may_be = [(old + new[:count]) for count in (told, told + 1) if count <= len(new)]
@@ -355,7 +367,8 @@ def numbered(calls):
 
 
 def failing_calls(commands, command, options):
-    """Each call of the system that a command makes on the spool: its line, and which of its kind it is."""
+    """Each call of the system that a command makes on the spool: its line, and which of its kind it
+    is."""
     commands.anew()
     yield from numbered(commands.run(command, options)[1])
 
@@ -406,16 +419,19 @@ class Drills(Commands):
         [self.stamp] = spools.stamps(self.fresh)
 
     def without_stamps(self, text):
-        """A text in which each stamp but that of the old pair, which goes by the clock, is another word."""
+        """A text in which each stamp but that of the old pair, which goes by the clock, is another
+        word."""
         return spools.STAMP.sub(lambda found: found[0] if int(found[0], 16) == self.stamp else "new", text)
 
     def drill(self, count, fail=""):
-        """Output, messages and status of a drill in the spool as it was at first, and its calls there."""
+        """Output, messages and status of a drill in the spool as it was at first, and its calls
+        there."""
         self.anew()
         return self.run("drill", [str(count)], fail)
 
     def left(self, pairs):
-        """What is wrong if the spool is to have these pairs, in words; another drill is made last."""
+        """What is wrong if the spool is to have these pairs, in words; another drill is made last.
+        """
         wrong, stamps = [], spools.stamps(self.spool)
         if [spools.packets_of(self.spool, stamp) for stamp in stamps] != pairs:
             wrong.append(f"the pairs are {stamps}")
@@ -435,7 +451,8 @@ class Drills(Commands):
         return wrong
 
     def fails(self, count, line, fail, made, words="Input/output error"):
-        """Whether a drill whose call of this line fails writes nothing, says so, and leaves the old pair and these ones."""
+        """Whether a drill whose call of this line fails writes nothing, says so, and leaves the old
+        pair and these ones."""
         said, _ = self.drill(count, fail)
         lines = [f"steno: the spool failed\nsteno: {name} {place_of(name, line[1])}: {words}\n" for name in CALL_NAMES[line[0]]]
         good = (said[0], said[2]) == (b"", 7) and self.without_stamps(said[1]) in map(self.without_stamps, lines)
@@ -449,7 +466,8 @@ def settled(calls):
 
 
 def drill_meets_each_fault(drills):
-    """Nothing is written. From the call on that gives its block file the name the pair is there, and before it is not."""
+    """Nothing is written. From the call on that gives its block file the name the pair is there,
+    and before it is not."""
     made = spools.drill_pairs(ONE)
     clean, calls = drills.drill(ONE)
     yield "drill works", clean == (spools.drill_summary(ONE, [drills.old, *made]), "", 0) and len(calls) > 60, clean
@@ -494,7 +512,8 @@ def cases(folder):
         place = os.path.join(folder, group.__name__)
         os.mkdir(place)
         yield from group(Probe(program, library, place))
-    subprocess.run([LAUNCHER], stdin=subprocess.DEVNULL, capture_output=True)  # builds the program if need be
+    # Builds the program if need be.
+    subprocess.run([LAUNCHER], stdin=subprocess.DEVNULL, capture_output=True)
     for group in (commands_meet_each_fault, commands_meet_a_full_disk):
         place = os.path.join(folder, group.__name__)
         os.mkdir(place)

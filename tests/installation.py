@@ -1,9 +1,10 @@
 #!/usr/bin/env python3
-"""Tries what is installed: packaging/install and uninstall, the manual pages, the completions and the loader.
+"""Tries what is installed: packaging/install and uninstall, the manual pages, the completions and
+the loader.
 
 The commands and options that pages and completions have to know are those of the tables of
-docs/FORMAT.md, "Command line". Completion for zsh is only read. The last line is 'N passed, M failed';
-the status is 0 if none failed.
+docs/FORMAT.md, "Command line". Completion for zsh is only read. The last line is 'N passed, M
+failed'; the status is 0 if none failed.
 """
 import os
 import pathlib
@@ -106,7 +107,8 @@ def installs(folder):
 
 
 def captures(folder):
-    """Puts four captures into a folder, the oldest first: two good ones, one that is cut, and a good one."""
+    """Puts four captures into a folder, the oldest first: two good ones, one that is cut, and a
+    good one."""
     folder.mkdir()
     good = (ROOT / "samples" / "mixed.pcap").read_bytes()
     for age, (name, text) in enumerate((("new.pcap", good), ("cut.pcap", good[:100]), ("b b.pcap", good), ("-a.pcap", good))):
@@ -155,7 +157,8 @@ def cases(folder):
 
 
 def main():
-    subprocess.run([ROOT / "steno"], stdin=subprocess.DEVNULL, capture_output=True)  # builds the program if need be
+    # Builds the program if need be.
+    subprocess.run([ROOT / "steno"], stdin=subprocess.DEVNULL, capture_output=True)
     with tempfile.TemporaryDirectory() as folder:
         return report(cases(pathlib.Path(folder)))
 

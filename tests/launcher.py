@@ -25,10 +25,10 @@ NOT_BUILT = 70
 BUILDING = b"proving and building first"
 PROVED = ["proved high", "proved low", "proved side", "proved steno"]
 
-# Writes down what it is asked for, and which crates it proved. 'run' makes a program that prints the
-# text of its source, its arguments, with SHOWS what the C library is asked for and how many files may
-# be open, and its input; a source with the word 'wrong' is not proved. TOOLCHAIN_EDITS has it write to
-# that file first, and TOOLCHAIN_LINGERS has it stay once the program is made.
+# Writes down what it is asked for, and which crates it proved. 'run' makes a program that prints
+# the text of its source, its arguments, with SHOWS what the C library is asked for and how many
+# files may be open, and its input; a source with the word 'wrong' is not proved. TOOLCHAIN_EDITS
+# has it write to that file first, and TOOLCHAIN_LINGERS has it stay once the program is made.
 TOOLCHAIN = r"""#!/usr/bin/env bash
 echo "$*, in ${PWD##*/}" >>"$TOOLCHAIN_LOG"
 case $1 in
@@ -60,7 +60,8 @@ esac
 
 
 class Repository:
-    """A repository with a launcher, three crates that the program is built from, and another one."""
+    """A repository with a launcher, three crates that the program is built from, and another one.
+    """
 
     def __init__(self, folder):
         self.root = pathlib.Path(folder)
@@ -196,7 +197,8 @@ def set_back(path):
 
 
 def builds_by_content(repository):
-    """Each change of a source is seen, whatever the file's time; a change of a time alone builds nothing."""
+    """Each change of a source is seen, whatever the file's time; a change of a time alone builds
+    nothing."""
     source = repository.root / "crates/steno/src/main.rt"
     set_back(source)
     repository.start()
@@ -265,7 +267,8 @@ def refuses_what_is_not_proved(repository):
 
 
 def builds_again_after_a_break(repository):
-    """Where a build was killed, or its sources changed meanwhile, no program is taken for theirs."""
+    """Where a build was killed, or its sources changed meanwhile, no program is taken for theirs.
+    """
     repository.start()
     for until, how in (("all check", {"TOOLCHAIN_SLEEPS": "30"}), ("linked", {"TOOLCHAIN_LINGERS": "30"})):
         repository.write("crates/steno/src/main.rt", "second")

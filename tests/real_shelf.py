@@ -1,8 +1,8 @@
 #!/usr/bin/env python3
 """Tries the shelf in a file system by the program shelf_probe, failures of the system included.
 
-What the machine does not allow (as root to become another user, a mount of one's own) is left out, and
-said. The last line is 'N passed, M failed'; the status is 0 if none failed.
+What the machine does not allow (as root to become another user, a mount of one's own) is left out,
+and said. The last line is 'N passed, M failed'; the status is 0 if none failed.
 """
 import os
 import pathlib
@@ -22,7 +22,8 @@ NOBODY = 65534
 
 
 def build(folder):
-    """A copy of the program that every user may run. The gate has built it; if it is missing, it is proved and built first."""
+    """A copy of the program that every user may run. The gate has built it; if it is missing, it is
+    proved and built first."""
     program = CRATE / "out" / "shelf_probe"
     if not program.exists():
         built = subprocess.run(["rt", "run", "--", os.path.join(folder, "first")], cwd=CRATE, stdin=subprocess.DEVNULL, capture_output=True)
@@ -165,7 +166,8 @@ def keeps_parked_files(program, folder):
 
 
 def make_strangers(place):
-    """Puts into a folder what is no file of a shelf, in both kinds of name: links, a pipe, folders, other names."""
+    """Puts into a folder what is no file of a shelf, in both kinds of name: links, a pipe, folders,
+    other names."""
     os.symlink("0000000000000001", os.path.join(place, "0000000000000002"))
     os.symlink("nowhere", os.path.join(place, "0000000000000003"))
     os.symlink(".", os.path.join(place, "0000000000000004"))

@@ -1,13 +1,14 @@
 #!/usr/bin/env python3
-"""Runs each block of commands of docs/RECIPES.md, and compares what it prints with the block below it.
+"""Runs each block of commands of docs/RECIPES.md, and compares what it prints with the block below
+it.
 
 Usage: recipes.py [PROGRAM]     (PROGRAM: the program to try, the launcher by default)
 
-Each block runs in a folder of its own, by bash, which ends at the first command that fails. Comments
-above a block, which a reader of the page doesn't see, name the tools that it needs, what is done
-before it and what after it. Captures are replayed from a file, ssh and sudo stay on the machine and
-with the user. A block whose tools are not all there is left out, and that is said. The last line is 'N
-passed, M failed'; the status is 0 if none failed.
+Each block runs in a folder of its own, by bash, which ends at the first command that fails.
+Comments above a block, which a reader of the page doesn't see, name the tools that it needs, what
+is done before it and what after it. Captures are replayed from a file, ssh and sudo stay on the
+machine and with the user. A block whose tools are not all there is left out, and that is said. The
+last line is 'N passed, M failed'; the status is 0 if none failed.
 """
 import os
 import pathlib
@@ -26,7 +27,8 @@ SECONDS = 60
 # What stands for programs that need rights, an interface or another machine.
 STANDINS = {
     "tcpdump": r"""#!/usr/bin/env bash
-# A capture from an interface replays a file; a file for so many seconds is one of so many megabytes.
+# A capture from an interface replays a file; a file for so many seconds is one of so many
+# megabytes.
 real=%(tcpdump)s arguments=() live=
 for word; do [ "$word" != -i ] || live=yes; done
 [ -n "$live" ] || exec "$real" "$@"
@@ -100,7 +102,8 @@ damage_first_pair() {
 
 
 def blocks():
-    """Each block of commands: its name, its notes, its commands, and what it is to print, None if that is not said."""
+    """Each block of commands: its name, its notes, its commands, and what it is to print, None if
+    that is not said."""
     found, title, notes, lines, kind = [], "", {}, [], None
     for line in PAGE.read_text(encoding="ascii").split("\n"):
         note = re.fullmatch(r"<!-- (\w+): (.*) -->", line)

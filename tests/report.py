@@ -2,7 +2,8 @@
 
 
 def report(cases):
-    """Takes (name, whether it is good, what was seen) of each case; gives the status, 0 if none failed."""
+    """Takes (name, whether it is good, what was seen) of each case; gives the status, 0 if none
+    failed."""
     passed, failed = 0, 0
     for name, good, detail in cases:
         passed, failed = passed + good, failed + (not good)

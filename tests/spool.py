@@ -108,7 +108,8 @@ def drill_pairs(count):
 
 
 def drill_summary(count, pairs):
-    """What a drill of so many packets writes over a spool that has these pairs then, its own among them."""
+    """What a drill of so many packets writes over a spool that has these pairs then, its own among
+    them."""
     lines = [f"drill {count}", f"pairs {len(drill_pairs(count))}"]
     packets = [packet for pair in pairs for packet in pair]
     for text, holds in DRILL_QUERIES.items():

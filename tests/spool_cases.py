@@ -137,7 +137,8 @@ def plain_frame(k):
 
 
 def takes_any_input(folder):
-    """A compressed capture by a pipe, captures that follow one another, other forms of pcap, none, and broken ones."""
+    """A compressed capture by a pipe, captures that follow one another, other forms of pcap, none,
+    and broken ones."""
     packets = list(records(random.Random(5), 900))
     pieces = [packets[at : at + 300] for at in range(0, 900, 300)]
     there = folder / "zipped"
@@ -240,7 +241,8 @@ COMMANDS = [("load",), ("list",), ("check",), ("query", "udp"), ("drill", "1")]
 
 
 def each_fails(name, folder, line, **more):
-    """Each command ends because the spool failed, with a second line that says which call, and leaves the folder as it was."""
+    """Each command ends because the spool failed, with a second line that says which call, and
+    leaves the folder as it was."""
     text = samples()["mixed"]
     before = content(folder)
     for command, *rest in COMMANDS:
@@ -313,7 +315,8 @@ def meets_full_outputs(folder):
 
 
 def meets_a_full_disk(folder):
-    """A file system of 96 KiB of its own: what was told of before it was full is there, and whole."""
+    """A file system of 96 KiB of its own: what was told of before it was full is there, and whole.
+    """
     packets = list(records(random.Random(13), 2000))
     pairs = spool.cut(packets, 4096, 2)
     script = """

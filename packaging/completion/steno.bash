@@ -23,8 +23,8 @@ _steno_values() {
   esac
 }
 
-# What may come next in a query after these words, which a blank parts. Of values these are some that
-# show how they are written.
+# What may come next in a query after these words, which a blank parts. Of values these are some
+# that show how they are written.
 _steno_next() {
   local last=${1##* } before close='' opened=${1//[^(]/} closed=${1//[^)]/}
   before=${1% *} before=${before##* }

@@ -6,9 +6,9 @@ Usage: make.py [--check]     (--check: change nothing, and name each page that i
 A source is Markdown as the project's documents use it, and begins with the line `# NAME SECTION`.
 `## ` begins a section of the page and `### ` a part of one. A line `@FILE` is replaced by what FILE
 says before its first section, and a line `@FILE TITLE` by the section of that title; `@@FILE` and
-`@@FILE TITLE` leave tables and examples out. Of what is taken, links keep their text alone, the list
-of other documents at the head of a document goes, and so does each sentence that names a crate's
-files: a reader of the pages does not have them.
+`@@FILE TITLE` leave tables and examples out. Of what is taken, links keep their text alone, the
+list of other documents at the head of a document goes, and so does each sentence that names a
+crate's files: a reader of the pages does not have them.
 """
 import pathlib
 import re
@@ -29,7 +29,8 @@ LONGEST_WORD = 24
 # ---- what is taken from a document
 
 def sections(text):
-    """The text before the first heading but the title, by None, and that of each heading, with its depth."""
+    """The text before the first heading but the title, by None, and that of each heading, with its
+    depth."""
     found, title, depth, fenced = {None: (1, [])}, None, 1, False
     inside = []
     for line in text.split("\n"):
@@ -61,7 +62,8 @@ def without_examples(lines):
 
 
 def taken(request, depth):
-    """The lines that a request for a part of a document is replaced by, under a heading of this depth."""
+    """The lines that a request for a part of a document is replaced by, under a heading of this
+    depth."""
     short = request.startswith("@@")
     file, _, title = request.lstrip("@").partition(" ")
     found = sections((ROOT / file).read_text(encoding="ascii"))
