@@ -1,6 +1,5 @@
 #!/usr/bin/env python3
-"""Compares tables with LevelDB's: each program reads what the other writes, and gives the same
-rows.
+"""Compares tables with LevelDB's: each program reads what the other writes.
 
 Sums are verified. First each byte is tried as a digit of table_rows' lines. What needs LevelDB is
 left out, and that is said, if a C++ compiler or LevelDB's headers are missing (Debian: g++,

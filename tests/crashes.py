@@ -1,6 +1,5 @@
 #!/usr/bin/env python3
-"""Kills `steno load` and `steno drill` at random moments, and looks at what is left of the spool
-each time.
+"""Kills `steno load` and `steno drill` at random moments, and looks at what is left of the spool.
 
 Usage: crashes.py [--kills N] [--seed N]
 
@@ -165,8 +164,7 @@ def kills(folder, numbers, count, options, seconds):
 
 
 def at_each_call(folder, numbers):
-    """Kills a load of two pairs before each call of the system that it makes on the spool, in turn.
-    """
+    """Kills a load of two pairs before each of its calls of the system on the spool, in turn."""
     compiler = shutil.which("cc") or shutil.which("gcc") or shutil.which("clang")
     library = folder / "calls.so"
     if compiler is None or subprocess.run([compiler, "-O1", "-shared", "-fPIC", "-o", library, SOURCE, "-ldl"],

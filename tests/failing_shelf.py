@@ -1,6 +1,5 @@
 #!/usr/bin/env python3
-"""Has each call of the file system fail that a shelf makes, one at a time, and looks at what is
-left.
+"""Has each call of the file system that a shelf makes fail in turn, and looks at what is left.
 
 The program is shelf_probe, and then steno with each of its commands on a spool; a library that is
 preloaded before it (tests/preload/calls.c) writes down its calls and fails those that it is told
@@ -113,8 +112,7 @@ def keeps_the_order(probe):
 
 
 def above(path):
-    """The folder that a path of the log lies in; of the topmost folder the log has the empty path.
-    """
+    """The folder that a path of the log lies in; the topmost folder has the empty path there."""
     return path.rpartition("/")[0]
 
 
@@ -271,8 +269,7 @@ MANY = 400
 
 
 def lists_all_or_nothing(probe):
-    """A folder whose names take several reads: each that fails is a fault, and no list is shorter.
-    """
+    """A folder whose names take several reads: one that fails is a fault, no list is shorter."""
     spool = os.path.join(probe.folder, "spool")
     for folder in ("PKT0", "IDX0"):
         os.makedirs(os.path.join(spool, folder))
@@ -329,8 +326,7 @@ class Commands:
         pathlib.Path(self.input).write_bytes(spools.write_pcap(self.new))
 
     def run(self, command, options, fail="", spool=None):
-        """Output, messages and status of a command on the spool, and the calls that it made there.
-        """
+        """Output, messages and status of a command on the spool, and its calls there."""
         pathlib.Path(self.log).write_text("")
         more = {"LD_PRELOAD": self.library, "CALLS_LOG": self.log, "CALLS_UNDER": self.folder, "CALLS_FAIL": fail}
         words = [STENO, command.split()[0], spool or self.spool, *options]
@@ -430,8 +426,7 @@ class Drills(Commands):
         return self.run("drill", [str(count)], fail)
 
     def left(self, pairs):
-        """What is wrong if the spool is to have these pairs, in words; another drill is made last.
-        """
+        """What is wrong, in words, if the spool is to have these pairs; last comes a drill."""
         wrong, stamps = [], spools.stamps(self.spool)
         if [spools.packets_of(self.spool, stamp) for stamp in stamps] != pairs:
             wrong.append(f"the pairs are {stamps}")

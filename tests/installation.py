@@ -1,6 +1,5 @@
 #!/usr/bin/env python3
-"""Tries what is installed: packaging/install and uninstall, the manual pages, the completions and
-the loader.
+"""Tries what is installed: packaging/install and uninstall, manual pages, completions, the loader.
 
 The commands and options that pages and completions have to know are those of the tables of
 docs/FORMAT.md, "Command line". Completion for zsh is only read. The last line is 'N passed, M

@@ -60,8 +60,7 @@ esac
 
 
 class Repository:
-    """A repository with a launcher, three crates that the program is built from, and another one.
-    """
+    """A repository with a launcher, three crates that the program is built from, and another."""
 
     def __init__(self, folder):
         self.root = pathlib.Path(folder)
@@ -267,8 +266,7 @@ def refuses_what_is_not_proved(repository):
 
 
 def builds_again_after_a_break(repository):
-    """Where a build was killed, or its sources changed meanwhile, no program is taken for theirs.
-    """
+    """Where a build was killed or its sources changed meanwhile, no program is taken for theirs."""
     repository.start()
     for until, how in (("all check", {"TOOLCHAIN_SLEEPS": "30"}), ("linked", {"TOOLCHAIN_LINGERS": "30"})):
         repository.write("crates/steno/src/main.rt", "second")

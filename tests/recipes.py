@@ -1,6 +1,5 @@
 #!/usr/bin/env python3
-"""Runs each block of commands of docs/RECIPES.md, and compares what it prints with the block below
-it.
+"""Runs the blocks of commands of docs/RECIPES.md, and compares what they print with what it says.
 
 Usage: recipes.py [PROGRAM]     (PROGRAM: the program to try, the launcher by default)
 

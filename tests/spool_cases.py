@@ -315,8 +315,7 @@ def meets_full_outputs(folder):
 
 
 def meets_a_full_disk(folder):
-    """A file system of 96 KiB of its own: what was told of before it was full is there, and whole.
-    """
+    """A file system of 96 KiB of its own: what was told before it was full is there, and whole."""
     packets = list(records(random.Random(13), 2000))
     pairs = spool.cut(packets, 4096, 2)
     script = """

@@ -1,7 +1,7 @@
 #!/usr/bin/env python3
 """Makes the manual pages from *.md in this folder and the documents that these take parts of.
 
-Usage: make.py [--check]     (--check: change nothing, and name each page that is not as it would be made)
+Usage: make.py [--check]     (--check: change nothing, and name each page that would be another)
 
 A source is Markdown as the project's documents use it, and begins with the line `# NAME SECTION`.
 `## ` begins a section of the page and `### ` a part of one. A line `@FILE` is replaced by what FILE
