@@ -24,7 +24,7 @@ use Rattle.st_spool.proofs.Histories.{set_more}
 use Rattle.st_load.specs.Acts.{Act, Happens, Writes, line_text, events_of, lines_of, happen, removals, newest}
 use Rattle.st_load.specs.Job.{Situation, Adds, AddsAll}
 use Rattle.st_load.specs.Loading.{Covered, Loads, EndsJob, WritesLines, situation}
-use Rattle.st_load.specs.Publishing.{Ages, AgesAll, AtMost, AddsPair, WritesLine}
+use Rattle.st_load.specs.Publishing.{Ages, AgesAll, AreAdded, AddsPair, WritesLine}
 use Rattle.st_load.specs.declared.ends.LoadEnd.{LoadEnd}
 use Rattle.st_load.specs.declared.ends.LoadEnd.TheVariants as end
 use Rattle.st_load.proofs.Covered.{covered_then}
@@ -147,7 +147,7 @@ module _ (limit size : ℕ) (before : SpoolState) (earlier h : List Event) (rs :
   -- a removal failed
   pub finish_some : (first mid known : Option Log) (st : SpoolState) (old new : Option (List ℕ)) → Covered first mid h (Publish e ∷ []) [] → Ages mid known st earlier (h ++ Publish e ∷ [])
       → st.limit ≡ limit → Appends old new (line_text e.stamp (length rs))
-      → Loads (AddsAll limit size start) (AtMost rs end.DiskFault) end.DiskFault first known st earlier h times old new
+      → Loads (AddsAll limit size start) (AreAdded rs end.DiskFault) end.DiskFault first known st earlier h times old new
   finish_some first mid known st old new covered ages lim line =
       let acts_of : List Act = Happens (Publish e) ∷ Writes e.stamp (length rs) ∷ happen ages.events in
       let is : all_acts ≡ acts_of ++ happen ages.to_come =
@@ -173,9 +173,9 @@ module _ (limit size : ℕ) (before : SpoolState) (earlier h : List Event) (rs :
   -- the line was not written, or not whole
   pub finish_line : (failed : LoadEnd) (first known : Option Log) (st : SpoolState) (f : Files) (old new : Option (List ℕ)) → Covered first known h (Publish e ∷ []) [] → StandsFor IsWholePair known st earlier (h ++ Publish e ∷ []) f
       → st.doubt ≡ doubt.Nothing → WritesLine e.stamp (length rs) old new (Err failed)
-      → Loads (AddsAll limit size start) (AtMost rs failed) failed first known st earlier h times old new
+      → Loads (AddsAll limit size start) (AreAdded rs failed) failed first known st earlier h times old new
   finish_line failed first known st f old new covered stands no_doubt line = ⊎_elim
-      (λ (memory, same). subst (λ (x : LoadEnd). Loads (AddsAll limit size start) (AtMost rs x) x first known st earlier h times old new) (sym memory) (record {
+      (λ (memory, same). subst (λ (x : LoadEnd). Loads (AddsAll limit size start) (AreAdded rs x) x first known st earlier h times old new) (sym memory) (record {
         pairs = rs ∷ [];
         are = inr refl;
         acts = Happens (Publish e) ∷ [];
@@ -191,7 +191,7 @@ module _ (limit size : ℕ) (before : SpoolState) (earlier h : List Event) (rs :
         doubt = (Writes e.stamp (length rs) ∷ happen gone, ap (λ es. happen es ++ Writes e.stamp (length rs) ∷ happen gone) (sym (none_doubted st.doubt f no_doubt)));
         images = begun_none first known h (Publish e ∷ []) st.doubt f no_doubt covered;
       }))
-      (λ (fault, (n, some)). subst (λ (x : LoadEnd). Loads (AddsAll limit size start) (AtMost rs x) x first known st earlier h times old new) (sym fault) (record {
+      (λ (fault, (n, some)). subst (λ (x : LoadEnd). Loads (AddsAll limit size start) (AreAdded rs x) x first known st earlier h times old new) (sym fault) (record {
         pairs = rs ∷ [];
         are = inr refl;
         acts = Happens (Publish e) ∷ [];
@@ -212,7 +212,7 @@ module _ (limit size : ℕ) (before : SpoolState) (earlier h : List Event) (rs :
   -- the publication failed
   pub finish_none : (first known : Option Log) (st : SpoolState) (f : Files) (old : Option (List ℕ)) → Covered first known h [] (begun st.doubt f) → StandsFor IsWholePair known st earlier h f
       → in_doubt st.doubt f ≡ Publish e ∷ []
-      → Loads (AddsAll limit size start) (AtMost rs end.DiskFault) end.DiskFault first known st earlier h times old old
+      → Loads (AddsAll limit size start) (AreAdded rs end.DiskFault) end.DiskFault first known st earlier h times old old
   finish_none first known st f old covered stands is = record {
     pairs = rs ∷ [];
     are = inr refl;

@@ -22,7 +22,7 @@ use Rattle.st_load.specs.Causes.{IsFailure, EndsUnopened}
 use Rattle.st_load.specs.Job.{IsJob}
 use Rattle.st_load.specs.Loading.{Loads, EndsJob, AreCutFrom, WritesLines, situation}
 use Rattle.st_load.specs.Opening.{LoadsOpened, LoadsShelf}
-use Rattle.st_load.specs.Publishing.{Runs}
+use Rattle.st_load.specs.Publishing.{KeepsLimitAndHolds}
 use Rattle.st_load.specs.declared.ends.LoadEnd.{LoadEnd}
 use Rattle.st_load.specs.declared.ends.LoadEnd.TheVariants as end
 use Rattle.st_load.proofs.Covered.{covers_join}
@@ -142,7 +142,7 @@ module _ (limit : ℕ) (layout : LanePlan) (first : Log) (mid known : Option Log
 
 -- a load into the spool that was opened is a load of the shelf
 pub load_opened : (limit : ℕ) (layout : LanePlan) (first : Log) (mid known : Option Log) (left times times_now old new : Option (List ℕ)) (e : LoadEnd) (st before : SpoolState) → Enters IsWholePair first mid before
-    → before.limit ≡ limit → Runs before st → ((e ≡ end.DiskFault → ⊥) → st.halted ≡ None)
+    → before.limit ≡ limit → KeepsLimitAndHolds before st → ((e ≡ end.DiskFault → ⊥) → st.halted ≡ None)
     → ((log : Log) (earlier h : List Event) (f : Files) → mid ≡ Some log → StandsFor IsWholePair mid before earlier h f
     → Loads (IsJob before.limit layout.size (situation h before times)) (λ pairs. (bytes : List ℕ) → left ≡ Some bytes → AreCutFrom layout bytes e pairs) e mid known st earlier h times_now old new)
     → LoadsShelf limit layout first known left times times_now old new e

@@ -21,7 +21,7 @@ use Rattle.st_load.specs.Causes.{IsFailure}
 use Rattle.st_load.specs.Job.{AddsAll}
 use Rattle.st_load.specs.Lanes.{KeepsSpool}
 use Rattle.st_load.specs.Loading.{Covered, Loads, situation}
-use Rattle.st_load.specs.Publishing.{Ages, AgesAll, AtMost, FailsBy, StateBy, WritesLine, Finishes, Runs}
+use Rattle.st_load.specs.Publishing.{Ages, AgesAll, AreAdded, IsUnpublished, IsUnpublishedState, WritesLine, Finishes, KeepsLimitAndHolds}
 use Rattle.st_load.specs.declared.ends.LoadEnd.{LoadEnd}
 use Rattle.st_load.specs.declared.ends.LoadEnd.TheVariants as end
 use Rattle.st_load.proofs.Covered.{covered_none, covered_on, covered_fault, covered_keeps}
@@ -42,24 +42,24 @@ kept_done {D} log a b earlier h f stands runs keeps =
 -- a pair that was not begun
 pub not_begun : {D : Type 0} (log : D → Option Log) (o a b : SpoolView D) (earlier h : List Event) (f : Files) (rs : List Rec) (limit size : ℕ) (e : LoadEnd) (was times old : Option (List ℕ))
     → a ≡ record o { spare = a.spare } → StandsFor IsWholePair (log o.shelf) o.state earlier h f → o.state.halted ≡ None → KeepsSpool log a b → IsFailure e
-    → Loads (AddsAll limit size (situation h o.state was)) (AtMost rs e) e (log o.shelf) (log b.shelf) b.state earlier h times old old
+    → Loads (AddsAll limit size (situation h o.state was)) (AreAdded rs e) e (log o.shelf) (log b.shelf) b.state earlier h times old old
 not_begun {D} log o a b earlier h f rs limit size e was times old is stands runs keeps failed =
     let shelf : a.shelf ≡ o.shelf = ap (λ (v : SpoolView D). v.shelf) is in
     let state : a.state ≡ o.state = ap (λ (v : SpoolView D). v.state) is in
     let here = subst (λ (v : SpoolView D). StandsFor IsWholePair (log v.shelf) v.state earlier h f) (sym is) stands in
     let (now, quiet, covered) = kept_done log a b earlier h f here (ap (λ (s : SpoolState). s.halted) state ∙ runs) keeps in
     let covered_o = subst (λ (x : D). Covered (log x) (log b.shelf) h [] []) shelf covered in
-    let P : LoadEnd → Type 0 = λ x. Loads (AddsAll limit size (situation h o.state was)) (AtMost rs x) x (log o.shelf) (log b.shelf) b.state earlier h times old old in
+    let P : LoadEnd → Type 0 = λ x. Loads (AddsAll limit size (situation h o.state was)) (AreAdded rs x) x (log o.shelf) (log b.shelf) b.state earlier h times old old in
     ⊎_elim
-    (λ disk. subst P (sym disk) (nothing_done (AddsAll limit size (situation h o.state was)) (AtMost rs end.DiskFault) end.DiskFault (log o.shelf) (log b.shelf) b.state earlier h f times old old (situation h o.state was) (refl, refl) (inl refl) tt (Appends-nil old) now quiet covered_o))
-    (λ memory. subst P (sym memory) (nothing_done (AddsAll limit size (situation h o.state was)) (AtMost rs end.NoMemory) end.NoMemory (log o.shelf) (log b.shelf) b.state earlier h f times old old (situation h o.state was) (refl, refl) (inl refl) tt (Appends-nil old) now quiet covered_o))
+    (λ disk. subst P (sym disk) (nothing_done (AddsAll limit size (situation h o.state was)) (AreAdded rs end.DiskFault) end.DiskFault (log o.shelf) (log b.shelf) b.state earlier h f times old old (situation h o.state was) (refl, refl) (inl refl) tt (Appends-nil old) now quiet covered_o))
+    (λ memory. subst P (sym memory) (nothing_done (AddsAll limit size (situation h o.state was)) (AreAdded rs end.NoMemory) end.NoMemory (log o.shelf) (log b.shelf) b.state earlier h f times old old (situation h o.state was) (refl, refl) (inl refl) tt (Appends-nil old) now quiet covered_o))
     failed
 
 module _ (limit size : ℕ) (before : SpoolState) (earlier h : List Event) (rs : List Rec) (was times : Option (List ℕ)) (floor : ℕ) (ticks : Ticks was times floor)
     (p : Files) (whole : AreWhole size rs (Some p.block) (Some p.index)) (first : Option Log) (f : Files) (stands : StandsFor IsWholePair first before earlier h f) (runs : before.halted ≡ None) where
   -- the publication failed
-  pub publish_fails : (known : Option Log) (st : SpoolState) (since : ℕ) (old : Option (List ℕ)) (e : LoadEnd) → FailsBy first known st earlier h p f e → StateBy before st (next_stamp before.last floor) since e
-      → Loads (AddsAll limit size (situation h before was)) (AtMost rs e) e first known st earlier h times old old
+  pub publish_fails : (known : Option Log) (st : SpoolState) (since : ℕ) (old : Option (List ℕ)) (e : LoadEnd) → IsUnpublished first known st earlier h p f e → IsUnpublishedState before st (next_stamp before.last floor) since e
+      → Loads (AddsAll limit size (situation h before was)) (AreAdded rs e) e first known st earlier h times old old
   publish_fails known st since old end.Done fails state = absurd fails
   publish_fails known st since old (end.BadInput x) fails state = absurd fails
   publish_fails known st since old (end.TooLong n len) fails state = absurd fails
@@ -72,7 +72,7 @@ module _ (limit size : ℕ) (before : SpoolState) (earlier h : List Event) (rs :
       fails.stands (doubted before st (next_stamp before.last floor) since p how)
   publish_fails known st since old (end.StampsSpent last) keeps (same, spent, is) =
       let quiet = no_doubt first before earlier h f stands runs in
-      nothing_done (AddsAll limit size (situation h before was)) (AtMost rs (end.StampsSpent last)) (end.StampsSpent last) first known st earlier h f times old old (situation h before was) (refl, refl) refl
+      nothing_done (AddsAll limit size (situation h before was)) (AreAdded rs (end.StampsSpent last)) (end.StampsSpent last) first known st earlier h f times old old (situation h before was) (refl, refl) refl
       (refl, spent, is) (Appends-nil old) keeps.stands (ap (λ (s : SpoolState). s.doubt) same ∙ quiet)
       (covered_keeps first known before earlier h f stands quiet (subst (λ (s : SpoolState). Keeps IsWholePair first known s earlier h f) same keeps))
   publish_fails known st since old end.NoMemory fails state = absurd fails
@@ -89,7 +89,7 @@ module _ (limit size : ℕ) (before : SpoolState) (earlier h : List Event) (rs :
 
     -- the line was not written
     pub line_fails : (packets : ℕ) (e : LoadEnd) (old new : Option (List ℕ)) → packets ≡ length rs → WritesLine s packets old new (Err e)
-        → Loads (AddsAll limit size (situation h before was)) (AtMost rs e) e first mid st earlier h times old new
+        → Loads (AddsAll limit size (situation h before was)) (AreAdded rs e) e first mid st earlier h times old new
     line_fails packets e old new count line =
         finish_line limit size before earlier h rs was times floor (entry s p) may.1 ticks stamp whole e first mid st f old new covered does.stands quiet
         (subst (λ n. WritesLine s n old new (Err e)) count line)
@@ -103,7 +103,7 @@ module _ (limit size : ℕ) (before : SpoolState) (earlier h : List Event) (rs :
         finish_all limit size before earlier h rs was times floor (entry s p) may.1 ticks stamp whole first mid known after f old new covered ages lim last
         (subst (λ n. Appends old new (line_text s n)) count line)
     aged_finish known after packets old new (Err e) count line ages failed lim last =
-        subst (λ (x : LoadEnd). Loads (AddsAll limit size (situation h before was)) (AtMost rs x) x first known after earlier h times old new) (sym failed)
+        subst (λ (x : LoadEnd). Loads (AddsAll limit size (situation h before was)) (AreAdded rs x) x first known after earlier h times old new) (sym failed)
         (finish_some limit size before earlier h rs was times floor (entry s p) may.1 ticks stamp whole first mid known after old new covered ages lim
         (subst (λ n. Appends old new (line_text s n)) count line))
 
@@ -122,11 +122,11 @@ module _ {D : Type 0} (log : D → Option Log) (o b : SpoolView D) (limit size :
 
   -- the publication failed
   pub ready_fails : (known : Option Log) (st : SpoolState) (since : ℕ) (old : Option (List ℕ)) (e : LoadEnd)
-      → (StandsFor IsWholePair (log b.shelf) b.state earlier h f → FailsBy (log b.shelf) known st earlier h p f e) → StateBy b.state st (next_stamp b.state.last floor) since e
-      → Loads (AddsAll limit size (situation h o.state was)) (AtMost rs e) e (log o.shelf) known st earlier h times old old
+      → (StandsFor IsWholePair (log b.shelf) b.state earlier h f → IsUnpublished (log b.shelf) known st earlier h p f e) → IsUnpublishedState b.state st (next_stamp b.state.last floor) since e
+      → Loads (AddsAll limit size (situation h o.state was)) (AreAdded rs e) e (log o.shelf) known st earlier h times old old
   ready_fails known st since old e fails how =
-      subst (λ (x : D). Loads (AddsAll limit size (situation h o.state was)) (AtMost rs e) e (log x) known st earlier h times old old) same.0
-      (subst (λ (x : SpoolState). Loads (AddsAll limit size (situation h x was)) (AtMost rs e) e (log b.shelf) known st earlier h times old old) same.1
+      subst (λ (x : D). Loads (AddsAll limit size (situation h o.state was)) (AreAdded rs e) e (log x) known st earlier h times old old) same.0
+      (subst (λ (x : SpoolState). Loads (AddsAll limit size (situation h x was)) (AreAdded rs e) e (log b.shelf) known st earlier h times old old) same.1
       (publish_fails limit size b.state earlier h rs was times floor ticks p whole (log b.shelf) f here running known st since old e (fails here) how))
 
   module _ (mid : Option Log) (st : SpoolState) (s : ℕ) (how : MayPublish b.state × (s ≡ next_stamp b.state.last floor) × (st ≡ published b.state s))
@@ -134,17 +134,17 @@ module _ {D : Type 0} (log : D → Option Log) (o b : SpoolView D) (limit size :
       (packets : ℕ) (old new : Option (List ℕ)) (count : packets ≡ length rs) where
     -- the line was not written
     pub ready_lines : (e : LoadEnd) → WritesLine s packets old new (Err e)
-        → Loads (AddsAll limit size (situation h o.state was)) (AtMost rs e) e (log o.shelf) mid st earlier h times old new
+        → Loads (AddsAll limit size (situation h o.state was)) (AreAdded rs e) e (log o.shelf) mid st earlier h times old new
     ready_lines e line =
-        subst (λ (x : D). Loads (AddsAll limit size (situation h o.state was)) (AtMost rs e) e (log x) mid st earlier h times old new) same.0
-        (subst (λ (x : SpoolState). Loads (AddsAll limit size (situation h x was)) (AtMost rs e) e (log b.shelf) mid st earlier h times old new) same.1
+        subst (λ (x : D). Loads (AddsAll limit size (situation h o.state was)) (AreAdded rs e) e (log x) mid st earlier h times old new) same.0
+        (subst (λ (x : SpoolState). Loads (AddsAll limit size (situation h x was)) (AreAdded rs e) e (log b.shelf) mid st earlier h times old new) same.1
         (line_fails limit size b.state earlier h rs was times floor ticks p whole (log b.shelf) f here running mid st s how.0 how.1 how.2 (does here) packets e old new count line))
 
     -- the line was, and removals followed
     pub ready_ages : (known : Option Log) (after : SpoolState) (r : Result (Unit {0}) LoadEnd) → Appends old new (line_text s packets)
         → (StandsFor IsWholePair mid st earlier (h ++ Publish (entry s p) ∷ []) f
         → MatchResult r (λ _. AgesAll mid known after earlier (h ++ Publish (entry s p) ∷ []) f) (λ _. Ages mid known after earlier (h ++ Publish (entry s p) ∷ [])))
-        → IfErr r (λ e. e ≡ end.DiskFault) → Runs st after → after.last ≡ st.last → o.state.limit ≡ limit
+        → IfErr r (λ e. e ≡ end.DiskFault) → KeepsLimitAndHolds st after → after.last ≡ st.last → o.state.limit ≡ limit
         → Finishes limit size (situation h o.state was) rs (log o.shelf) known after earlier h f times old new r
     ready_ages known after r line ages failed keeps last lim =
         subst (λ (x : D). Finishes limit size (situation h o.state was) rs (log x) known after earlier h f times old new r) same.0

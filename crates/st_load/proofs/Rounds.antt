@@ -20,7 +20,7 @@ use Rattle.st_load.specs.Stopping.{StopsAfter, IsInputEnd}
 use Rattle.st_load.specs.Job.{Situation, AddsAll}
 use Rattle.st_load.specs.Lanes.{KeepsSpool}
 use Rattle.st_load.specs.Loading.{Loads, AreCutFrom, situation}
-use Rattle.st_load.specs.Publishing.{AddsPair, AtMost}
+use Rattle.st_load.specs.Publishing.{AddsPair, AreAdded}
 use Rattle.st_load.specs.declared.ends.LoadEnd.{LoadEnd}
 use Rattle.st_load.specs.declared.ends.LoadEnd.TheVariants as end
 use Rattle.st_load.specs.declared.filling.Filled.TheVariants as filled
@@ -39,7 +39,7 @@ pub read_input : (p : PcapReaderView) (left : Option (List ℕ)) (bytes : List �
 read_input p left bytes rs going (rest, is, has) = input_of p bytes rs rest going has
 
 -- how many pairs there are after a pair was not finished
-at_most : (rs : List Rec) (e : LoadEnd) (p : List (List Rec)) → AtMost rs e p → ((p ≡ []) × ((left : List Rec) → 1 ≤ length left → IsAnyEnd e left)) ⊎ ((p ≡ rs ∷ []) × IsFault e)
+at_most : (rs : List Rec) (e : LoadEnd) (p : List (List Rec)) → AreAdded rs e p → ((p ≡ []) × ((left : List Rec) → 1 ≤ length left → IsAnyEnd e left)) ⊎ ((p ≡ rs ∷ []) × IsFault e)
 at_most rs end.Done p is = absurd is
 at_most rs (end.BadInput x) p is = absurd is
 at_most rs (end.TooLong n len) p is = absurd is
@@ -117,11 +117,11 @@ module _ (limit : ℕ) (layout : LanePlan) (start : Situation) (was : Option Log
           (subst (λ (n : ℕ). AddsPair st.limit n (situation (h ++ events_of s.acts) st times) rs known next after earlier (h ++ events_of s.acts) f later new more_out) size_is pair)
 
       loads_at : (rs : List Rec) (e : LoadEnd)
-          → Loads (AddsAll st.limit lane.filling.size (situation (h ++ events_of s.acts) st times)) (AtMost rs e) e known next after earlier (h ++ events_of s.acts) later new more_out
-          → Loads (AddsAll limit layout.size (situation (h ++ events_of s.acts) st times)) (AtMost rs e) e known next after earlier (h ++ events_of s.acts) later new more_out
+          → Loads (AddsAll st.limit lane.filling.size (situation (h ++ events_of s.acts) st times)) (AreAdded rs e) e known next after earlier (h ++ events_of s.acts) later new more_out
+          → Loads (AddsAll limit layout.size (situation (h ++ events_of s.acts) st times)) (AreAdded rs e) e known next after earlier (h ++ events_of s.acts) later new more_out
       loads_at rs e loads =
-          subst (λ (n : ℕ). Loads (AddsAll n layout.size (situation (h ++ events_of s.acts) st times)) (AtMost rs e) e known next after earlier (h ++ events_of s.acts) later new more_out) lim
-          (subst (λ (n : ℕ). Loads (AddsAll st.limit n (situation (h ++ events_of s.acts) st times)) (AtMost rs e) e known next after earlier (h ++ events_of s.acts) later new more_out) size_is loads)
+          subst (λ (n : ℕ). Loads (AddsAll n layout.size (situation (h ++ events_of s.acts) st times)) (AreAdded rs e) e known next after earlier (h ++ events_of s.acts) later new more_out) lim
+          (subst (λ (n : ℕ). Loads (AddsAll st.limit n (situation (h ++ events_of s.acts) st times)) (AreAdded rs e) e known next after earlier (h ++ events_of s.acts) later new more_out) size_is loads)
 
       -- the next pair begins
       pub round_next : (p : PcapReaderView) (now : Option (List ℕ)) (r : Rec) (records : ℕ) → records ≡ lane.filling.records
@@ -138,7 +138,7 @@ module _ (limit : ℕ) (layout : LanePlan) (start : Situation) (was : Option Log
       pub round_stops : (p : PcapReaderView) (now : Option (List ℕ)) (r : Rec) (e : LoadEnd) → IsGoing p.phase
           → Fills written (λ bytes given. HasReadTo reader bytes (given ++ first ∷ []) left) first number lane p now (filled.Ready r)
           → ((rs : List Rec) → Represents written lane rs
-          → Loads (AddsAll st.limit lane.filling.size (situation (h ++ events_of s.acts) st times)) (AtMost rs e) e known next after earlier (h ++ events_of s.acts) later new more_out)
+          → Loads (AddsAll st.limit lane.filling.size (situation (h ++ events_of s.acts) st times)) (AreAdded rs e) e known next after earlier (h ++ events_of s.acts) later new more_out)
           → Loads (AddsAll limit layout.size start) (λ (pairs : List (List Rec)). (bytes : List ℕ) → Given bytes → AreCutFrom layout bytes e pairs) e was next after earlier h later old more_out
       round_stops p now r e goes (more, has, short, ends, reads) fin =
           let all = short_at (first ∷ more) has in
@@ -176,7 +176,7 @@ module _ (limit : ℕ) (layout : LanePlan) (start : Situation) (was : Option Log
       pub round_ends : (p : PcapReaderView) (now : Option (List ℕ)) (e failed : LoadEnd) → (lane.filling.records ≡ 0 → ⊥)
           → Fills written (λ bytes given. HasReadTo reader bytes (given ++ first ∷ []) left) first number lane p now (filled.Ended e)
           → ((rs : List Rec) → Represents written lane rs
-          → Loads (AddsAll st.limit lane.filling.size (situation (h ++ events_of s.acts) st times)) (AtMost rs failed) failed known next after earlier (h ++ events_of s.acts) later new more_out)
+          → Loads (AddsAll st.limit lane.filling.size (situation (h ++ events_of s.acts) st times)) (AreAdded rs failed) failed known next after earlier (h ++ events_of s.acts) later new more_out)
           → Loads (AddsAll limit layout.size start) (λ (pairs : List (List Rec)). (bytes : List ℕ) → Given bytes → AreCutFrom layout bytes failed pairs) failed was next after earlier h later old more_out
       round_ends p now e failed some (rs, has, inl (nil, long), stops) fin = absurd (some (has.fills.count ∙ ap length nil))
       round_ends p now e failed some (rs, has, inr (more, is), stops) fin =

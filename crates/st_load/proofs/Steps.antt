@@ -18,7 +18,7 @@ use Rattle.st_spool.specs.States.{SpoolState}
 use Rattle.st_load.specs.Acts.{Act, events_of, lines_of}
 use Rattle.st_load.specs.Job.{Situation, AddsAll}
 use Rattle.st_load.specs.Loading.{Covered, Loads, situation}
-use Rattle.st_load.specs.Publishing.{AddsPair, AtMost}
+use Rattle.st_load.specs.Publishing.{AddsPair, AreAdded}
 use Rattle.st_load.specs.declared.ends.LoadEnd.{LoadEnd}
 use Rattle.st_load.proofs.Covered.{covered_then, covered_keeps}
 use Rattle.st_load.proofs.Cutting.{cut_on}
@@ -65,11 +65,11 @@ module _ (limit : ℕ) (layout : LanePlan) (start : Situation) (was : Option Log
 
     -- or while a pair is finished
     pub sofar_fails : (Are : List (List Rec) → Type 0) (e : LoadEnd) (now : Option Log) (after : SpoolState) (later more : Option (List ℕ)) (rs : List Rec)
-        → Loads (AddsAll limit layout.size (situation (h ++ events_of s.acts) st times)) (AtMost rs e) e known now after earlier (h ++ events_of s.acts) later new more
-        → ((p : List (List Rec)) → AtMost rs e p → Are (s.done ++ p))
+        → Loads (AddsAll limit layout.size (situation (h ++ events_of s.acts) st times)) (AreAdded rs e) e known now after earlier (h ++ events_of s.acts) later new more
+        → ((p : List (List Rec)) → AreAdded rs e p → Are (s.done ++ p))
         → Loads (AddsAll limit layout.size start) Are e was now after earlier h later old more
     sofar_fails Are e now after later more rs loads are =
-        loads_after (AddsAll limit layout.size start) (AddsAll limit layout.size (situation (h ++ events_of s.acts) st times)) Are (AtMost rs e) e was known now after earlier h later old new more s.done s.acts
+        loads_after (AddsAll limit layout.size start) (AddsAll limit layout.size (situation (h ++ events_of s.acts) st times)) Are (AreAdded rs e) e was known now after earlier h later old new more s.done s.acts
         on are s.lines s.images loads
 
     -- or after it

@@ -21,9 +21,9 @@ pub record RoseIf (P : Type 0) (before now : ℕ) : Type 0 where
   pub later : before ≤ now
   pub rose : P → Rose before now
 
--- What an end says whatever is known: an input is refused neither for a fault nor since memory ran
--- out, a packet that is too long fits no block of this size, and a stamp is missing only after the
--- greatest.
+-- What an end says, whatever is known: an input is refused neither for a fault nor because memory
+-- ran out, a packet that is too long fits no block of this size, and no stamp is left only after
+-- the greatest.
 abbrev pub Says : ℕ → LoadEnd → Type 0
 Says size end.Done = ⊤
 Says size (end.BadInput e) = IsOutside e → ⊥
@@ -34,11 +34,12 @@ Says size end.DiskFault = ⊤
 Says size (end.StampsSpent last) = last ≡ 2 ^ 64 - 1
 Says size end.NoMemory = ⊤
 
--- a load ended because the shelf failed or memory ran out
+-- the load ended because the shelf failed or memory ran out
 abbrev pub IsFailure : LoadEnd → Type 0
 IsFailure e = (e ≡ end.DiskFault) ⊎ (e ≡ end.NoMemory)
 
--- a pair was not finished for one of these causes; a stamp is missing only after the greatest
+-- how a load ends if a pair could not be published, have its line, or have the oldest pairs removed
+-- after it; no stamp is left only after the greatest
 abbrev pub IsFinishEnd : LoadEnd → Type 0
 IsFinishEnd end.Done = ⊥
 IsFinishEnd (end.BadInput e) = ⊥
@@ -49,14 +50,14 @@ IsFinishEnd end.DiskFault = ⊤
 IsFinishEnd (end.StampsSpent last) = last ≡ 2 ^ 64 - 1
 IsFinishEnd end.NoMemory = ⊤
 
--- how a load ends that could not read a first record
+-- how a load ends if the reader fails at the first record
 abbrev pub EndsUnread : PcapErr → LoadEnd → Type 0
 EndsUnread error ended =
     ((error ≡ ReadFault) × (ended ≡ end.ReadFault))
     ⊎ (((error ≡ NoMemory) × (ended ≡ end.NoMemory))
     ⊎ ((ended ≡ end.BadInput error) × (IsOutside error → ⊥)))
 
--- how a load ends that could not open a spool
+-- how a load ends if its spool can't be opened
 abbrev pub EndsUnopened : EnterErr → LoadEnd → Type 0
 EndsUnopened enter.DiskFault ended = ended ≡ end.DiskFault
 EndsUnopened enter.NoMemory ended = ended ≡ end.NoMemory

@@ -1,4 +1,4 @@
--- What a lane takes of an input.
+-- What a lane takes of an input, and how the reader goes on.
 use Rattle.std.specs.Prelude.{◌≡◌, ◌<◌, ◌≤◌, ◌+◌, ◌*◌, ◌⊎◌, ℕ, List, [], ◌∷◌, ◌++◌, length, All, Option, Some, false, ⊤}
 use Rattle.st_base.specs.Records.{Rec}
 use Rattle.st_block.specs.BlockText.{IsShort}
@@ -15,11 +15,11 @@ use Rattle.st_load.specs.declared.ends.LoadEnd.TheVariants as end
 use Rattle.st_load.specs.declared.filling.Filled.{Filled}
 use Rattle.st_load.specs.declared.filling.Filled.TheVariants as filled
 
--- of these bytes the reader gave these records, and what is left is to come
+-- the reader gave these records of an input of these bytes, and the source has the rest to come
 abbrev pub HasReadTo : PcapReaderView → List ℕ → List Rec → Option (List ℕ) → Type 0
 HasReadTo p bytes rs left = (rest : List ℕ) × (left ≡ Some rest) × HasRead p bytes rs rest
 
--- what a lane took, from this record on: nothing only if the record is too long for a block
+-- these records begin with this one, or there are none and this one is too long for a block
 abbrev pub Begins : ℕ → Rec → List Rec → Type 0
 Begins size first rs =
     ((rs ≡ []) × (IsShort size first → ⊥)) ⊎ ((more : List Rec) × (rs ≡ first ∷ more))
@@ -41,7 +41,7 @@ Fills {T} written Before first number lane reader left (filled.Ended e) =
     → StopsAfter lane.filling.size bytes (given ++ rs) e)
 Fills {T} written Before first number lane reader left (filled.Failed e) = ⊤
 
--- a fault, or out of memory
+-- how filling a lane fails: a fault of the input or the shelf, or memory ran out
 abbrev pub IsFillFault : LoadEnd → Type 0
 IsFillFault end.Done = ⊥
 IsFillFault (end.BadInput e) = ⊥
@@ -52,7 +52,8 @@ IsFillFault end.DiskFault = ⊤
 IsFillFault (end.StampsSpent last) = ⊥
 IsFillFault end.NoMemory = ⊤
 
--- a reader gave this many records, each of 16 bytes at least
+-- a reader took at least 16 bytes for each of this many records, and no more bytes than an input
+-- may have before its last record, and that record
 abbrev pub HasCounted : ℕ → PcapReaderView → Type 0
 HasCounted number p =
     (RECORD_HEAD_SIZE * number ≤ p.taken) × (p.taken ≤ MAX_INPUT + RECORD_HEAD_SIZE + MAX_BODY)
@@ -69,15 +70,16 @@ Leaves {T} number lane old new (filled.Ended e) =
     (lane.broken ≡ false) × IsInputEnd e × Says lane.filling.size e
 Leaves {T} number lane old new (filled.Failed e) = IsFillFault e
 
--- after a refusal the lane is to be published, after a fault or without memory to be given up
+-- how filling a lane ends if the reader fails: the lane is to be published after a refusal, and to
+-- be given up after a fault or without memory
 abbrev pub EndsReading : PcapErr → Filled → Type 0
 EndsReading error (filled.Ready r) = ⊥
 EndsReading error (filled.Ended e) = (e ≡ end.BadInput error) × (IsOutside error → ⊥)
 EndsReading error (filled.Failed e) =
     ((error ≡ ReadFault) × (e ≡ end.ReadFault)) ⊎ ((error ≡ NoMemory) × (e ≡ end.NoMemory))
 
--- Of these bytes the reader gave records that are short enough for a block of this size, and then
--- this one, whose number this is.
+-- Of an input of these bytes the reader gave records that are short enough for a block of this
+-- size, and then this record, which has this number.
 pub record HasCome (size number : ℕ) (bytes : List ℕ) (r : Rec) (reader : PcapReaderView)
     (left : Option (List ℕ)) : Type 0 where
   pub before : List Rec

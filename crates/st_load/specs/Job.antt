@@ -46,16 +46,15 @@ IsJob limit size old lists acts new =
     (later : List Act) × (acts ≡ happen (removals limit old.set) ++ later)
     × AddsAll limit size (record old { set = newest limit old.set }) lists later new
 
--- These are the first lists of the cut of some records into pairs, and these records are left. Each
--- list is the longest prefix of itself and of all that follows whose file has at most so many
--- blocks.
+-- These records are cut into these lists and those that are left. Each list is the longest prefix,
+-- of the records from its first one on, whose block file has at most this many blocks.
 abbrev pub AreFirstLists : ℕ → ℕ → List (List Rec) → List Rec → List Rec → Type 0
 AreFirstLists size most [] rs left = rs ≡ left
 AreFirstLists size most (first ∷ lists) rs left =
     (rest : List Rec) × (rs ≡ first ++ rest) × IsLongest size most first rest
     × AreFirstLists size most lists rest left
 
--- there is no record, or the first one is too long for a block
+-- there is no record, or the first one is too long for a block of this size
 abbrev pub BeginsLong : ℕ → List Rec → Type 0
 BeginsLong size [] = Unit {0}
 BeginsLong size (r ∷ rs) = IsShort size r → ⊥

@@ -11,7 +11,7 @@ use Rattle.st_spool.specs.Publishing.{Keeps}
 use Rattle.st_spool.specs.Standing.{StandsFor}
 use Rattle.st_spool.specs.States.{SpoolView}
 
--- both drafts of the lane are of this shelf
+-- both drafts of the lane are of the shelf with this number
 abbrev pub IsLaneOf : {T : Type 0} → (T → DraftOrigin) → ℕ → LaneView T → Type 0
 IsLaneOf origin home l = ((origin l.block).home ≡ home) × ((origin l.index).home ≡ home)
 
@@ -26,7 +26,7 @@ pub record IsNewLane {T : Type 0} (origin : T → DraftOrigin) (faults : T → �
   pub block : faults l.block ≡ 0
   pub index : faults l.index ≡ 0
 
--- calls on a spool changed no pair, and left all but its shelf
+-- calls on a spool changed no pair, and nothing of the spool but its shelf
 pub record KeepsSpool {D : Type 0} (log : D → Option Log) (old new : SpoolView D) : Type 0 where
   pub keeps : (earlier h : List Event) (f : Files)
       → StandsFor IsWholePair (log old.shelf) old.state earlier h f

@@ -25,8 +25,8 @@ pub record InputParts : Type 0 where
   pub others : List Rec
   pub left : List Rec
 
--- How a load ended, by its input. If no fault ended it all records were taken, up to the end of the
--- input or to the one that is too long; if no stamp was left there are some that no pair has.
+-- How a load ended, by its input. If the input ended it, all records were taken, up to the end or
+-- to the one that is too long, and each is in a pair. If no stamp was left, some are in none.
 abbrev pub EndsInput : LoadEnd → InputParts → Type 0
 EndsInput end.Done rest = (rest.input ≡ Whole) × (rest.others ≡ []) × (rest.left ≡ [])
 EndsInput (end.BadInput e) rest =
@@ -51,9 +51,9 @@ pub record AreCutFrom (layout : LanePlan) (bytes : List ℕ) (ended : LoadEnd)
   pub lists : AreFirstLists layout.size layout.blocks pairs rest.taken rest.left
   pub ends : EndsInput ended rest
 
--- How a load ended, by its job: what it had still to do for these pairs, what it would have gone on
--- from then, and the clock's answers to come. Only a fault of the shelf or the output, or running
--- out of memory, leaves something to be done.
+-- How a load ended, by its job: the acts that were still to come, the situation after all acts, and
+-- the clock's answers to come. Only a fault of the shelf or the output, or running out of memory,
+-- leaves an act to be done.
 abbrev pub EndsJob : LoadEnd → List Act → Situation → Option (List ℕ) → Type 0
 EndsJob end.Done to_come final times = (to_come ≡ []) × (times ≡ final.times)
 EndsJob (end.BadInput e) to_come final times = (to_come ≡ []) × (times ≡ final.times)
@@ -65,8 +65,8 @@ EndsJob (end.StampsSpent last) to_come final times =
     (to_come ≡ []) × (final.last ≡ 2 ^ 64 - 1) × (last ≡ final.last)
 EndsJob end.NoMemory to_come final times = ⊤
 
--- The output gained the lines among these acts; if writing failed, a prefix of the line that was to
--- come too.
+-- The output gained the lines among the acts that were done, and if writing failed, also a prefix
+-- of the line that was the next act.
 abbrev pub WritesLines :
     LoadEnd → List Act → List Act → Option (List ℕ) → Option (List ℕ) → Type 0
 WritesLines end.Done acts to_come old new = Appends old new (lines_of acts)
@@ -81,8 +81,8 @@ WritesLines end.DiskFault acts to_come old new = Appends old new (lines_of acts)
 WritesLines (end.StampsSpent last) acts to_come old new = Appends old new (lines_of acts)
 WritesLines end.NoMemory acts to_come old new = Appends old new (lines_of acts)
 
--- Of what was to be done for some pairs these are the acts that were done, and these to come. The
--- clock has these answers to come, and this was written.
+-- Of the job for these pairs these acts were done, and these are to come. The clock has these
+-- answers to come, and the output went from the old bytes to the new.
 pub record Did (Job : List (List Rec) → List Act → Situation → Type 0) (ended : LoadEnd)
     (pairs : List (List Rec)) (acts to_come : List Act) (times : Option (List ℕ))
     (old new : Option (List ℕ)) : Type 0 where
@@ -95,9 +95,9 @@ pub record Did (Job : List (List Rec) → List Act → Situation → Type 0) (en
 abbrev pub BeginsWith : List Act → List Event → Type 0
 BeginsWith acts es = (later : List Act) × (acts ≡ happen es ++ later)
 
--- Since the log that was known before these events came, one after the other, on a history h: at
--- every moment each crash left the pairs of the history so far, and while an event was on its way
--- those or the pairs with it. At the end one may be in doubt.
+-- Since the log that was known before, these events followed the history h, one after the other. At
+-- every moment each crash left the pairs of the history so far or, while a call made an event, the
+-- pairs with that event. At the end one event may be in doubt.
 abbrev pub Covered :
     Option Log → Option Log → List Event → List Event → List Event → Type 0
 Covered old known h es doubt =

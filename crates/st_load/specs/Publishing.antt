@@ -1,4 +1,4 @@
--- What publishing a pair makes of a spool.
+-- What removing the oldest pairs and publishing a new one make of a spool.
 use Rattle.std.specs.Prelude.{◌≡◌, ◌<◌, ◌-◌, ◌^◌, ◌⊎◌, ℕ, List, [], ◌∷◌, ◌++◌, take, Option, Result, Ok, Err}
 use Rattle.std.specs.Io.KnownBytes.{Appends}
 use Rattle.st_base.specs.Records.{Rec}
@@ -29,39 +29,40 @@ pub record Ages (before known : Option Log) (st : SpoolState) (earlier h : List 
   pub doubt : to_come ≡ in_doubt st.doubt f ++ later
   pub images : Covered before known h events (begun st.doubt f)
 
--- all of them happened, and the newest pairs are left
+-- all removals that a history asks for happened, in order, and the newest pairs are left
 pub record AgesAll (before known : Option Log) (st : SpoolState) (earlier h : List Event)
     (f : Files) : Type 0 where
   pub stands : StandsFor IsWholePair known st earlier (h ++ removals st.limit (set_of h)) f
   pub set : set_of (h ++ removals st.limit (set_of h)) ≡ newest st.limit (set_of h)
   pub images : Covered before known h (removals st.limit (set_of h)) []
 
--- a pair was not published: the call failed, or no stamp was left
-abbrev pub FailsBy :
+-- a pair with these files was not published: the shelf failed, or no stamp was left
+abbrev pub IsUnpublished :
     Option Log → Option Log → SpoolState → List Event → List Event → Files → Files → LoadEnd
     → Type 0
-FailsBy old new st earlier h p f end.Done = ⊥
-FailsBy old new st earlier h p f (end.BadInput e) = ⊥
-FailsBy old new st earlier h p f (end.TooLong number len) = ⊥
-FailsBy old new st earlier h p f end.ReadFault = ⊥
-FailsBy old new st earlier h p f end.WriteFault = ⊥
-FailsBy old new st earlier h p f end.DiskFault = Fails IsWholePair old new st earlier h p
-FailsBy old new st earlier h p f (end.StampsSpent last) =
+IsUnpublished old new st earlier h p f end.Done = ⊥
+IsUnpublished old new st earlier h p f (end.BadInput e) = ⊥
+IsUnpublished old new st earlier h p f (end.TooLong number len) = ⊥
+IsUnpublished old new st earlier h p f end.ReadFault = ⊥
+IsUnpublished old new st earlier h p f end.WriteFault = ⊥
+IsUnpublished old new st earlier h p f end.DiskFault = Fails IsWholePair old new st earlier h p
+IsUnpublished old new st earlier h p f (end.StampsSpent last) =
     Keeps IsWholePair old new st earlier h f
-FailsBy old new st earlier h p f end.NoMemory = ⊥
+IsUnpublished old new st earlier h p f end.NoMemory = ⊥
 
--- the state after that, with the shelf's count of faults
-abbrev pub StateBy : SpoolState → SpoolState → ℕ → ℕ → LoadEnd → Type 0
-StateBy old new stamp since end.Done = ⊥
-StateBy old new stamp since (end.BadInput e) = ⊥
-StateBy old new stamp since (end.TooLong number len) = ⊥
-StateBy old new stamp since end.ReadFault = ⊥
-StateBy old new stamp since end.WriteFault = ⊥
-StateBy old new stamp since end.DiskFault =
+-- the spool's state after a pair was not published under this stamp, `since` being the shelf's
+-- count of faults then
+abbrev pub IsUnpublishedState : SpoolState → SpoolState → ℕ → ℕ → LoadEnd → Type 0
+IsUnpublishedState old new stamp since end.Done = ⊥
+IsUnpublishedState old new stamp since (end.BadInput e) = ⊥
+IsUnpublishedState old new stamp since (end.TooLong number len) = ⊥
+IsUnpublishedState old new stamp since end.ReadFault = ⊥
+IsUnpublishedState old new stamp since end.WriteFault = ⊥
+IsUnpublishedState old new stamp since end.DiskFault =
     (old.last < 2 ^ 64 - 1) × FailsToPublish old new stamp since
-StateBy old new stamp since (end.StampsSpent last) =
+IsUnpublishedState old new stamp since (end.StampsSpent last) =
     (new ≡ old) × (old.last ≡ 2 ^ 64 - 1) × (last ≡ old.last)
-StateBy old new stamp since end.NoMemory = ⊥
+IsUnpublishedState old new stamp since end.NoMemory = ⊥
 
 -- a line was written, or a prefix of it, or nothing as memory ran out
 abbrev pub WritesLine : ℕ → ℕ → Option (List ℕ) → Option (List ℕ) → Result (Unit {0}) LoadEnd
@@ -72,18 +73,20 @@ WritesLine stamp packets old new (Err e) =
     ⊎ ((e ≡ end.WriteFault)
     × ((n : ℕ) × Appends old new (take n (line_text stamp packets))))
 
--- no pair, or the pair of these packets; if no stamp was left it is none
-abbrev pub AtMost : List Rec → LoadEnd → List (List Rec) → Type 0
-AtMost rs end.Done pairs = ⊥
-AtMost rs (end.BadInput e) pairs = ⊥
-AtMost rs (end.TooLong number len) pairs = ⊥
-AtMost rs end.ReadFault pairs = ⊥
-AtMost rs end.WriteFault pairs = (pairs ≡ []) ⊎ (pairs ≡ rs ∷ [])
-AtMost rs end.DiskFault pairs = (pairs ≡ []) ⊎ (pairs ≡ rs ∷ [])
-AtMost rs (end.StampsSpent last) pairs = pairs ≡ []
-AtMost rs end.NoMemory pairs = (pairs ≡ []) ⊎ (pairs ≡ rs ∷ [])
+-- the pairs that were added for these packets, by how finishing them failed: none, or one; none if
+-- no stamp was left
+abbrev pub AreAdded : List Rec → LoadEnd → List (List Rec) → Type 0
+AreAdded rs end.Done pairs = ⊥
+AreAdded rs (end.BadInput e) pairs = ⊥
+AreAdded rs (end.TooLong number len) pairs = ⊥
+AreAdded rs end.ReadFault pairs = ⊥
+AreAdded rs end.WriteFault pairs = (pairs ≡ []) ⊎ (pairs ≡ rs ∷ [])
+AreAdded rs end.DiskFault pairs = (pairs ≡ []) ⊎ (pairs ≡ rs ∷ [])
+AreAdded rs (end.StampsSpent last) pairs = pairs ≡ []
+AreAdded rs end.NoMemory pairs = (pairs ≡ []) ⊎ (pairs ≡ rs ∷ [])
 
--- the pair of these packets was added to a spool that stood for the history h
+-- All was done for the pair of these packets, over a spool that stood for the history h: it was
+-- published, its line was written, and the oldest pairs were removed.
 pub record AddsPair (limit size : ℕ) (start : Situation) (rs : List Rec) (before known : Option Log)
     (st : SpoolState) (earlier h : List Event) (f : Files) (times : Option (List ℕ))
     (old new : Option (List ℕ)) : Type 0 where
@@ -93,7 +96,7 @@ pub record AddsPair (limit size : ℕ) (start : Situation) (rs : List Rec) (befo
   pub lines : Appends old new (lines_of acts)
   pub images : Covered before known h (events_of acts) []
 
--- or it wasn't, or not all was done for it
+-- all was done for the pair of these packets; or, after an error, only the first acts
 abbrev pub Finishes :
     ℕ → ℕ → Situation → List Rec → Option Log → Option Log → SpoolState → List Event → List Event
     → Files → Option (List ℕ) → Option (List ℕ) → Option (List ℕ) → Result (Unit {0}) LoadEnd
@@ -101,8 +104,8 @@ abbrev pub Finishes :
 Finishes limit size start rs before known st earlier h f times old new (Ok u) =
     AddsPair limit size start rs before known st earlier h f times old new
 Finishes limit size start rs before known st earlier h f times old new (Err e) =
-    Loads (AddsAll limit size start) (AtMost rs e) e before known st earlier h times old new
+    Loads (AddsAll limit size start) (AreAdded rs e) e before known st earlier h times old new
 
--- calls leave the limit and the holds
-abbrev pub Runs : SpoolState → SpoolState → Type 0
-Runs old new = (new.limit ≡ old.limit) × (new.holds ≡ old.holds)
+-- the spool's limit and its holds stayed as they were
+abbrev pub KeepsLimitAndHolds : SpoolState → SpoolState → Type 0
+KeepsLimitAndHolds old new = (new.limit ≡ old.limit) × (new.holds ≡ old.holds)

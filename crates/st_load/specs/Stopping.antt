@@ -6,7 +6,7 @@ use Rattle.st_pcap.specs.Input.{End, Whole, Refused, Input}
 use Rattle.st_load.specs.declared.ends.LoadEnd.{LoadEnd}
 use Rattle.st_load.specs.declared.ends.LoadEnd.TheVariants as end
 
--- the end of an input, or a record that no block takes
+-- the load was ended by its input: by its end, a refusal, or a record that no block takes
 abbrev pub IsInputEnd : LoadEnd → Type 0
 IsInputEnd end.Done = ⊤
 IsInputEnd (end.BadInput e) = ⊤
@@ -18,7 +18,7 @@ IsInputEnd (end.StampsSpent last) = ⊥
 IsInputEnd end.NoMemory = ⊥
 
 -- After these records the input ends, or goes on with one that is too long for a block of this
--- size, whose number this is.
+-- size and has the number in the load's end.
 abbrev pub StopsAfter : ℕ → List ℕ → List Rec → LoadEnd → Type 0
 StopsAfter size bytes given end.Done = Input bytes given Whole
 StopsAfter size bytes given (end.BadInput e) = Input bytes given (Refused e)
@@ -31,8 +31,8 @@ StopsAfter size bytes given end.DiskFault = ⊥
 StopsAfter size bytes given (end.StampsSpent last) = ⊥
 StopsAfter size bytes given end.NoMemory = ⊥
 
--- A load that its input ended was ended by these bytes: after the first records of them, of which
--- each is short enough for a block of this size.
+-- A load that was ended by its input, of these bytes, was ended after records that are each short
+-- enough for a block of this size.
 abbrev pub StopsInput : ℕ → List ℕ → LoadEnd → Type 0
 StopsInput size bytes ended =
     IsInputEnd ended

@@ -11,10 +11,11 @@ pub enum LoadEnd {
     /// The input is refused: at its file head, or at a record. The packets before it are in the
     /// spool. The cause is neither `ReadFault` nor `NoMemory`.
     BadInput(PcapErr),
-    /// The packet of record `number`, counted from 1, has `len` captured bytes, more than a block
-    /// holds. The packets before it are in the spool.
+    /// The packet of the record with this number, counted from 1, has `len` captured bytes, more
+    /// than a block holds. The packets before it are in the spool.
     TooLong { number: u64, len: u32 },
-    /// Reading the input failed: its count of faults rose.
+    /// Reading the input failed: its count of faults rose. The packets that no pair had by then
+    /// are given up.
     ReadFault,
     /// Writing the line of a pair that was published failed: the output's count of faults rose.
     WriteFault,

@@ -24,7 +24,8 @@ pub(crate) enum Filled {
     Failed(LoadEnd),
 }
 
-/// What follows of an input that is read no further.
+/// How filling a lane ends when the reader fails: the lane is to be published if the input is
+/// refused, and to be given up after a fault or without memory.
 fn stopped(error: PcapErr) -> Filled
     ensures { EndsReading error result }
 {
@@ -35,8 +36,8 @@ fn stopped(error: PcapErr) -> Filled
     }
 }
 
-/// Adds records to a lane that has none: `first`, which the reader gave last and which has this
-/// number, counted from 1, and then those that the reader gives.
+/// Adds records to a lane that has none: `first`, which the reader gave last and whose number in
+/// the input, counted from 1, is `number`; and then those that the reader gives.
 ///
 /// All records are read into the memory of the first one.
 pub(crate) fn fill<T: Draft, S: Source>(

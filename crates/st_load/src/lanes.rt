@@ -1,4 +1,4 @@
-//! Drafts that become a lane, and what is left of one.
+//! A lane is made of two drafts of a spool's shelf, and sealed or given up.
 
 ghost use Rattle.std.specs.Prelude.{◌≡◌, ◌<◌, ◌≤◌, ◌≢◌, [], List, Some, false, IfOk, IfErr, MatchResult, Err};
 ghost use Rattle.st_base.specs.Faults.{Rose};
@@ -24,7 +24,10 @@ use st_shelf::{End, Kind, SealedPair, Shelf};
 use st_spool::Spool;
 use std::alloc::Global;
 
-/// Makes a lane of two drafts of the spool's shelf.
+/// Makes a lane of two new drafts of the spool's shelf.
+///
+/// `DiskFault` comes only if the shelf's count of faults rose, `NoMemory` if there is no memory for
+/// the lane; after both the drafts that were made have gone back to the shelf.
 pub(crate) fn open_lane<D: Shelf>(
     alloc: Global,
     spool: &mut Spool<D, Indexed>,
@@ -67,7 +70,8 @@ pub(crate) fn open_lane<D: Shelf>(
     }
 }
 
-/// Gives the drafts of a lane back to the shelf, whose count of faults rises if theirs had.
+/// Gives both drafts of a lane back to the shelf, whose count of faults rises if the draft of the
+/// block file has failed.
 pub(crate) fn give_up<D: Shelf>(spool: &mut Spool<D, Indexed>, lane: Lane<D::Draft>)
     requires { IsLaneOf D.Draft.origin (D.id spool.old.shelf) lane }
     ensures keeps { KeepsSpool D.log spool.old spool.new }
@@ -81,7 +85,9 @@ pub(crate) fn give_up<D: Shelf>(spool: &mut Spool<D, Indexed>, lane: Lane<D::Dra
     spool.abandon(End::Unsealed(index));
 }
 
-/// Seals a lane that has records. If that fails the drafts go back to the shelf.
+/// Seals a lane that has records. After an error both files have gone back to the shelf.
+///
+/// `DiskFault` comes only if the shelf's count of faults rose; the other error is `NoMemory`.
 pub(crate) fn seal<D: Shelf>(
     spool: &mut Spool<D, Indexed>,
     lane: Lane<D::Draft>,

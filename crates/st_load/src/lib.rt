@@ -3,8 +3,8 @@
 //! A load removes the oldest pairs of its spool while more than the limit are published, and reads
 //! the input record by record. It fills one pair after the other, each as far as the layout of its
 //! block files lets it, publishes it, writes the line `STAMP PACKETS`, and removes the oldest pairs
-//! again. A stamp is in microseconds since 1970, or greater. The line is ours: docs/FORMAT.md,
-//! "Command line".
+//! again. A stamp is the clock's time in microseconds since 1970, or a greater number. The line is
+//! ours: docs/FORMAT.md, "Command line".
 //!
 //! # What it promises
 //!
@@ -20,8 +20,8 @@
 //!
 //! # What it leaves to others
 //!
-//! The text of messages, and what follows an end. What happened to the shelf is said where its log
-//! is known, and which packets the pairs have where the input's bytes are too.
+//! The text of messages, and what the program does after an end. What happened to the shelf is said
+//! if its log is known, and which packets the pairs have if the input's bytes are known too.
 //!
 //! # Where to read
 //!

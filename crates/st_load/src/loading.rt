@@ -11,7 +11,7 @@ ghost use Rattle.st_load.specs.Filling.{HasReadTo, HasCounted};
 ghost use Rattle.st_load.specs.Job.{AddsAll, IsJob};
 ghost use Rattle.st_load.specs.Loading.{AreCutFrom, Loads, situation};
 ghost use Rattle.st_load.specs.Opening.{LoadsShelf};
-ghost use Rattle.st_load.specs.Publishing.{Runs};
+ghost use Rattle.st_load.specs.Publishing.{KeepsLimitAndHolds};
 ghost use Rattle.st_load.specs.Stopping.{StopsInput};
 ghost use Rattle.st_pairs.specs.Pairs.{IsWholePair};
 ghost use Rattle.st_pcap.specs.Reading.{IsGoing};
@@ -35,7 +35,7 @@ pub struct Loaded<D> {
     pub shelf: D,
 }
 
-/// How a load ends whose input has no first record, since it is refused or fails.
+/// How a load ends if the reader fails at the first record.
 fn unread(error: PcapErr) -> LoadEnd
     ensures { EndsUnread error result }
 {
@@ -46,7 +46,7 @@ fn unread(error: PcapErr) -> LoadEnd
     }
 }
 
-/// How a load ends that could not open a spool.
+/// How a load ends if its spool can't be opened.
 fn unopened(cause: EnterErr) -> LoadEnd
     ensures { EndsUnopened cause result }
 {
@@ -56,8 +56,8 @@ fn unopened(cause: EnterErr) -> LoadEnd
     }
 }
 
-/// Publishes the records of an input pair by pair: `first`, which the reader gave, and those that
-/// it gives from then on.
+/// Publishes the records of an input pair by pair: `first`, the input's first record, which the
+/// reader gave already, and those that the reader gives.
 fn load_pairs<D: Shelf, S: Source, O: Sink, C: Clock>(
     alloc: Global,
     spool: &mut Spool<D, Indexed>,
@@ -91,7 +91,7 @@ fn load_pairs<D: Shelf, S: Source, O: Sink, C: Clock>(
         × RoseJustIf (result ≡ LoadEnd.ReadFault) (S.faults source.old) (S.faults source.new)
         × RoseJustIf (result ≡ LoadEnd.WriteFault) (O.faults out.old) (O.faults out.new) }
     // what stays
-    ensures rest { Runs spool.old.state spool.new.state
+    ensures rest { KeepsLimitAndHolds spool.old.state spool.new.state
         × (result ≢ LoadEnd.DiskFault → spool.new.state.halted ≡ None)
         × (D.id spool.new.shelf ≡ D.id spool.old.shelf)
         × (D.loans spool.new.shelf ≡ D.loans spool.old.shelf)
@@ -131,16 +131,18 @@ fn load_pairs<D: Shelf, S: Source, O: Sink, C: Clock>(
     }
 }
 
-/// Loads the packets of the pcap in `source` into a spool that has not failed: as pairs whose block
-/// files have this layout, each filled as far as it goes. The spool's oldest pairs are removed
-/// while more are published than its limit, before the input is read and after each pair. `out`
-/// gets a line `STAMP PACKETS` for each pair, after it was published. The clock, in microseconds
-/// since 1970, is read once for each pair; its stamp is not below that.
+/// Loads the packets of the pcap in `source` into a spool that is not halted: as pairs whose block
+/// files have this layout, blocks of a power of two from 4,096 to 1,048,576 bytes and 1 to 4,095 of
+/// them in a file, each file filled as far as it goes. The spool's oldest pairs are removed while
+/// more are published than its limit, before the input is read and after each pair. `out` gets a
+/// line `STAMP PACKETS` for each pair, after it was published. The clock, in microseconds since
+/// 1970, is read once for each pair; its stamp is not below that.
 ///
-/// A record that is refused, or whose packet no block holds, ends the input, and the packets before
-/// it are loaded. After `ReadFault`, `WriteFault`, `DiskFault`, `StampsSpent` and `NoMemory` the
-/// packets that no pair has are given up; the pairs that were published stay.
-/// Source: docs/FORMAT.md, "Command line".
+/// A record that is refused (`BadInput`), or whose packet no block holds (`TooLong`), ends the
+/// input, and the packets before it are loaded. After `ReadFault`, `WriteFault`, `DiskFault`,
+/// `StampsSpent` and `NoMemory` the packets that no pair has are given up; the pairs that were
+/// published stay. The spool is halted only after `DiskFault`.
+/// Source: docs/FORMAT.md, "pcap" and "Command line".
 pub fn load_into<D: Shelf, S: Source, O: Sink, C: Clock>(
     alloc: Global,
     spool: &mut Spool<D, Indexed>,
@@ -171,7 +173,7 @@ pub fn load_into<D: Shelf, S: Source, O: Sink, C: Clock>(
         × RoseJustIf (result ≡ LoadEnd.ReadFault) (S.faults source.old) (S.faults source.new)
         × RoseJustIf (result ≡ LoadEnd.WriteFault) (O.faults out.old) (O.faults out.new) }
     // what stays
-    ensures state { Runs spool.old.state spool.new.state
+    ensures state { KeepsLimitAndHolds spool.old.state spool.new.state
         × (result ≢ LoadEnd.DiskFault → spool.new.state.halted ≡ None) }
     ensures rest { (D.id spool.new.shelf ≡ D.id spool.old.shelf)
         × (D.loans spool.new.shelf ≡ D.loans spool.old.shelf)
@@ -190,7 +192,9 @@ pub fn load_into<D: Shelf, S: Source, O: Sink, C: Clock>(
 
 /// Opens the spool of a shelf, which is to keep at most `limit` pairs, 1 or more, and loads the
 /// packets of the pcap in `source` into it, as `load_into` does. If the spool can't be opened the
-/// load ends by `DiskFault` or `NoMemory`, and nothing is read or written.
+/// load ends with `DiskFault` or `NoMemory`, and nothing is read or written. The shelf comes back
+/// with as many files lent as before.
+/// Source: docs/FORMAT.md, "pcap" and "Command line".
 pub fn load<D: Shelf, S: Source, O: Sink, C: Clock>(
     alloc: Global,
     shelf: D,

@@ -12,7 +12,7 @@ ghost use Rattle.st_load.specs.Acts.{line_text};
 ghost use Rattle.st_load.specs.Causes.{RoseIf, RoseJustIf, IsFinishEnd};
 ghost use Rattle.st_load.specs.Lanes.{IsLaneOf, KeepsSpool};
 ghost use Rattle.st_load.specs.Loading.{situation};
-ghost use Rattle.st_load.specs.Publishing.{Ages, AgesAll, FailsBy, StateBy, WritesLine, Finishes, Runs};
+ghost use Rattle.st_load.specs.Publishing.{Ages, AgesAll, IsUnpublished, IsUnpublishedState, WritesLine, Finishes, KeepsLimitAndHolds};
 ghost use Rattle.st_pairs.specs.Pairs.{IsWholePair};
 ghost use Rattle.st_spool.specs.Placing.{files, entry};
 ghost use Rattle.st_spool.specs.Publishing.{Publishes, IsPairOf, published, next_stamp, MayPublish};
@@ -27,7 +27,7 @@ use st_shelf::{End, SealedPair, Shelf};
 use st_spool::{PublishErr, Spool};
 use std::alloc::{AllocError, Global};
 
-/// Removes the oldest pairs while more are published than the limit.
+/// Removes the oldest pairs while more are published than the limit. `DiskFault` is the only error.
 pub(crate) fn age_all<D: Shelf>(spool: &mut Spool<D, Indexed>) -> Result<(), LoadEnd>
     requires { spool.old.state.halted ≡ None }
     // the removals
@@ -39,7 +39,7 @@ pub(crate) fn age_all<D: Shelf>(spool: &mut Spool<D, Indexed>) -> Result<(), Loa
         (λ _. Ages (D.log spool.old.shelf) (D.log spool.new.shelf)
         spool.new.state earlier h) }
     ensures runs { OnOk result (spool.new.state.halted ≡ None) }
-    ensures state { Runs spool.old.state spool.new.state
+    ensures state { KeepsLimitAndHolds spool.old.state spool.new.state
         × (spool.new.state.last ≡ spool.old.state.last) }
     // the counts
     ensures failed { IfErr result (λ e. e ≡ LoadEnd.DiskFault) }
@@ -71,8 +71,11 @@ fn abandon_pair<D: Shelf>(spool: &mut Spool<D, Indexed>, pair: SealedPair<D::Dra
     spool.abandon(End::Sealed(index));
 }
 
-/// Publishes a pair under a stamp that is `floor` or greater, and answers the stamp. If that fails
-/// the files go back to the shelf.
+/// Publishes a pair under a stamp that is `floor`, in microseconds since 1970, or greater, and
+/// returns the stamp.
+///
+/// After `StampsSpent` the pair's files have gone back to the shelf; after `DiskFault` the pair is
+/// in doubt.
 fn publish<D: Shelf>(
     spool: &mut Spool<D, Indexed>,
     pair: SealedPair<D::Draft>,
@@ -92,11 +95,11 @@ fn publish<D: Shelf>(
         (given (D.Draft.sealed_bytes pair.index)) in MatchResult result
         (λ s. Publishes IsWholePair (D.log spool.old.shelf) (D.log spool.new.shelf)
         spool.new.state earlier h (entry s p) f)
-        (FailsBy (D.log spool.old.shelf) (D.log spool.new.shelf) spool.new.state earlier h p f) }
+        (IsUnpublished (D.log spool.old.shelf) (D.log spool.new.shelf) spool.new.state earlier h p f) }
     ensures state { MatchResult result
         (λ s. MayPublish spool.old.state × (s ≡ next_stamp spool.old.state.last floor)
         × (spool.new.state ≡ published spool.old.state s))
-        (StateBy spool.old.state spool.new.state (next_stamp spool.old.state.last floor)
+        (IsUnpublishedState spool.old.state spool.new.state (next_stamp spool.old.state.last floor)
         (D.faults spool.new.shelf)) }
     // the counts
     ensures cause { RoseIf (result ≡ Err LoadEnd.DiskFault) (D.faults spool.old.shelf)
@@ -111,7 +114,7 @@ fn publish<D: Shelf>(
             Err(LoadEnd::StampsSpent { last })
         }
         Err(PublishErr::DiskFault) => Err(LoadEnd::DiskFault),
-        // An earlier call failed: none did.
+        // This error is that of a halted spool, and this one is not halted.
         Err(
             PublishErr::Halted {
                 since: _since,
@@ -124,14 +127,17 @@ fn publish<D: Shelf>(
     }
 }
 
-/// The line of a pair that was published.
+/// The text of a published pair's line.
 fn line(alloc: Global, stamp: u64, packets: u64) -> Result<String, AllocError>
     ensures { IfOk result (λ t. string_bytes t ≡ line_text stamp packets) }
 {
     format!(in alloc; "{stamp} {packets}\n")
 }
 
-/// Writes the line of a pair that was published.
+/// Writes the line of a published pair by one `put`.
+///
+/// `WriteFault` comes only if the output's count of faults rose, and a prefix of the line is then
+/// written; after `NoMemory` nothing is.
 fn write_line<O: Sink>(alloc: Global, stamp: u64, packets: u64, out: &mut O) -> Result<(), LoadEnd>
     ensures line { WritesLine stamp packets (O.written out.old) (O.written out.new) result }
     ensures cause { RoseJustIf (result ≡ Err LoadEnd.WriteFault)
@@ -171,7 +177,7 @@ pub(crate) fn finish<D: Shelf, O: Sink, C: Clock>(
         (situation h spool.old.state (C.to_come clock.old)) rs
         (D.log spool.old.shelf) (D.log spool.new.shelf) spool.new.state earlier h f
         (C.to_come clock.new) (O.written out.old) (O.written out.new) result }
-    ensures state { Runs spool.old.state spool.new.state
+    ensures state { KeepsLimitAndHolds spool.old.state spool.new.state
         × (result ≢ Err LoadEnd.DiskFault → spool.new.state.halted ≡ None) }
     ensures failed { IfErr result IsFinishEnd }
     // the counts

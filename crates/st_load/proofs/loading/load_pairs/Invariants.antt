@@ -9,7 +9,7 @@ use Rattle.st_pcap.specs.Reading.{IsGoing}
 use Rattle.st_spool.specs.Standing.{StandsFor}
 use Rattle.st_load.specs.Filling.{HasReadTo, HasCounted, HasCome}
 use Rattle.st_load.specs.Loading.{situation}
-use Rattle.st_load.specs.Publishing.{Runs}
+use Rattle.st_load.specs.Publishing.{KeepsLimitAndHolds}
 use Rattle.st_load.proofs.Going.{SoFar}
 use Rattle.st_load.proofs.loading.load_pairs.Given as goal
 
@@ -22,7 +22,7 @@ invariant-pairs g l = record {
       (λ (bytes : List ℕ) (rs : List Rec). HasReadTo l.reader bytes rs (g.S.Source.left l.source)) l.first l.number;
   input : (bytes : List ℕ) → HasReadTo l.fn.reader bytes (l.fn.first ∷ []) (g.S.Source.left l.fn.source) → HasCome l.layout.size l.number bytes l.first l.reader (g.S.Source.left l.source);
   runs : l.spool.state.halted ≡ None;
-  state : Runs l.fn.spool.state l.spool.state;
+  state : KeepsLimitAndHolds l.fn.spool.state l.spool.state;
   going : IsGoing l.reader.phase;
   number : HasCounted l.number l.reader;
   later : g.D.Shelf.faults l.fn.spool.shelf ≤ g.D.Shelf.faults l.spool.shelf;
