@@ -27,7 +27,8 @@ abbrev pub HasEach : Node → ℕ → List PositionedRecord → List PositionedR
 HasEach q now given xs =
     (x : PositionedRecord) → Contains given x → Matches q now x.1 → Contains xs x
 
--- from a whole pair: only heads of packets that match were read; if all were read, they were picked
+-- of a whole pair only heads of packets that match were read; after an Ok all of these were, and
+-- their picks were added
 pub record PicksPair {T : Type 0} (q : Node) (now : ℕ) (given : List PositionedRecord)
     (place stamp : ℕ) (old new : List Picked) (reads_before reads_now asked_before asked_now : ℕ)
     (result : Result T AnswerErr) : Type 0 where
@@ -37,7 +38,7 @@ pub record PicksPair {T : Type 0} (q : Node) (now : ℕ) (given : List Positione
   pub asked_most : asked_now ≤ asked_before + RECORD_HEAD * length xs
   pub ends : Unhurt (λ t. HasEach q now given xs × (new ≡ old ++ picks_of place stamp xs)) result
 
--- picks of the pair at this place were added, and an error names its stamp
+-- picks of the pair with this number in the set were added, and damage that is named has its stamp
 pub record AddsOfPair {T : Type 0} (held : Option (List Entry)) (place : ℕ) (old new : List Picked)
     (result : Result T AnswerErr) : Type 0 where
   pub stamp : ℕ
@@ -45,7 +46,7 @@ pub record AddsOfPair {T : Type 0} (held : Option (List Entry)) (place : ℕ) (o
   pub adds : AddsPicks place stamp old new
   pub fails : IfErr result (IsReadErr stamp)
 
--- the block file of the pair at this place was lent, and is the last of the files
+-- after an Ok the block file of the pair with this number in the set is the last of the files
 pub record AddsFile {T F : Type 0} (content : F → Option (List ℕ)) (home : F → ℕ) (id : ℕ)
     (held : Option (List Entry)) (place : ℕ) (old new : List F)
     (result : Result T AnswerErr) : Type 0 where
@@ -54,25 +55,26 @@ pub record AddsFile {T F : Type 0} (content : F → Option (List ℕ)) (home : F
   pub last : OnOk result
       (OfEntry held place (λ e. map content new ≡ map content old ++ Some e.block ∷ []))
 
--- a fault of the disk was the store's, or that of a file that is still to be closed
+-- the store's count of faults never falls; if the disk failed it rose, or that of a file that is
+-- still to be closed did
 pub record HasFaultCause {T : Type 0} (before now of_files : ℕ)
     (result : Result T AnswerErr) : Type 0 where
   pub later : before ≤ now
   pub failed : IsErrOf result error.DiskFault → Rose before now ⊎ (0 < of_files)
 
--- if the set is known, the picks are of its packets that match, and lie in the files
+-- if the set is known, these files are its block files, and the picks are of its packets that match
 abbrev pub PicksFound :
     Node → ℕ → Option (List Entry) → List (Option (List ℕ)) → List Picked → Type 0
 PicksFound q now held contents ps =
     (set : List Entry) → held ≡ Some set → ArePickedOf q now set contents ps
 
--- of a whole set, only heads of packets that match were read
+-- if the set is known and whole, only heads of packets that match were read
 abbrev pub ReadsSet : Node → ℕ → Option (List Entry) → ℕ → ℕ → Type 0
 ReadsSet q now held reads asked =
     (set : List Entry) → held ≡ Some set → IsWholeSet set
     → (ps : List Picked) × AreReadFor q now set reads asked ps
 
--- of a whole set, the packets that match were picked, each once
+-- if the set is known and whole, the packets that match were picked, each once, by one read each
 abbrev pub PicksSet : Node → ℕ → Option (List Entry) → ℕ → ℕ → List Picked → Type 0
 PicksSet q now held reads asked ps =
     (set : List Entry) → held ≡ Some set → IsWholeSet set

@@ -8,13 +8,13 @@ use Rattle.st_answer.specs.declared.errors.AnswerErr.{AnswerErr}
 use Rattle.st_answer.specs.declared.errors.AnswerErr.TheVariants as error
 use Rattle.st_answer.specs.Picks.{picks_of}
 
--- a pick of the pair at this place, with this stamp
+-- a pick of the pair with this number in the set and this stamp
 pub record IsOf (pair_place pair_stamp : ℕ) (p : Picked) : Type 0 where
   pub place : p.place ≡ pair_place
   pub stamp : p.stamp ≡ pair_stamp
   pub nsec : p.nsec ≤ MAX_NSEC
 
--- picks of that pair were added
+-- picks of the pair with this number in the set and this stamp were added
 abbrev pub AddsPicks : ℕ → ℕ → List Picked → List Picked → Type 0
 AddsPicks place stamp old new =
     (more : List Picked) × (new ≡ old ++ more) × All (IsOf place stamp) more

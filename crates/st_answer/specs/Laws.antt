@@ -7,13 +7,13 @@ use Rattle.st_answer.specs.Packets.{Packet}
 use Rattle.st_answer.specs.Answer.{IsAnswer}
 use Rattle.st_answer.specs.Replies.{Question, IsReply}
 
--- a file set has one answer at most
+-- a file set has at most one answer to a query at one time of the clock
 abbrev pub OneAnswer : Type 0
 OneAnswer =
     (q : Node) (now : ℕ) (set : List Entry) (ps qs : List Packet)
     → IsAnswer q now set ps → IsAnswer q now set qs → ps ≡ qs
 
--- and one reply at most
+-- a file set has at most one reply to a question
 abbrev pub OneReply : Type 0
 OneReply =
     (q : Question) (set : List Entry) (rs qs : List Rec)

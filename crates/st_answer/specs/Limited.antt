@@ -4,7 +4,7 @@ use Rattle.std.specs.Prelude.{◌≡◌, ◌≤◌, ℕ, List, length, take, sum
 use Rattle.st_base.specs.Records.{Rec}
 use Rattle.st_base.specs.declared.limits.Limits.{Limits}
 
--- the bytes that these records captured, their heads not counted
+-- the captured bytes of these records, their heads not counted
 abbrev pub captured : List Rec → ℕ
 captured rs = sum_by (λ (r : Rec). length r.body) rs
 

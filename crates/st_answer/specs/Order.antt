@@ -14,7 +14,7 @@ use Rattle.st_answer.specs.Limited.{Limited}
 abbrev pub HaveLengths : List Picked → List Rec → Type 0
 HaveLengths ps rs = map (λ (p : Picked). p.len) ps ≡ map (λ (r : Rec). length r.body) rs
 
--- so many of these picks are the longest prefix within the limits
+-- this many of the picks, from the first on, are the longest prefix within the limits
 abbrev pub AreWithin : Limits → List Picked → ℕ → Type 0
 AreWithin limits ps count = (rs : List Rec) → HaveLengths ps rs → Limited limits rs (take count rs)
 
@@ -22,11 +22,11 @@ AreWithin limits ps count = (rs : List Rec) → HaveLengths ps rs → Limited li
 unfoldable pub comes_before : Picked → Picked → Bool
 comes_before p q = is_lt (derived.ghosts.cmp p q)
 
--- in order: by second, nanosecond, stamp and position
+-- the picks are in order: by second, nanosecond, stamp and position
 abbrev pub AreInOrder : List Picked → Type 0
 AreInOrder ps = IsSorted derived.ghosts.cmp ps
 
--- the picks in order, and of those a prefix
+-- the picks were sorted into the answer's order, and cut to the longest prefix within the limits
 pub record IsOrdered (limits : Limits) (ps out : List Picked) : Type 0 where
   pub sorted : List Picked
   pub same : IsPermutation ps sorted
@@ -35,7 +35,8 @@ pub record IsOrdered (limits : Limits) (ps out : List Picked) : Type 0 where
   pub cut : out ≡ take count sorted
   pub limited : AreWithin limits sorted count
 
--- the number of picks, and of the bytes of their pieces, as far as a u64 counts
+-- what is told of these picks: their number, and that of the bytes of the file head and their
+-- records, up to the greatest u64
 pub record TellsPicks (ps : List Picked) (told : Told) : Type 0 where
   pub packets : told.packets ≡ length ps
   pub bytes : told.bytes

@@ -12,7 +12,7 @@ pub record Packet : Type 0 where
   pub position : ℕ
   pub packet : Rec
 
--- what was captured, of each packet
+-- the records of these packets
 abbrev pub records_of : List Packet → List Rec
 records_of ps = map (λ (p : Packet). p.packet) ps
 
@@ -27,7 +27,7 @@ pub record IsPacketOf (e : Entry) (p : Packet) : Type 0 where
   pub whole : IsWhole e.block e.index given
   pub there : Contains given (p.position, p.packet)
 
--- the packet is one of the set
+-- the packet is one of a pair of the set
 abbrev pub IsPacketIn : List Entry → Packet → Type 0
 IsPacketIn set p = (e : Entry) × Contains set e × IsPacketOf e p
 

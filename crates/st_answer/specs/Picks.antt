@@ -1,4 +1,4 @@
--- The packets whose heads were read, as numbers beside the bytes of their block files.
+-- Picks: the packets whose heads were read. The bodies are those in the block files.
 use Rattle.std.specs.Prelude.{◌≡◌, ℕ, ◌+◌, ◌*◌, ◌<◌, ◌≤◌, List, [], length, take, drop, map, All, Contains, slice_index_or, sum_by, cond, nat_eq, ◌&&◌}
 use Rattle.st_base.specs.Records.{Rec}
 use Rattle.st_disk.specs.Pairs.{Entry}
@@ -10,7 +10,7 @@ use Rattle.st_rows.specs.Whole.{IsWhole}
 use Rattle.st_answer.specs.declared.picked.Picked.{Picked}
 use Rattle.st_answer.specs.Packets.{Packet, IsWholePair, IsPacketIn}
 
--- what is picked of a record
+-- the pick of this record, by the number of its pair in the set, the pair's stamp and its position
 abbrev pub pick_of : ℕ → ℕ → ℕ → Rec → Picked
 pick_of place stamp position r =
     record {
@@ -23,11 +23,11 @@ pick_of place stamp position r =
       place = place;
     }
 
--- what is picked of records at their positions
+-- the picks of these records at their positions, which are all of one pair
 abbrev pub picks_of : ℕ → ℕ → List PositionedRecord → List Picked
 picks_of place stamp xs = map (λ (x : PositionedRecord). pick_of place stamp x.0 x.1) xs
 
--- the blocks of a set
+-- the block files of a set
 abbrev pub blocks_of : List Entry → List (List ℕ)
 blocks_of set = map (λ (e : Entry). e.block) set
 
@@ -62,17 +62,18 @@ pub record IsPickOf (q : Node) (now : ℕ) (e : Entry) (p : Picked) : Type 0 whe
   pub len : p.len ≡ length (record_in e.block p).body
   pub matches : Matches q now (record_in e.block p)
 
--- the pick has the stamp of the pair, and if the pair is whole is that of a packet that matches
+-- the pick has the stamp of the pair, and is that of a packet that matches if the pair is whole
 pub record IsFoundIn (q : Node) (now : ℕ) (e : Entry) (p : Picked) : Type 0 where
   pub stamp : p.stamp ≡ e.stamp
   pub pick : IsWholePair e → IsPickOf q now e p
 
--- the pick is so of the pair at its place in the set
+-- the pick has the stamp of the pair with its number in the set, and is that of a packet of the
+-- pair that matches if the pair is whole
 abbrev pub IsFound : Node → ℕ → List Entry → Picked → Type 0
 IsFound q now set p =
     (d : Entry) → p.place < length set → IsFoundIn q now (slice_index_or set p.place d) p
 
--- the pick's place is one of so many, and its nanoseconds are less than a second
+-- the pick's pair is one of this many, and its nanoseconds are less than a second
 pub record IsPlaced (n : ℕ) (p : Picked) : Type 0 where
   pub place : p.place < n
   pub nsec : p.nsec ≤ MAX_NSEC
@@ -91,8 +92,8 @@ HasAllOf q now set entries ps =
     (x : Packet) → IsPacketIn entries x → Matches q now x.packet
     → Contains (map (packet_in set) ps) x
 
--- picks for which so many reads were made, for so many bytes: of packets of the set that match, no
--- two at one position
+-- these are picks of packets of the set that match, no two of one packet, and at least as many as
+-- the reads, which asked for no more bytes than the heads have
 pub record AreReadFor (q : Node) (now : ℕ) (set : List Entry) (reads asked : ℕ)
     (ps : List Picked) : Type 0 where
   pub found : All (λ p. (p.place < length set) × IsFound q now set p) ps

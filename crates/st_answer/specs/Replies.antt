@@ -30,7 +30,8 @@ pub record IsReply (q : Question) (set : List Entry) (rs : List Rec) : Type 0 wh
   pub is : IsAnswer q.node q.now set answer
   pub limited : Limited q.limits (records_of answer) rs
 
--- the number of records, and of the bytes of the pieces, as far as a u64 counts
+-- what is told of these records: their number, and that of the bytes of their pcap, up to the
+-- greatest u64
 pub record Tells (u : unit.Unit) (rs : List Rec) (told : Told) : Type 0 where
   pub packets : told.packets ≡ length rs
   pub bytes : told.bytes ≡ min (sum_by length (Pieces rs u)) (2 ^ 64 - 1)
@@ -43,8 +44,8 @@ SendsSome after old new q set =
     ⊎ ((rs : List Rec) × IsReply q set rs
     × (n : ℕ) × SentAll after old new (Pieces (take n rs) q.unit))
 
--- an error ends it: after a failure of the outlet a part of the reply was sent; after any other
--- nothing was, or the pieces of a prefix
+-- What an answer that ended with this error sent: after a failure of the outlet a part of the
+-- reply; after any other nothing, or the pieces of a prefix of it.
 abbrev pub BreaksOff :
     {S : Type 0} → (S → List ℕ → S) → (S → List ℕ) → Option S → Option S → Question → List Entry
     → AnswerErr → Type 0
@@ -64,7 +65,8 @@ Replies after gone old new q set result =
     × SentAll after old new (Pieces rs q.unit) × Tells q.unit rs told)
     (BreaksOff after gone old new q set)
 
--- if the set that was held is known, and all its pairs are whole
+-- the reply to the question was sent, or an error ended it, if the set that was held is known and
+-- all its pairs are whole
 abbrev pub RepliesFor :
     {S : Type 0} → (S → List ℕ → S) → (S → List ℕ) → Option S → Option S → Question
     → Option (List Entry) → Result Told AnswerErr → Type 0
@@ -79,7 +81,8 @@ BlamesIn set (error.Damaged stamp damage) =
     (e : Entry) × Contains set e × (e.stamp ≡ stamp) × (IsWholePair e → ⊥)
 BlamesIn set error.NoMemory = Unit {0}
 
--- if the set that was held is known
+-- damage that is named is that of a pair of the set that was held and isn't whole, if the set is
+-- known
 abbrev pub Blames : {T : Type 0} → Option (List Entry) → Result T AnswerErr → Type 0
 Blames asked result = (set : List Entry) → asked ≡ Some set → IfErr result (BlamesIn set)
 

@@ -38,7 +38,8 @@ abbrev pub SendsPrefix :
     → Type 0
 SendsPrefix after old new pieces rs = (n : ℕ) × SentAll after old new (pieces (take n rs))
 
--- how sending records fails: the outlet took a part of their pieces; or those of a prefix of them
+-- how sending records fails: the outlet took a part of their pieces; or another error came, and all
+-- pieces of a prefix of the records were sent
 abbrev pub StopsAmong :
     {S : Type 0} → (S → List ℕ → S) → (S → List ℕ) → Option S → Option S → (List Rec
     → List (List ℕ)) → List Rec → AnswerErr → Type 0
@@ -60,7 +61,7 @@ SendsRecords after gone old new pieces rs result =
 abbrev pub body_pieces : unit.Unit → List Rec → List (List ℕ)
 body_pieces u rs = flat_map (record_pieces u) rs
 
--- the picks are those of this set, whose block files have this content
+-- the files are the block files of this set, and the picks are of its packets that match
 pub record ArePickedOf (q : Node) (now : ℕ) (set : List Entry)
     (contents : List (Option (List ℕ))) (ps : List Picked) : Type 0 where
   pub known : contents ≡ map Some (blocks_of set)

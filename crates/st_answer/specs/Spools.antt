@@ -10,11 +10,11 @@ use Rattle.st_spool.specs.States.{SpoolState, SpoolView, held}
 use Rattle.st_spool.specs.declared.state.Span.{Span}
 use Rattle.st_answer.specs.Stores.{HoldsView}
 
--- the two holds have the same places
+-- the two holds are of one span of the history
 abbrev pub same_span : Span → Span → Bool
 same_span a b = nat_eq a.from b.from && nat_eq a.to b.to
 
--- how many of the holds are this one
+-- how many of these holds are this one
 abbrev pub times_in : List Span → Span → ℕ
 times_in holds hold = count_by (same_span hold) holds
 
@@ -22,8 +22,8 @@ times_in holds hold = count_by (same_span hold) holds
 abbrev pub sets_in : List Span → List Event → List (List Entry)
 sets_in holds h = map (λ hold. held hold h) holds
 
--- what a spool with this state knows of its holds, whose history is this and whose last hold took
--- these events; how many were taken, as far as a u64 counts
+-- what a spool with this state knows of its holds, if this is its history and its last hold took
+-- these events; how many were taken is counted up to the greatest u64
 abbrev pub spool_holds : SpoolState → Option (List Event) → Option (List Event) → HoldsView
 spool_holds st seen took =
     record {

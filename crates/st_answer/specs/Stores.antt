@@ -81,7 +81,7 @@ pub record IsSameStore {H : Type 0} (Became : Type 0) (id_before id_after : ℕ)
   pub holds : KeepsHolds before after
   pub others : StayHeld times_before times_after size_before size_after set_before set_after
 
--- a set that is known has so many entries, by rising stamps
+-- a set that is known has this many entries, by rising stamps
 abbrev pub IsSetOfSize : Option (List Entry) → ℕ → Type 0
 IsSetOfSize held n =
     (entries : List Entry) → held ≡ Some entries → (length entries ≡ n) × IsFileSet entries
@@ -100,7 +100,7 @@ pub record IsFresh (read asked_for failed : ℕ) (origin : FileOrigin) (wanted :
   pub kind : origin.kind ≡ wanted
   pub home : origin.home ≡ id
 
--- one file more is lent, or after an error none is
+-- after an Ok one file more is lent, and after an error none is
 abbrev pub LendsOne : {T E : Type 0} → LoansView → LoansView → Result T E → Type 0
 LendsOne before after result = MatchResult result (λ _. after ≡ lend before) (λ _. after ≡ before)
 
@@ -115,7 +115,7 @@ pub record IsSpent (Became : Type 0) (id_before id_after : ℕ) (before after : 
   pub out : KeepsSets before.out after.out
   pub lent : LendsNone loans_before loans_after
 
--- of the entry of this number of a set, if the set is known
+-- P holds of the entry with this number in the set, counted from 0, if the set is known
 abbrev pub OfEntry : Option (List Entry) → ℕ → (Entry → Type 0) → Type 0
 OfEntry held i P =
     (set : List Entry) (d : Entry) → held ≡ Some set → i < length set → P (slice_index_or set i d)

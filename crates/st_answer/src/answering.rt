@@ -1,3 +1,5 @@
+//! An answer over a store: a hold, the packets that match, what is sent of them.
+
 ghost use Rattle.std.specs.Prelude.{Option, ◌≡◌, ◌<◌, ◌≤◌, ◌+◌, ℕ, List, Some, [], length, map, All, IfOk, IfErr, OnOk, IsErrOf, MatchResult, sum_by};
 ghost use Rattle.st_disk.specs.Pairs.{Entry};
 ghost use Rattle.st_query.specs.declared.nodes.Node.{Node};
@@ -24,7 +26,8 @@ use st_pcap::Unit;
 use st_query::Query;
 use std::alloc::Global;
 
-/// Sends the picks that were found, in the answer's order and within the limits.
+/// Sends the packets of the picks that were found, in the answer's order and within the limits, and
+/// tells how many packets and bytes these are.
 fn reply<F: Reader, O: Outlet>(
     alloc: Global,
     files: &mut [F],
@@ -62,8 +65,9 @@ fn reply<F: Reader, O: Outlet>(
     }
 }
 
-/// Gathers and replies: what is done between the hold and its release.
-fn work<S: Store, O: Outlet>(
+/// Answers over a file set that is held: what is done between the hold and its release. The files
+/// that were lent are put into `files`, for the caller to close, also after an error.
+fn answer_held<S: Store, O: Outlet>(
     alloc: Global,
     store: &mut S,
     hold: &S::Held,
@@ -100,18 +104,21 @@ fn work<S: Store, O: Outlet>(
     }
 }
 
-/// Sends the packets of the store's file set that match `query`, as a pcap in `unit`, where the
-/// clock stands at `now` microseconds since 1970.
+/// Sends the packets of the store's file set that match `query`, as a pcap in `unit`, with the
+/// clock at `now` microseconds since 1970; and tells how many packets and bytes were sent.
 ///
 /// The set is held, each summary row is read, and each pair's packets that match are found by its
 /// index. The answer is sorted by second, nanosecond, stamp and position, and cut at the first
-/// packet that passes a limit. Then the file head goes out as one piece, and each packet as a piece
-/// of 16 bytes and, unless it is empty, one of its body, which is read then.
+/// packet that passes a limit: on the number of packets, or on their captured bytes. Then the file
+/// head goes out as one piece, and each packet as a piece of 16 bytes and, unless it is empty, one
+/// of its body, which is read then.
 ///
 /// `WriteFault` comes only if the outlet's count of faults rose, and a part of the answer is then
 /// sent; after every other end that count stayed. `DiskFault` comes only if the store or a file of
-/// it failed. `Damaged` names a pair that isn't whole. After these and after `NoMemory` nothing is
-/// sent, or whole packets from the first on. The hold and the files are given back on every path.
+/// it failed. `Damaged` names a pair that isn't whole. After `DiskFault`, `Damaged` and `NoMemory`
+/// nothing is sent, or whole packets from the first on. The hold and the files are given back on
+/// every path.
+/// Source: docs/FORMAT.md, "pcap" and "Index rows".
 pub fn answer<S: Store, O: Outlet>(
     alloc: Global,
     store: &mut S,
@@ -143,7 +150,7 @@ pub fn answer<S: Store, O: Outlet>(
     match store.hold() {
         Ok(hold) => {
             let mut files = Vec::new(alloc);
-            let result = work(
+            let result = answer_held(
                 alloc, store, &hold, query, now, unit, limits, &mut files, outlet,
             );
             close_all(store, files);

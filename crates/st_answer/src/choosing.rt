@@ -1,3 +1,5 @@
+//! Which packets of one pair match, by its index.
+
 ghost use Rattle.std.specs.Prelude.{Option, ◌≡◌, ◌<◌, ◌↔◌, ◌^◌, ℕ, List, Some, length, IfErr};
 ghost use Rattle.st_base.specs.Faults.{HasCauseOf};
 ghost use Rattle.st_base.specs.PlacedReads.{IsSameFile};
@@ -22,7 +24,7 @@ use st_table::{Table, TableErr};
 use st_tblock::{PLAIN, SNAPPY};
 use std::alloc::Global;
 
-/// A table's error over the index of the pair with this stamp.
+/// How an answer fails if the table of an index fails so, the pair's stamp being `stamp`.
 fn table_failed(stamp: u64, error: TableErr) -> AnswerErr
     ensures reading { IsReadErr stamp result }
     ensures unhurt { NoCheckFailed error → IsNoDamage result }
@@ -43,7 +45,8 @@ fn table_failed(stamp: u64, error: TableErr) -> AnswerErr
     }
 }
 
-/// An evaluation's error over the index of the pair with this stamp.
+/// How an answer fails if evaluating the query over an index fails so, the pair's stamp being
+/// `stamp`.
 fn eval_failed(stamp: u64, error: EvalErr) -> AnswerErr
     ensures reading { IsReadErr stamp result }
     ensures unhurt { NoDamage error → IsNoDamage result }
@@ -56,7 +59,8 @@ fn eval_failed(stamp: u64, error: EvalErr) -> AnswerErr
     }
 }
 
-/// The positions that an index selects, whose footer, index block and summary row are read first.
+/// The positions of the packets that match, by the index of the pair with this stamp. Its footer,
+/// index block and summary row are read first.
 fn select<F: Reader>(
     alloc: Global,
     file: &mut F,
@@ -90,7 +94,11 @@ fn select<F: Reader>(
     }
 }
 
-/// The positions of the packets of the `i`-th pair that match. Its index is lent and closed.
+/// The positions of the packets that match of the `i`-th pair of the held set, counted from 0. The
+/// pair has this stamp, and its index is lent and closed.
+///
+/// `DiskFault` comes only if the store's count of faults rose. `Damaged` has this stamp, and comes
+/// only if the pair isn't whole.
 pub fn choose<S: Store>(
     alloc: Global,
     store: &mut S,

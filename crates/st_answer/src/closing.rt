@@ -1,3 +1,5 @@
+//! The files that an answer lent are closed.
+
 ghost use Rattle.std.specs.Prelude.{◌≡◌, ◌≤◌, length, All, sum_by};
 ghost use Rattle.st_shelf.specs.Ends.{TakesFaults};
 ghost use Rattle.st_answer.specs.Stores.{IsSameStore};
@@ -5,7 +7,8 @@ ghost use Rattle.st_answer.specs.Lending.{TakesBack};
 
 use crate::store::Store;
 
-/// Closes all these files.
+/// Closes all these files, which this store lent. The store's count of faults rises if that of one
+/// of them had.
 pub fn close_all<S: Store>(store: &mut S, files: Vec<S::File>)
     requires home { All (λ f. (S.origin f).home ≡ S.id store.old) files.items }
     requires lent { length files.items ≤ (S.loans store.old).lent }

@@ -1,3 +1,5 @@
+//! What an answer tells, and why one breaks off.
+
 use st_base::Damage;
 
 /// What was sent: the number of packets, and the number of bytes of all pieces, the heads included.

@@ -1,3 +1,5 @@
+//! The packets of a held set that match, as picks.
+
 ghost use Rattle.std.specs.Prelude.{Option, ◌≡◌, ◌<◌, ◌≤◌, ◌+◌, ℕ, List, Some, [], length, map, All, IfOk, IfErr, OnOk, MatchResult, sum_by};
 ghost use Rattle.st_disk.specs.Pairs.{Entry};
 ghost use Rattle.st_shelf.specs.Loans.{LoansView};
@@ -18,7 +20,8 @@ use crate::store::Store;
 use st_query::Query;
 use std::alloc::Global;
 
-/// Lends the block file of the `i`-th pair and reads the heads of its packets that match.
+/// Lends the block file of the `i`-th pair of the held set, counted from 0, puts it into `files`,
+/// and adds a pick for each of its packets that match, whose heads are read.
 fn gather_one<S: Store>(
     alloc: Global,
     store: &mut S,
@@ -70,8 +73,12 @@ fn gather_one<S: Store>(
     }
 }
 
-/// Lends the block files of all pairs of the held set, and reads the heads of the packets that
-/// match, each by one read.
+/// A pick for each packet of the held set that matches, pair by pair, each by one read of the
+/// packet's head. The block files of all pairs are lent and put into `files`, in the set's order;
+/// after an error those of the first pairs.
+///
+/// `DiskFault` comes only if the count of faults of the store or of a lent file rose. `Damaged`
+/// names a pair that isn't whole.
 pub fn gather<S: Store>(
     alloc: Global,
     store: &mut S,

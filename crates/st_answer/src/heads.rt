@@ -1,3 +1,5 @@
+//! The heads of packets, read from one block file.
+
 ghost use Rattle.std.specs.Prelude.{Option, ◌≡◌, ◌≤◌, ◌+◌, ◌*◌, ℕ, List, Some, length, IfOk, IfErr};
 ghost use Rattle.st_base.specs.Records.{Rec};
 ghost use Rattle.st_base.specs.Faults.{HasCauseOf};
@@ -12,7 +14,8 @@ use crate::picked::Picked;
 use st_base::Reader;
 use st_block::{HeadErr, record_head_at};
 
-/// Reads the head at `position` of the block file of the pair with this stamp and place.
+/// The pick of the packet whose record is at `position` in the block file of the pair with this
+/// stamp, the number `place` of the held set, counted from 0.
 fn head_of<F: Reader>(
     file: &mut F,
     place: usize,
@@ -47,7 +50,10 @@ fn head_of<F: Reader>(
     }
 }
 
-/// Reads the heads at these positions, each by one read, and adds them to `picked`.
+/// Reads the heads at these positions, each by one read, and adds their picks to `picked`. The pair
+/// has this stamp and is number `place` of the held set, counted from 0.
+///
+/// `DiskFault` comes only if the file's count of faults rose. `Damaged` has this stamp.
 pub fn heads<F: Reader>(
     file: &mut F,
     place: usize,

@@ -2,12 +2,13 @@
 
 ghost use Rattle.st_answer.specs.Laws.{OneAnswer, OneReply};
 
-/// A file set has one answer at most to a query at a `now`.
+/// A file set has at most one answer to a query at one time of the clock.
 pub fn one_answer()
     ensures { OneAnswer }
 {}
 
-/// A file set has one reply at most: one list of records that the limits leave of its answer.
+/// A file set has at most one reply to a question: one list of records that the limits leave of its
+/// answer.
 pub fn one_reply()
     ensures { OneReply }
 {}

@@ -14,12 +14,12 @@
 //!   pieces of a prefix of the packets.
 //! - A fault of the outlet or the disk is answered only if its count rose, and the outlet's stays
 //!   after every other end. `Damaged` names a pair of the held set that isn't whole.
-//! - Block files are read at most twice for each packet of the whole answer, its head and its body,
-//!   on every path, also after an error.
+//! - If the pairs of the set are whole and known, block files are read at most twice for each
+//!   packet of the whole answer, its head and its body, on every path, also after an error.
 //! - Every path closes the files that it lent and gives its hold back.
 //! - A file set has one answer at most (`one_answer`), and one reply within limits (`one_reply`).
-//! - A `Spool` meets `Store`: what it has seen is its history, and a hold takes the whole of it. So
-//!   does `SlicePair`, a pair over bytes in memory.
+//! - A `Spool` is a `Store`: what it has seen is its history, and a hold takes the whole of it. So
+//!   is a `SlicePair`, one pair over bytes in memory.
 //!
 //! # What it leaves to others
 //!

@@ -1,3 +1,5 @@
+//! The answer's order, its limits, and its counts.
+
 ghost use Rattle.std.specs.Prelude.{◌≡◌, ◌≤◌, length, IsTrue};
 ghost use Rattle.std.specs.List.Sorted.{IsPermutation, IsSortedBy};
 ghost use Rattle.st_answer.specs.Order.{comes_before, AreWithin, AreInOrder, IsOrdered, TellsPicks};
@@ -35,7 +37,7 @@ fn comes_before(one: &Picked, other: &Picked) -> bool
     one.cmp(other).is_lt()
 }
 
-/// Whether no pick comes before the one that it follows.
+/// Whether the picks are in the answer's order.
 fn is_sorted(picked: &[Picked]) -> bool
     ensures { IsTrue result → IsSortedBy comes_before picked.now }
 {
@@ -70,7 +72,7 @@ pub fn in_order(picked: Vec<Picked>, limits: Limits) -> Vec<Picked>
     picked
 }
 
-/// How many packets these are, and how many bytes the file head and their records have.
+/// How many packets these picks are, and how many bytes the file head and their records have.
 pub fn told_of(picked: &[Picked]) -> Told
     ensures { TellsPicks picked.now result }
 {

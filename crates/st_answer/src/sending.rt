@@ -1,3 +1,5 @@
+//! The pieces of an answer, sent to an outlet.
+
 ghost use Rattle.std.specs.Prelude.{Option, ◌≡◌, ◌<◌, ◌≤◌, ◌+◌, ℕ, List, Some, [], ◌∷◌, length, map, All, OnOk, IfErr, IsErrOf, vec_len, sum_by};
 ghost use Rattle.st_base.specs.Records.{Rec};
 ghost use Rattle.st_base.specs.Faults.{HasCause, HasCauseOf};
@@ -51,7 +53,7 @@ fn send_pieces<O: Outlet>(outlet: &mut O, head: &[u8], body: &[u8]) -> Result<()
     }
 }
 
-/// Reads the body of a pick into `buffer`, by one read, and none if it is empty.
+/// Reads the body of a pick's packet into `buffer`, by one read, or by none if it is empty.
 fn body_of<F: Reader>(file: &mut F, pick: Picked, buffer: &mut Vec<u8>) -> Result<(), AnswerErr>
     // what comes
     ensures body { (r : Rec) → IsRecordAt (F.content file.old) pick.position r
@@ -83,7 +85,7 @@ fn body_of<F: Reader>(file: &mut F, pick: Picked, buffer: &mut Vec<u8>) -> Resul
     }
 }
 
-/// Sends the record of a pick, whose body is read into `buffer`.
+/// Sends the record of a pick's packet, whose body is read into `buffer`.
 fn send_one<F: Reader, O: Outlet>(
     file: &mut F,
     pick: Picked,
@@ -123,7 +125,7 @@ fn send_one<F: Reader, O: Outlet>(
     }
 }
 
-/// Sends the records of these picks, each of the file at its place, with one read of each body.
+/// Sends the records of these picks, each from the file of its pair, with one read of each body.
 pub fn send_records<F: Reader, O: Outlet>(
     files: &mut [F],
     picked: &[Picked],
@@ -159,7 +161,10 @@ pub fn send_records<F: Reader, O: Outlet>(
     Ok(())
 }
 
-/// Sends the file head, and then the records of these picks.
+/// Sends the file head, and then the records of these picks, each from the file of its pair.
+///
+/// `WriteFault` comes only if the outlet's count of faults rose, `DiskFault` only if that of a file
+/// did. `Damaged` names a pair that isn't whole.
 pub fn send_all<F: Reader, O: Outlet>(
     files: &mut [F],
     picked: &[Picked],

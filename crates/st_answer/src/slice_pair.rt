@@ -1,3 +1,5 @@
+//! A store over bytes in memory.
+
 ghost use Rattle.std.specs.Prelude.{◌≡◌};
 ghost use Rattle.st_shelf.specs.Loans.{no_loans};
 
@@ -9,13 +11,15 @@ use std::marker::Model;
 /// The stamp of the one pair of a [`SlicePair`].
 pub const SLICE_STAMP: u64 = 1;
 
-/// A store of one pair over bytes that lie in memory already, for tests. It takes no memory, and
-/// no file of it fails. It holds its set until 2^64 - 1 holds are out.
+/// A store of one pair over bytes that are in memory already, for tests. It takes no memory, and no
+/// file of it fails. A hold is refused only while 2^64 - 1 of them are out.
 #[derive(Drop)]
 pub struct SlicePair<'a> {
     block: &'a [u8],
     index: &'a [u8],
+    // How many holds were taken, up to the greatest u64.
     asks: u64,
+    // How many holds are out.
     held: u64,
     faults: u64,
     loans: Loans,
@@ -42,7 +46,7 @@ pub struct SliceHold;
 impl<'a> SlicePair<'a> {
     ghost use Rattle.st_answer.specs.SlicePairs.{new_pair};
 
-    /// The pair of these bytes, with stamp 1.
+    /// The pair of a block file and an index with these bytes, with stamp 1.
     pub fn over(block: &'a [u8], index: &'a [u8]) -> SlicePair<'a>
         ensures { result ≡ new_pair block.now index.now }
     {

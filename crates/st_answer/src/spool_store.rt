@@ -1,3 +1,5 @@
+//! A spool as a store of pairs.
+
 use crate::store::Store;
 use st_base::{Failed, NoMemory};
 use st_shelf::Shelf;

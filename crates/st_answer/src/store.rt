@@ -1,3 +1,5 @@
+//! What an answer needs of pairs on a disk.
+
 ghost use Rattle.std.specs.Prelude.{Option, ◌≡◌, ◌<◌, ◌≤◌, ℕ, List, Some, IfOk, OnErr, MatchResult};
 ghost use Rattle.st_disk.specs.Pairs.{Entry};
 ghost use Rattle.st_disk.specs.declared.naming.Kind.TheVariants as kind;
@@ -17,8 +19,8 @@ use st_base::{Failed, NoMemory, Reader};
 /// `set` if that is known, in the order of their stamps, and no call but its release changes them.
 /// `loans` counts the files that are lent, and what was read of the block files that came back;
 /// `faults` counts the store's failures and never falls. `id` is the number by which a store knows
-/// its files. `becomes` is what an implementation promises besides of itself, before and after any
-/// calls.
+/// its files. `becomes` is what an implementation promises besides: how it is after any of these
+/// calls, from how it was before.
 pub trait Store {
     /// A file set that is held. It must be spent, by `release`.
     type Held;
@@ -44,7 +46,7 @@ pub trait Store {
 
     ghost origin: { Self.File → FileOrigin };
 
-    /// Holds the file set of some events that begin with all that the store had seen.
+    /// Holds a file set: that of a history which begins with all events that the store had seen.
     ///
     /// `NoMemory` takes no hold.
     fn hold(&mut self) -> Result<Self::Held, NoMemory>
@@ -62,7 +64,7 @@ pub trait Store {
         ensures faults { faults self.old ≤ faults self.new }
         ensures rest { (id self.new ≡ id self.old) × (loans self.new ≡ loans self.old) };
 
-    /// Ends a hold of this store.
+    /// Ends a hold of this store: its file set is held once less.
     fn release(&mut self, hold: Self::Held)
         requires { 0 < times_held self.old hold }
         // the hold
@@ -74,7 +76,7 @@ pub trait Store {
         ensures faults { faults self.old ≤ faults self.new }
         ensures rest { (id self.new ≡ id self.old) × (loans self.new ≡ loans self.old) };
 
-    /// How many entries the held set has. Their stamps rise.
+    /// How many entries the held set has. They are in the order of their stamps.
     fn count(&mut self, hold: &Self::Held) -> usize
         requires { 0 < times_held self.old hold.now }
         ensures count { result ≡ size self.old hold.now }
@@ -98,7 +100,8 @@ pub trait Store {
         ensures faults { faults self.old ≤ faults self.new }
         ensures loans { loans self.new ≡ loans self.old };
 
-    /// Lends the block file of the entry with the `i`-th least stamp. Its counts begin at 0.
+    /// Lends the block file of the entry with the `i`-th least stamp, counted from 0. The file's
+    /// counts of reads and faults begin at 0.
     ///
     /// `Failed` comes only if `faults` rose.
     fn block_of(&mut self, hold: &Self::Held, i: usize) -> Result<Self::File, Failed>
@@ -117,7 +120,8 @@ pub trait Store {
         ensures cause { HasFailed (faults self.old) (faults self.new) result }
         ensures loans { LendsOne (loans self.old) (loans self.new) result };
 
-    /// Lends the index of the entry with the `i`-th least stamp. Its counts begin at 0.
+    /// Lends the index of the entry with the `i`-th least stamp, counted from 0. The file's counts
+    /// of reads and faults begin at 0.
     ///
     /// `Failed` comes only if `faults` rose.
     fn index_of(&mut self, hold: &Self::Held, i: usize) -> Result<Self::File, Failed>
@@ -155,10 +159,10 @@ pub trait Store {
 
     ghost becomes_later: { (a b c : Self) → becomes a b → becomes b c → becomes a c };
 
-    // what the last hold took was seen
+    // all events that the last hold took were seen
     ghost took_seen: { (s : Self) → GoesOn (holds s).took (holds s).seen };
 
-    // what leaves `beside` leaves the origin
+    // calls on a file that keep its `beside` keep its origin
     ghost keeps: { (a b : Self.File)
         → Self.File.beside a ≡ Self.File.beside b → origin a ≡ origin b };
 }

@@ -95,7 +95,8 @@ fn publish<D: Shelf>(
         (given (D.Draft.sealed_bytes pair.index)) in MatchResult result
         (λ s. Publishes IsWholePair (D.log spool.old.shelf) (D.log spool.new.shelf)
         spool.new.state earlier h (entry s p) f)
-        (IsUnpublished (D.log spool.old.shelf) (D.log spool.new.shelf) spool.new.state earlier h p f) }
+        (IsUnpublished (D.log spool.old.shelf) (D.log spool.new.shelf) spool.new.state
+        earlier h p f) }
     ensures state { MatchResult result
         (λ s. MayPublish spool.old.state × (s ≡ next_stamp spool.old.state.last floor)
         × (spool.new.state ≡ published spool.old.state s))

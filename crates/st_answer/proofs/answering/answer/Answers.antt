@@ -9,9 +9,9 @@ pub returns-in-Ok-clause-spent : goal.returns-in-Ok-clause-spent
 returns-in-Ok-clause-spent g c =
     let takes = c.in-Ok.ensures.holds in
     let later = g.met.S.Store.becomes_later in
-    let stays = store_trans (later _ _ _) c.work-result.ensures.stays c.close_all.ensures.stays in
+    let stays = store_trans (later _ _ _) c.answer_held-result.ensures.stays c.close_all.ensures.stays in
     let gives = c.release.ensures.holds in
-    let none = lends_none _ _ _ _ _ _ c.work-result.ensures.files.1 c.close_all.ensures.loans in
+    let none = lends_none _ _ _ _ _ _ c.answer_held-result.ensures.files.1 c.close_all.ensures.loans in
     let out : 0 < g.S.Store.times_held c.hold.new.self c.in-Ok.hold = omega (arith, c.in-Ok.ensures.held.more) in (
       record {
         became = later _ _ _ c.in-Ok.ensures.becomes (later _ _ _ stays.became c.release.ensures.becomes);

@@ -5,7 +5,7 @@ use Rattle.st_answer.specs.Lending.{LendsMore}
 use Rattle.st_answer.specs.Sending.{ArePickedOf}
 use Rattle.st_answer.proofs.Files.{home_kept, len_kept, put_back}
 use Rattle.st_answer.proofs.Reading.{heads_bound, bodies_bound}
-use Rattle.st_answer.proofs.answering.work.Goals as goal
+use Rattle.st_answer.proofs.answering.answer_held.Goals as goal
 
 pub returns-in-Ok-clause-replies : goal.returns-in-Ok-clause-replies
 returns-in-Ok-clause-replies g c = (
