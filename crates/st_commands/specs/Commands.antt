@@ -15,8 +15,8 @@ use Rattle.st_pairs.specs.Pairs.{IsWholePair}
 use Rattle.st_commands.specs.declared.outcomes.Outcome.{Outcome}
 use Rattle.st_commands.specs.declared.outcomes.Outcome.TheVariants.{Done, WriteFault, DiskFault, Damaged, NoMemory}
 
--- as many files are out as before, unless their number has no room in a u64, and never more than
--- two more were
+-- as many files are lent as before, unless that number and two more pass the greatest u64; and in
+-- between no more than two more were
 pub record GivesAllBack (before now : LoansView) : Type 0 where
   pub most : now.lent ≤ before.lent
   pub exact : before.lent + 2 < 2 ^ 64 → now.lent ≡ before.lent
@@ -32,38 +32,39 @@ pub record KeepsSpool {D : Type 0} (log : D → Option Log) (id faults : D → �
   pub id_is : id new.shelf ≡ id old.shelf
   pub later : faults old.shelf ≤ faults new.shelf
 
--- and all files that they were lent came back
+-- calls on a spool changed no pair, left its state and its shelf's number, and gave back all files
+-- that they were lent
 pub record Stays {D : Type 0} (log : D → Option Log) (id faults : D → ℕ) (loans : D → LoansView)
     (old new : SpoolView D) : Type 0 where
   pub kept : KeepsSpool log id faults old new
   pub back : GivesAllBack (loans old.shelf) (loans new.shelf)
 
--- An output's count never falls. It rose if writing failed, and stayed if the command ended in
--- another way.
+-- An output's count of faults never falls. It rose if writing failed, and stayed if the command
+-- ended in another way.
 pub record HasWriteFault (before now : ℕ) (outcome : Outcome) : Type 0 where
   pub later : before ≤ now
   pub rose : outcome ≡ WriteFault → Rose before now
   pub still : outcome ≢ WriteFault → now ≡ before
 
--- a shelf's count never falls, and rose where it failed
+-- a shelf's count of faults never falls, and it rose if the shelf failed
 pub record HasDiskFault (before now : ℕ) (outcome : Outcome) : Type 0 where
   pub later : before ≤ now
   pub rose : outcome ≡ DiskFault → Rose before now
 
--- how a command ends that could not open a spool
+-- how a command ends if its spool can't be opened, for this cause
 abbrev pub EndsUnentered : EnterErr → Outcome → Type 0
 EndsUnentered enter.DiskFault outcome = outcome ≡ DiskFault
 EndsUnentered enter.NoMemory outcome = outcome ≡ NoMemory
 
--- What a command leaves of a shelf with this first log: after it each crash leaves the pairs that
--- were read at first, and so did one before, or an image that the shelf had then. Only a command
--- that ran out of memory, or whose shelf failed, may not have got so far.
+-- What a command leaves of a shelf with this first log. Each crash after it leaves the pairs that
+-- were read at first; a crash during it left these too, or what one might have left before. If
+-- memory ran out or the shelf failed, the spool may not have been opened.
 abbrev pub KeepsPairs : Log → Option Log → Outcome → Type 0
 KeepsPairs first known DiskFault = FailsToEnter first known
 KeepsPairs first known NoMemory = FailsToEnter first known
 KeepsPairs first known outcome = Clears first known (SamePairs (reads first))
 
--- a command ends so that could not open its spool
+-- the ways in which a command ends if its spool can't be opened
 abbrev pub IsUnentered : Outcome → Type 0
 IsUnentered Done = ⊥
 IsUnentered WriteFault = ⊥

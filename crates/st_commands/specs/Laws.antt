@@ -8,13 +8,13 @@ use Rattle.st_commands.specs.declared.outcomes.Outcome.TheVariants.{Done, Damage
 use Rattle.st_commands.specs.declared.outcomes.Report.{Report}
 use Rattle.st_commands.specs.declared.outcomes.Report.TheVariants.{Verdicts}
 
--- of a check that ended well each pair is whole
+-- if a check ended `Done`, each pair is whole
 abbrev pub DoneIsWhole : Type 0
 DoneIsWhole =
     (pairs : List Entry) (old new : Option (List ℕ)) → Reports Verdicts pairs old new Done
     → All (λ e. IsWholePair e.block e.index) pairs
 
--- a command that names a damaged pair names one that is there and isn't whole
+-- if a command ended `Damaged`, the pair that it names is there and isn't whole
 abbrev pub DamagedIsHurt : Type 0
 DamagedIsHurt =
     (report : Report) (pairs : List Entry) (old new : Option (List ℕ)) (stamp : ℕ) (d : Damage)

@@ -1,4 +1,4 @@
--- The line of a pair. Each ends with a line feed.
+-- The lines of pairs, as text. Each ends with a line feed.
 use Rattle.std.specs.Prelude.{ℕ, ◌/◌, ◌%◌, List, ◌++◌, codes}
 use Rattle.std.specs.Fmt.{decimal}
 use Rattle.st_rows.specs.Rows.{Moment, SummaryView}
@@ -7,7 +7,7 @@ use Rattle.st_index.specs.declared.checker.Part.TheVariants.{Block, Index, Rows}
 use Rattle.st_index.specs.declared.checker.Verdict.{Verdict}
 use Rattle.st_index.specs.declared.checker.Verdict.TheVariants.{Whole, Differs}
 
--- the decimal digit of n whose unit is this power of ten
+-- the decimal digit of n at this power of ten
 abbrev pub digit_text : ℕ → ℕ → List ℕ
 digit_text unit n = decimal (n / unit % 10)
 
@@ -18,15 +18,16 @@ nine_digits n =
     ++ (digit_text 100000 n ++ (digit_text 10000 n ++ (digit_text 1000 n
     ++ (digit_text 100 n ++ (digit_text 10 n ++ digit_text 1 n)))))))
 
--- a moment: its seconds, a point, and its nanoseconds in nine digits
-abbrev pub moment_text : Moment → List ℕ
-moment_text t = decimal t.0 ++ (codes "." ++ nine_digits t.1)
+-- a time: its seconds, a point, and its nanoseconds in nine digits
+abbrev pub time_text : Moment → List ℕ
+time_text t = decimal t.0 ++ (codes "." ++ nine_digits t.1)
 
--- a pair with this summary: its stamp, the number of its packets, the least and the greatest time
+-- the line of a pair with this summary: its stamp, the number of its packets, the least and the
+-- greatest time
 abbrev pub summary_line : ℕ → SummaryView → List ℕ
 summary_line stamp s =
-    decimal stamp ++ (codes " " ++ (decimal s.packets ++ (codes " " ++ (moment_text s.first
-    ++ (codes " " ++ (moment_text s.last ++ codes "\n"))))))
+    decimal stamp ++ (codes " " ++ (decimal s.packets ++ (codes " " ++ (time_text s.first
+    ++ (codes " " ++ (time_text s.last ++ codes "\n"))))))
 
 -- the name of a part of a pair
 abbrev pub part_text : Part → List ℕ
@@ -34,8 +35,8 @@ part_text Block = codes "block"
 part_text Index = codes "index"
 part_text Rows = codes "rows"
 
--- a pair with this verdict: its stamp, and that it is whole, with the number of its packets, or the
--- check that fails: the part that it is of, its place, what was found and what was wanted
+-- the line of a pair with this verdict: its stamp, and that it is whole, with the number of its
+-- packets; or the check that fails: the part that it is of, its place, what was found and wanted
 abbrev pub verdict_line : ℕ → Verdict → List ℕ
 verdict_line stamp (Whole packets) =
     decimal stamp ++ (codes " whole " ++ (decimal packets ++ codes "\n"))

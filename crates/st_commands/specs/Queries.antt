@@ -14,7 +14,7 @@ use Rattle.st_pairs.specs.Pairs.{IsWholePair}
 use Rattle.st_commands.specs.declared.outcomes.Outcome.{Outcome}
 use Rattle.st_commands.specs.declared.outcomes.Outcome.TheVariants.{Done, WriteFault, DiskFault, Damaged, NoMemory}
 
--- the outcome of a query whose answer ended so
+-- how a query ends if its answer ended so
 abbrev pub EndsWith : Result Told AnswerErr → Outcome → Type 0
 EndsWith (Ok told) outcome = outcome ≡ Done
 EndsWith (Err error.WriteFault) outcome = outcome ≡ WriteFault
@@ -22,7 +22,7 @@ EndsWith (Err error.DiskFault) outcome = outcome ≡ DiskFault
 EndsWith (Err (error.Damaged stamp d)) outcome = outcome ≡ Damaged stamp d
 EndsWith (Err error.NoMemory) outcome = outcome ≡ NoMemory
 
--- of the pcap of the packets that are asked for, as many as the limits allow, this was written
+-- `Put` holds of the pcap of the packets that are asked for, as many as the limits allow
 pub record WritesReply (q : Question) (pairs : List Entry) (Put : List ℕ → Type 0) : Type 0 where
   pub packets : List Rec
   pub are : IsReply q pairs packets
@@ -55,7 +55,8 @@ NamesHurt pairs (Damaged stamp d) =
     (e : Entry) × Contains pairs e × (e.stamp ≡ stamp) × (IsWholePair e.block e.index → ⊥)
 NamesHurt pairs NoMemory = Unit {0}
 
--- a query over these pairs that ended so
+-- what a query over these pairs that ended so wrote, if all are whole; and damage that it names is
+-- that of a pair that isn't
 pub record Answers (q : Question) (pairs : List Entry) (old new : Option (List ℕ))
     (outcome : Outcome) : Type 0 where
   pub writes : IsWholeSet pairs → WritesWhole q pairs old new outcome

@@ -22,15 +22,17 @@ use Rattle.st_commands.specs.declared.outcomes.PairErr.TheVariants as pair
 use Rattle.st_commands.specs.declared.outcomes.Report.{Report}
 use Rattle.st_commands.specs.declared.outcomes.Report.TheVariants.{Summaries, Verdicts}
 
--- a line, and how a command ends that wrote it, if no other line said otherwise before
+-- what contracts see of a line: its text, and how a command ends by it, unless an earlier line said
+-- that its pair is damaged
 pub record LineView : Type 0 where
   pub text : List ℕ
   pub outcome : Outcome
 
+-- the view of a line
 abbrev pub line_view : Line → LineView
 line_view l = record { text = string_bytes l.text; outcome = l.outcome }
 
--- how a verdict on the pair of this stamp has a command end
+-- how a check ends by the verdict on the pair with this stamp
 abbrev pub verdict_outcome : ℕ → Verdict → Outcome
 verdict_outcome stamp (Whole packets) = Done
 verdict_outcome stamp (Differs part d) = Damaged stamp d
@@ -56,7 +58,7 @@ abbrev pub HasNoLine : Report → Entry → Type 0
 HasNoLine Summaries e = IsWholePair e.block e.index → ⊥
 HasNoLine Verdicts e = ⊥
 
--- the pair's line, or an error that says so only of a damaged pair
+-- an Ok is the pair's line; an error that is damage comes only of a pair that has no line
 abbrev pub TellsPair : Report → Entry → Result LineView PairErr → Type 0
 TellsPair report e (Ok l) = IsLine report e l
 TellsPair report e (Err (pair.Damaged d)) = HasNoLine report e
@@ -68,7 +70,7 @@ AreLines report pairs [] rest = pairs ≡ rest
 AreLines report [] (l ∷ lines) rest = ⊥
 AreLines report (e ∷ pairs) (l ∷ lines) rest = IsLine report e l × AreLines report pairs lines rest
 
--- what a line says is no fault
+-- the outcomes that a line may have
 abbrev pub IsSaid : Outcome → Type 0
 IsSaid Done = Unit {0}
 IsSaid WriteFault = ⊥
@@ -80,7 +82,7 @@ IsSaid NoMemory = ⊥
 abbrev pub text_of : List LineView → List ℕ
 text_of lines = flat_map (λ (l : LineView). l.text) lines
 
--- the first of two outcomes, unless it is that all is done
+-- the first of two outcomes, or the next if the first is `Done`
 abbrev pub first_of_two : Outcome → Outcome → Outcome
 first_of_two Done next = next
 first_of_two WriteFault next = WriteFault
@@ -88,12 +90,12 @@ first_of_two DiskFault next = DiskFault
 first_of_two (Damaged s d) next = Damaged s d
 first_of_two NoMemory next = NoMemory
 
--- what lines say: the first damage, if there is one
+-- how a command ends by these lines: with the first damage, if there is one
 abbrev pub outcome_of : List LineView → Outcome
 outcome_of [] = Done
 outcome_of (l ∷ lines) = first_of_two l.outcome (outcome_of lines)
 
--- all lines were written, and this is what they say
+-- the lines of all pairs were written, and the command ended by them
 pub record WritesAll (report : Report) (pairs : List Entry) (old new : Option (List ℕ))
     (outcome : Outcome) : Type 0 where
   pub lines : List LineView
@@ -113,7 +115,7 @@ pub record StopsAt (report : Report) (pairs : List Entry) (old new : Option (Lis
   pub none : HasNoLine report e
   pub put : Appends old new (text_of lines)
 
--- the lines of the first pairs were written, whole lines, or of the last a prefix
+-- `Put` holds of the text of the lines of the first pairs
 pub record WritesSome (report : Report) (pairs : List Entry) (Put : List ℕ → Type 0) : Type 0 where
   pub lines : List LineView
   pub rest : List Entry

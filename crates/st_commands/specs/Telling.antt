@@ -31,8 +31,9 @@ IsUnhurt pair.DiskFault = Unit {0}
 IsUnhurt (pair.Damaged d) = ⊥
 IsUnhurt pair.NoMemory = Unit {0}
 
--- an error of a table as one of a pair: a fault comes of a fault, and damage of a check that failed
-pub record RefusesTable (error : TableErr) (e : PairErr) : Type 0 where
+-- why there is no line if the table fails so: a fault only after a fault, damage only after a check
+-- that failed
+pub record FailsByTable (error : TableErr) (e : PairErr) : Type 0 where
   pub fault : e ≡ pair.DiskFault → error ≡ table.ReadFault
   pub unhurt : NoCheckFailed error → IsUnhurt e
 
@@ -42,7 +43,7 @@ TellsSummary block index (Ok s) =
     (given : List PositionedRecord) → IsWhole block index given → IsSummary given (summary_view s)
 TellsSummary block index (Err e) = IsWholePair block index → IsUnhurt e
 
--- the line of a verdict, or memory ran out
+-- the line of the pair with this stamp and this verdict, or memory ran out
 abbrev pub TellsVerdict : ℕ → Verdict → Result LineView PairErr → Type 0
 TellsVerdict stamp v (Ok l) =
     l ≡ record { text = verdict_line stamp v; outcome = verdict_outcome stamp v }
@@ -53,7 +54,7 @@ abbrev pub MakesLine : Result (String Global) AllocError → Outcome → Result 
 MakesLine text outcome (Ok l) = (text ≡ Ok l.text) × (l.outcome ≡ outcome)
 MakesLine text outcome (Err e) = e ≡ pair.NoMemory
 
--- how a command ends that has no line of the pair of this stamp
+-- how a command ends if there is no line of the pair with this stamp, for this cause
 abbrev pub Stops : ℕ → PairErr → Outcome → Type 0
 Stops stamp pair.DiskFault outcome = outcome ≡ DiskFault
 Stops stamp (pair.Damaged d) outcome = outcome ≡ Damaged stamp d

@@ -21,13 +21,13 @@ use std::alloc::Global;
 /// it is.
 const LIMIT: u32 = 4_096;
 
-/// What a command returns: how it ended, and its shelf.
+/// What a command returns: how it ended, and the shelf that it was given.
 pub struct Ended<D> {
     pub outcome: Outcome,
     pub shelf: D,
 }
 
-// How a command ends that could not open a spool.
+// How a command ends if its spool can't be opened.
 fn unentered<D>(refused: NotEntered<D>) -> Ended<D>
     ensures outcome { EndsUnentered refused.cause result.outcome }
     ensures shelf { result.shelf ≡ refused.shelf }
@@ -40,7 +40,8 @@ fn unentered<D>(refused: NotEntered<D>) -> Ended<D>
     Ended { outcome, shelf }
 }
 
-/// Opens the spool of a command, or ends the command.
+/// Opens the spool of a command; the error is the command's end. It is `DiskFault`, only if the
+/// shelf's count of faults rose, or `NoMemory`.
 pub fn entered<D: Shelf>(alloc: Global, shelf: D) -> Result<Spool<D, Indexed>, Ended<D>>
     // what is opened
     ensures opens { (first : Log) → D.log shelf ≡ Some first → MatchResult result
@@ -61,8 +62,8 @@ pub fn entered<D: Shelf>(alloc: Global, shelf: D) -> Result<Spool<D, Indexed>, E
     }
 }
 
-// Writes a line for each pair of the shelf.
-fn run<D: Shelf, O: Sink>(report: Report, alloc: Global, shelf: D, out: &mut O) -> Ended<D>
+// Writes this report: a line for each pair of the shelf.
+fn report_shelf<D: Shelf, O: Sink>(report: Report, alloc: Global, shelf: D, out: &mut O) -> Ended<D>
     // What it writes and what crashes leave, if what is on the disk is known.
     ensures lines { (first : Log) (pairs : List Entry) → D.log shelf ≡ Some first
         → PairsIn (reads first) pairs
@@ -103,8 +104,11 @@ fn run<D: Shelf, O: Sink>(report: Report, alloc: Global, shelf: D, out: &mut O) 
 /// packets, and the least and the greatest time, in seconds since 1970 with nine decimals.
 ///
 /// `Damaged` comes at the first pair that has no summary, and only of a pair that is not whole; the
-/// lines of the pairs before it are written. `DiskFault` and `WriteFault` come only if the shelf's
-/// or the output's count of faults rose; then a prefix of the lines is written. No pair is changed.
+/// lines of the pairs before it are written. `WriteFault` comes only if the output's count of
+/// faults rose, and a prefix of the lines is then written. `DiskFault` comes only if the shelf's
+/// count rose; after it and after `NoMemory` the lines of the first pairs are written. No pair is
+/// changed.
+/// Source: docs/FORMAT.md, "Lines of `list` and `check`".
 pub fn list<D: Shelf, O: Sink>(alloc: Global, shelf: D, out: &mut O) -> Ended<D>
     // What it writes and what crashes leave, if what is on the disk is known.
     ensures lines { (first : Log) (pairs : List Entry) → D.log shelf ≡ Some first
@@ -121,16 +125,18 @@ pub fn list<D: Shelf, O: Sink>(alloc: Global, shelf: D, out: &mut O) -> Ended<D>
     ensures loans { GivesAllBack (D.loans shelf) (D.loans result.shelf) }
     ensures rest { (D.id result.shelf ≡ D.id shelf) × (O.beside out.new ≡ O.beside out.old) }
 {
-    run(Report::Summaries, alloc, shelf, out)
+    report_shelf(Report::Summaries, alloc, shelf, out)
 }
 
 /// Writes for each pair of the shelf, by stamp, whether it is whole: the stamp, `whole` and the
 /// number of packets; or the stamp, `damaged`, and the first check that fails, by its part, its
 /// place, what was found and what was wanted.
 ///
-/// `Damaged` comes after all lines, and has the first pair that is not whole. `DiskFault` and
-/// `WriteFault` come only if the shelf's or the output's count of faults rose; then a prefix of the
-/// lines is written. No pair is changed.
+/// `Damaged` comes after all lines, and has the first pair that is not whole. `WriteFault` comes
+/// only if the output's count of faults rose, and a prefix of the lines is then written.
+/// `DiskFault` comes only if the shelf's count rose; after it and after `NoMemory` the lines of the
+/// first pairs are written. No pair is changed.
+/// Source: docs/FORMAT.md, "Lines of `list` and `check`" and "What a check of a pair looks at".
 pub fn check<D: Shelf, O: Sink>(alloc: Global, shelf: D, out: &mut O) -> Ended<D>
     // What it writes and what crashes leave, if what is on the disk is known.
     ensures lines { (first : Log) (pairs : List Entry) → D.log shelf ≡ Some first
@@ -147,5 +153,5 @@ pub fn check<D: Shelf, O: Sink>(alloc: Global, shelf: D, out: &mut O) -> Ended<D
     ensures loans { GivesAllBack (D.loans shelf) (D.loans result.shelf) }
     ensures rest { (D.id result.shelf ≡ D.id shelf) × (O.beside out.new ≡ O.beside out.old) }
 {
-    run(Report::Verdicts, alloc, shelf, out)
+    report_shelf(Report::Verdicts, alloc, shelf, out)
 }

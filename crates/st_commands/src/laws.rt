@@ -2,7 +2,7 @@
 
 ghost use Rattle.st_commands.specs.Laws.{DamagedIsHurt, DoneIsWhole};
 
-/// If a check ends `Done`, each pair is whole.
+/// If a check ends `Done`, each pair that was found is whole.
 pub fn done_is_whole()
     ensures { DoneIsWhole }
 {}

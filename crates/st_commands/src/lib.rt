@@ -1,5 +1,5 @@
-//! Commands over a spool: the answer to a query, and a line for each pair, of what it holds or
-//! whether it is whole.
+//! Commands over a spool: the answer to a query, and a line for each pair, which says what is in it
+//! or whether it is whole.
 //!
 //! A command opens a spool over a shelf, holds the file set that it finds, writes, and gives the
 //! shelf back:
@@ -11,14 +11,14 @@
 //!   that fails.
 //!
 //! Lines are by stamp, their numbers are decimal, and each ends with a line feed. The layout is
-//! ours.
+//! ours: docs/FORMAT.md, "Lines of `list` and `check`".
 //!
 //! # What it promises
 //!
 //! If what is on the disk is known:
 //!
-//! - A query over whole pairs that ends `Done` wrote exactly the pcap (`answers`), and read no more
-//!   of the block files than its packets need (`reads`).
+//! - A query over whole pairs that ends `Done` wrote exactly the pcap (`answers`). It reads no more
+//!   of the block files than its answer needs, before any limit (`reads`).
 //! - A list that ends `Done`, and a check that ends `Done` or `Damaged`, wrote exactly the lines of
 //!   all pairs that were found; one that ended early wrote those of the first pairs (`lines`).
 //! - After a command each crash leaves the pairs that were found. A command that could not open the
@@ -29,6 +29,10 @@
 //! `DiskFault` and `WriteFault` come only with their cause, and after every other end than
 //! `WriteFault` the output's count of faults stayed (`disk`, `write`). All files that were lent
 //! come back (`loans`).
+//!
+//! # What it leaves to others
+//!
+//! How a query is answered (st_answer), whether a pair is whole (st_index), the text of messages.
 //!
 //! # Where to read
 //!

@@ -1,14 +1,14 @@
-//! The text of the lines. Their layout is ours: `specs/Lines.antt`.
+//! The text of the lines. Their layout is ours: docs/FORMAT.md, "Lines of `list` and `check`".
 
 ghost use Rattle.std.specs.Prelude.{◌≡◌, ◌≢◌, ◌/◌, ◌%◌, IfOk, string_bytes};
 ghost use Rattle.st_eval.specs.Selection.{summary_view};
-ghost use Rattle.st_commands.specs.Lines.{digit_text, nine_digits, moment_text, part_text, summary_line, verdict_line};
+ghost use Rattle.st_commands.specs.Lines.{digit_text, nine_digits, time_text, part_text, summary_line, verdict_line};
 
 use st_eval::Summary;
 use st_index::{Part, Verdict};
 use std::alloc::{AllocError, Global};
 
-// The digit of `n` whose unit is this power of ten.
+// The decimal digit of `n` at this power of ten.
 fn digit(n: u32, unit: u32) -> u32
     requires { unit ≢ 0 }
     ensures { result ≡ n / unit % 10 }
@@ -16,7 +16,7 @@ fn digit(n: u32, unit: u32) -> u32
     n / unit % 10
 }
 
-// Nine decimal digits.
+// The last nine decimal digits of `n`, the highest first.
 fn nine_digits_text(alloc: Global, n: u32) -> Result<String, AllocError>
     ensures { IfOk result (λ t. string_bytes t ≡ nine_digits n) }
 {
@@ -32,11 +32,11 @@ fn nine_digits_text(alloc: Global, n: u32) -> Result<String, AllocError>
     format!(in alloc; "{a}{b}{c}{d}{e}{f}{g}{h}{i}")
 }
 
-// A moment: seconds, and nanoseconds in nine digits.
-fn moment(alloc: Global, moment: (u32, u32)) -> Result<String, AllocError>
-    ensures { IfOk result (λ t. string_bytes t ≡ moment_text moment) }
+// A time: seconds, a point, and nanoseconds in nine digits.
+fn time(alloc: Global, time: (u32, u32)) -> Result<String, AllocError>
+    ensures { IfOk result (λ t. string_bytes t ≡ time_text time) }
 {
-    let (seconds, nanoseconds) = moment;
+    let (seconds, nanoseconds) = time;
     let fraction = nine_digits_text(alloc, nanoseconds)?;
     format!(in alloc; "{seconds}.{fraction}")
 }
@@ -46,8 +46,8 @@ pub fn summary_text(alloc: Global, stamp: u64, summary: Summary) -> Result<Strin
     ensures { IfOk result (λ t. string_bytes t ≡ summary_line stamp (summary_view summary)) }
 {
     let packets = summary.packets;
-    let first = moment(alloc, summary.first)?;
-    let last = moment(alloc, summary.last)?;
+    let first = time(alloc, summary.first)?;
+    let last = time(alloc, summary.last)?;
     format!(in alloc; "{stamp} {packets} {first} {last}\n")
 }
 

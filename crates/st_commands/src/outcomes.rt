@@ -5,13 +5,13 @@ use st_base::Damage;
 /// How a command over a spool ends.
 #[derive(Clone, Copy, Debug, PartialEq, Eq)]
 pub enum Outcome {
-    /// All is written.
+    /// All is written, and if pairs were checked, all are whole.
     Done,
     /// Writing the output failed: its count of faults rose.
     WriteFault,
     /// The shelf failed: its count of faults rose.
     DiskFault,
-    /// The pair of this stamp is not whole; a check of it fails so.
+    /// The pair with this stamp is not whole; `damage` is a check of it that fails.
     Damaged { stamp: u64, damage: Damage },
     /// Out of memory.
     NoMemory,
@@ -37,7 +37,8 @@ pub enum PairErr {
     NoMemory,
 }
 
-/// A line of a pair, and `Damaged` if it says that the pair is not whole, or else `Done`.
+/// A line of a pair, with its line feed; and how the command ends by this line: `Damaged` if it
+/// says that the pair is not whole, or else `Done`.
 #[derive(Drop)]
 pub struct Line {
     pub text: String,

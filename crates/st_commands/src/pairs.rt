@@ -13,7 +13,7 @@ ghost use Rattle.st_spool.specs.States.{held};
 ghost use Rattle.st_commands.specs.Commands.{Stays};
 ghost use Rattle.st_pairs.specs.Pairs.{IsWholePair};
 ghost use Rattle.st_commands.specs.Reports.{TellsPair, IsSaid};
-ghost use Rattle.st_commands.specs.Telling.{TellsSummary, TellsVerdict, MakesLine, RefusesTable, line_result};
+ghost use Rattle.st_commands.specs.Telling.{TellsSummary, TellsVerdict, MakesLine, FailsByTable, line_result};
 
 use crate::lines::{summary_text, verdict_text};
 use crate::outcomes::{Line, Outcome, PairErr, Report};
@@ -27,7 +27,7 @@ use st_table::{Table, TableErr};
 use st_tblock::{PLAIN, SNAPPY};
 use std::alloc::{AllocError, Global};
 
-// The verdict on the pair with this index in the hold, counted from 0.
+// The verdict on the `i`-th pair of the hold, counted from 0.
 fn verdict_at<D: Shelf>(
     alloc: Global,
     spool: &mut Spool<D, Indexed>,
@@ -69,9 +69,10 @@ fn verdict_at<D: Shelf>(
     }
 }
 
-// An error of a table as one of a pair: a compressed block is damage at its type byte.
-fn refused(error: TableErr) -> PairErr
-    ensures says { RefusesTable error result }
+// Why there is no line if the table of the index fails so: a compressed block is damage, at its
+// type byte.
+fn table_failed(error: TableErr) -> PairErr
+    ensures says { FailsByTable error result }
 {
     match error {
         TableErr::ReadFault => PairErr::DiskFault,
@@ -96,7 +97,7 @@ fn summary_in<R: Reader>(alloc: Global, index: &mut R) -> Result<Summary, PairEr
     let mut table = Table::over(alloc, index);
     match table.enter(alloc) {
         Ok(()) => {}
-        Err(error) => return Err(refused(error)),
+        Err(error) => return Err(table_failed(error)),
     }
     match summary(alloc, &mut table) {
         Ok(said) => Ok(said),
@@ -106,7 +107,7 @@ fn summary_in<R: Reader>(alloc: Global, index: &mut R) -> Result<Summary, PairEr
     }
 }
 
-// What the summary row says of the pair with this index in the hold, counted from 0.
+// What the summary row says of the `i`-th pair of the hold, counted from 0.
 fn summary_at<D: Shelf>(
     alloc: Global,
     spool: &mut Spool<D, Indexed>,
@@ -135,7 +136,7 @@ fn summary_at<D: Shelf>(
     said
 }
 
-// A line of this text and outcome, if there was memory for the text.
+// A line of this text and outcome, or `NoMemory` if there was no memory for the text.
 fn line(text: Result<String, AllocError>, outcome: Outcome) -> Result<Line, PairErr>
     ensures { MakesLine text outcome result }
 {
@@ -145,8 +146,8 @@ fn line(text: Result<String, AllocError>, outcome: Outcome) -> Result<Line, Pair
     }
 }
 
-// The line of a pair with this verdict.
-fn verdict_of(alloc: Global, stamp: u64, verdict: Verdict) -> Result<Line, PairErr>
+// The line of the pair with this stamp and this verdict.
+fn line_of_verdict(alloc: Global, stamp: u64, verdict: Verdict) -> Result<Line, PairErr>
     ensures tells { TellsVerdict stamp verdict (line_result result) }
     ensures outcome { IfOk result (λ l. IsSaid l.outcome) }
 {
@@ -157,7 +158,7 @@ fn verdict_of(alloc: Global, stamp: u64, verdict: Verdict) -> Result<Line, PairE
     line(verdict_text(alloc, stamp, verdict), outcome)
 }
 
-/// The line of the pair with this index in the hold, counted from 0, by stamps.
+/// The line of the `i`-th pair of the hold, by stamp, counted from 0.
 ///
 /// `DiskFault` comes only if the shelf's count of faults rose, `Damaged` only if the pair isn't
 /// whole and its summary row was asked for.
@@ -189,7 +190,7 @@ pub fn line_at<D: Shelf>(
             Err(error) => Err(error),
         },
         Report::Verdicts => match verdict_at(alloc, spool, hold, i) {
-            Ok(verdict) => verdict_of(alloc, stamp, verdict),
+            Ok(verdict) => line_of_verdict(alloc, stamp, verdict),
             Err(error) => Err(error),
         },
     }

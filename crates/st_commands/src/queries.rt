@@ -20,7 +20,7 @@ use st_query::Query;
 use st_shelf::Shelf;
 use std::alloc::Global;
 
-// Writes the answer over a store's pairs to a sink, as it is.
+// Writes the answer over a store's pairs to a sink: its pieces, one after the other.
 fn answer_into<S: Store, O: Sink>(
     alloc: Global,
     store: &mut S,
@@ -54,7 +54,7 @@ fn answer_into<S: Store, O: Sink>(
     answer(alloc, store, query, now, unit, limits, &mut outlet)
 }
 
-// How a query ends whose answer ended so.
+// How the command ends if its answer ended so.
 fn outcome_of(told: Result<Told, AnswerErr>) -> Outcome
     ensures { EndsWith told result }
 {
@@ -68,14 +68,16 @@ fn outcome_of(told: Result<Told, AnswerErr>) -> Outcome
 }
 
 /// Writes to `out` the packets of all pairs of the shelf that match `query`, as a pcap in `unit`,
-/// where the clock stands at `now` microseconds since 1970: by second, nanosecond, stamp and
-/// position, each once, up to the first packet that passes a limit.
+/// with the clock at `now` microseconds since 1970: by second, nanosecond, stamp and position, each
+/// once, up to the first packet that passes a limit: on the number of packets, or on their captured
+/// bytes.
 ///
 /// If it ends `Done` and each pair is whole, `out` gained exactly this pcap. `WriteFault` comes
 /// only if the output's count of faults rose, and a prefix of the pcap is then written; after every
 /// other end that count stayed. `DiskFault` comes only if the shelf's count rose; after it and
 /// after `NoMemory` nothing is written, or whole packets from the first on. `Damaged` names a pair
 /// that is not whole. No pair is changed.
+/// Source: docs/FORMAT.md, "pcap".
 pub fn query<D: Shelf, O: Sink>(
     alloc: Global,
     shelf: D,

@@ -20,7 +20,7 @@ use st_shelf::Shelf;
 use st_spool::{Hold, Spool};
 use std::alloc::Global;
 
-// The first of two outcomes, unless it is that all is done.
+// The first of two outcomes, or the next if the first is `Done`.
 fn first_of(first: Outcome, next: Outcome) -> Outcome
     ensures { result ≡ first_of_two first next }
 {
@@ -30,7 +30,7 @@ fn first_of(first: Outcome, next: Outcome) -> Outcome
     }
 }
 
-// How a command ends that has no line of the pair of this stamp.
+// How a command ends if there is no line of the pair with this stamp, for this cause.
 fn stopped(stamp: u64, error: PairErr) -> Outcome
     ensures stops { Stops stamp error result }
     ensures disk { result ≡ Outcome.DiskFault → error ≡ PairErr.DiskFault }
@@ -44,6 +44,10 @@ fn stopped(stamp: u64, error: PairErr) -> Outcome
 }
 
 /// Writes to `out` a line for each pair of the hold, by stamp, each by one `put`.
+///
+/// It ends at the first pair that has no line. After all lines it ends `Damaged` with the first
+/// pair that a line says is not whole, or else `Done`. `DiskFault` comes only if the shelf's count
+/// of faults rose, `WriteFault` only if the output's did.
 pub fn report_pairs<D: Shelf, O: Sink>(
     report: Report,
     alloc: Global,

@@ -19,6 +19,6 @@ returns-in-Err-clause-tells g c = λ log earlier h f e after known stands is.
 
 pub returns-in-Ok-verdict_at-clause-tells : goal.returns-in-Ok-verdict_at-clause-tells
 returns-in-Ok-verdict_at-clause-tells g c = λ log earlier h f e after known stands is.
-    subst (λ (r : Report). TellsPair r e (line_result c.verdict_of.result)) (sym c.in-Verdicts.is)
-    (told_verdict e c.stamp_of-stamp.result c.in-Ok-verdict_at.verdict (line_result c.verdict_of.result)
-    (c.stamp_of-stamp.ensures earlier h f e after stands is) (c.in-Ok-verdict_at.ensures.judges log earlier h f e after known stands is) c.verdict_of.ensures.tells)
+    subst (λ (r : Report). TellsPair r e (line_result c.line_of_verdict.result)) (sym c.in-Verdicts.is)
+    (told_verdict e c.stamp_of-stamp.result c.in-Ok-verdict_at.verdict (line_result c.line_of_verdict.result)
+    (c.stamp_of-stamp.ensures earlier h f e after stands is) (c.in-Ok-verdict_at.ensures.judges log earlier h f e after known stands is) c.line_of_verdict.ensures.tells)

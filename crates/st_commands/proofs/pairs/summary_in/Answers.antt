@@ -6,7 +6,7 @@ use Rattle.st_commands.proofs.pairs.summary_in.Goals as goal
 pub returns-in-Err-clause-says : goal.returns-in-Err-clause-says
 returns-in-Err-clause-says g c = λ block bytes told (given, whole).
     let before = ap g.R.Reader.content c.over-table.ensures.same ∙ told in
-    c.refused.ensures.says.unhurt (c.in-Err.ensures.table bytes whole.rows before whole.table)
+    c.table_failed.ensures.says.unhurt (c.in-Err.ensures.table bytes whole.rows before whole.table)
 
 pub returns-in-Ok-summary-clause-says : goal.returns-in-Ok-summary-clause-says
 returns-in-Ok-summary-clause-says g c = λ block bytes told given whole.

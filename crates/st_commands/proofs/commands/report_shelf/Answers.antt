@@ -13,7 +13,7 @@ use Rattle.st_commands.specs.Reports.{Reports}
 use Rattle.st_commands.proofs.Commanding.{entered_clears, stays_clear, keeps_pairs}
 use Rattle.st_commands.proofs.Opening.{no_report, no_write}
 use Rattle.st_commands.proofs.Staying.{keeps_then}
-use Rattle.st_commands.proofs.commands.run.Goals as goal
+use Rattle.st_commands.proofs.commands.report_shelf.Goals as goal
 
 pub returns-in-Err-clause-lines : goal.returns-in-Err-clause-lines
 returns-in-Err-clause-lines g c = λ first pairs known given. no_report c.args.report pairs (g.O.Sink.written c.args.out.now) c.in-Err.ended.outcome c.in-Err.ensures.ended.1
