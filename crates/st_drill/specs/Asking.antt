@@ -22,7 +22,7 @@ use Rattle.st_drill.specs.declared.queries.DrillQuery.{DrillQuery}
 use Rattle.st_drill.specs.declared.numbers.TheConstants.{NO_LIMIT}
 use Rattle.st_drill.specs.Queries.{query_tree}
 
--- the question that a query is, with the clock at 0 and without limits
+-- this query as a question, with the clock at 0 and without limits
 abbrev pub asked_of : Node → Question
 asked_of node =
     record {
@@ -68,14 +68,14 @@ TellsReply q known result =
     (set : List Entry) → known ≡ Some set → IsWholeSet set
     → IfOk result (λ told. (rs : List Rec) × IsReply q set rs × Tells q.unit rs told)
 
--- how a drill ends whose answer failed so; writing the answer doesn't fail
+-- how a drill ends if an answer failed so; writing an answer doesn't fail
 abbrev pub AnswerFailsBy : AnswerErr → DrillEnd → Type 0
 AnswerFailsBy error.WriteFault ended = ended ≡ end.NoMemory
 AnswerFailsBy error.DiskFault ended = ended ≡ end.DiskFault
 AnswerFailsBy (error.Damaged stamp damage) ended = ended ≡ end.Damaged stamp damage
 AnswerFailsBy error.NoMemory ended = ended ≡ end.NoMemory
 
--- the shelf's count never falls, and it rose if the shelf failed
+-- the shelf's count of faults never falls, and it rose if the shelf failed
 pub record HasShelfCause {T : Type 0} (before now : ℕ) (result : Result T DrillEnd) : Type 0 where
   pub later : before ≤ now
   pub rose : IsErrOf result end.DiskFault → Rose before now

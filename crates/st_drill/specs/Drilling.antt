@@ -23,7 +23,7 @@ use Rattle.st_drill.specs.Asking.{CountsMatches, AnswerFails}
 use Rattle.st_drill.specs.Packets.{input}
 use Rattle.st_drill.specs.Summary.{told_of, summary_text}
 
--- blocks of 65,536 bytes, 16 of them in a file
+-- the layout of a drill's block files: blocks of 65,536 bytes, at most 16 of them in a file
 abbrev pub layout : LanePlan
 layout = record { size = BLOCK_SIZE; blocks = BLOCKS }
 
@@ -44,9 +44,9 @@ EndsLoaded packets pairs set old new end.WriteFault =
     (text : List ℕ) × IsSummary packets pairs set text × AppendsPrefix old new text
 EndsLoaded packets pairs set old new ended = AnswerFails set ended × (new ≡ old)
 
--- How a drill ended whose load ended so, before all packets were loaded. Its input is whole, fits
--- the blocks and never fails. The lines of the pairs are kept in memory, so that writing them fails
--- only if memory runs out.
+-- How a drill ended if its load ended so, before all packets were loaded. The load's input is
+-- whole, fits the blocks and never fails. The lines of the pairs are kept in memory, so that
+-- writing them fails only if memory runs out.
 abbrev pub EndsUnloaded : LoadEnd → DrillEnd → Type 0
 EndsUnloaded load.Done ended = ⊥
 EndsUnloaded (load.BadInput e) ended = ⊥
@@ -57,7 +57,7 @@ EndsUnloaded load.DiskFault ended = ended ≡ end.DiskFault
 EndsUnloaded (load.StampsSpent last) ended = ended ≡ end.StampsSpent last
 EndsUnloaded load.NoMemory ended = ended ≡ end.NoMemory
 
--- the file set of what a load found and did
+-- the file set of a spool after a load, by what it found and did
 abbrev pub set_loaded : {limit : ℕ} {layout : LanePlan} {first : Log} {known : Option Log}
     {left times times_now old new : Option (List ℕ)} {ended : LoadEnd}
     → LoadsOpened limit layout first known left times times_now old new ended → List Entry
@@ -89,7 +89,7 @@ Drills packets first known times times_now old new ended =
     ⊎ (FailsToEnter first known × ((ended ≡ end.DiskFault) ⊎ (ended ≡ end.NoMemory))
     × (times_now ≡ times) × (new ≡ old))
 
--- what an end says whatever is known: a stamp is missing only after the greatest
+-- what an end says, whatever is known: no stamp is left only after the greatest
 abbrev pub SaysDrill : DrillEnd → Type 0
 SaysDrill (end.StampsSpent last) = last ≡ 2 ^ 64 - 1
 SaysDrill ended = ⊤

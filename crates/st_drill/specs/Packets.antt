@@ -6,7 +6,7 @@ use Rattle.st_pcap.specs.declared.forms.Unit.TheVariants.{Nano}
 use Rattle.st_pcap.specs.Text.{PcapText}
 use Rattle.st_drill.specs.declared.numbers.TheConstants.{FIRST_SECOND, SECOND_PACKETS, NANOS_APART, FRAME_SIZE, ETHER_HEAD, IP_HEAD, SUM_SIZE, SOURCE_NET, SOURCES, DESTINATION_NET, DESTINATIONS, ADDRESS_SIZE, FIRST_PORT, PORTS, PORT_SIZE, DNS_PORT, DNS_EVERY, HTTPS_PORT, ZEROS, TCP, UDP}
 
--- the protocol: UDP where the number is even, TCP where it is odd
+-- the protocol: UDP if the number is even, TCP if it is odd
 abbrev pub protocol : ℕ → ℕ
 protocol k = if nat_eq (k % 2) 0 then UDP else TCP
 
@@ -26,7 +26,7 @@ source_port k = FIRST_PORT + k % PORTS
 abbrev pub destination_port : ℕ → ℕ
 destination_port k = if nat_eq (k % DNS_EVERY) 0 then DNS_PORT else HTTPS_PORT
 
--- the bytes of the packet: its headers of Ethernet and IPv4, both ports, and zeros
+-- the bytes of the packet: its headers of Ethernet and IPv4, its ports, and zeros
 unfoldable pub frame : ℕ → List ℕ
 frame k =
     ETHER_HEAD
@@ -53,7 +53,7 @@ abbrev pub packets_from : ℕ → ℕ → List Rec
 packets_from k zero = []
 packets_from k (suc n) = packet k ∷ packets_from (k + 1) n
 
--- the packets of a drill with this many
+-- the packets of a drill that makes this many
 abbrev pub packets : ℕ → List Rec
 packets n = packets_from 0 n
 

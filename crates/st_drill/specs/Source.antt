@@ -12,11 +12,13 @@ use Rattle.st_drill.specs.Packets.{packets_from}
 abbrev pub records_from : ℕ → ℕ → List ℕ
 records_from k n = flat_map (record_text Nano) (packets_from k n)
 
--- what is to come: the rest of the bytes at hand, and the records of the packets that aren't made
+-- what is still to be read: the rest of the bytes at hand, and the records of the packets that
+-- aren't made yet
 abbrev pub to_come : Maker → List ℕ
 to_come m = drop m.at m.bytes ++ records_from m.next m.left
 
--- the place is within the bytes at hand, and no packet has a number above the last one's
+-- no more bytes than there are at hand were read, and each packet's number is below the most that a
+-- drill makes
 pub record IsSoundMaker (m : Maker) : Type 0 where
   pub at : m.at ≤ RECORD_SIZE
   pub numbers : m.next + m.left ≤ MAX_PACKETS

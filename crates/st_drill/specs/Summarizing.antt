@@ -23,7 +23,7 @@ use Rattle.st_drill.specs.Asking.{AnswerFails}
 use Rattle.st_drill.specs.Drilling.{layout, IsSummary, EndsUnloaded}
 use Rattle.st_drill.specs.Packets.{input}
 
--- the ways in which a load may end whose input is whole, fits the blocks and never fails
+-- the ways in which a load may end if its input is whole, fits the blocks and never fails
 abbrev pub LoadCanEnd : LoadEnd → Type 0
 LoadCanEnd load.Done = ⊤
 LoadCanEnd (load.BadInput e) = ⊥
@@ -57,7 +57,8 @@ pub record LoadsAll (packets limit : ℕ) (before known : Option Log) (old new :
       (λ pairs. (loaded ≡ load.Done) × (pairs ≡ length packed.loads.pairs))
       (λ ended. EndsUnloaded loaded ended)
 
--- the packets were loaded and the queries answered, and this is the summary, or why there is none
+-- The packets of a drill were loaded and its queries answered, and the result is the summary; or it
+-- is how the drill ended if one of these failed.
 pub record Summarizes (packets limit : ℕ) (before known : Option Log) (old new : SpoolState)
     (earlier h : List Event) (times times_now : Option (List ℕ))
     (result : Result (String Global) DrillEnd) : Type 0 where
@@ -71,7 +72,7 @@ pub record Summarizes (packets limit : ℕ) (before known : Option Log) (old new
       × AnswerFails (set_of (h ++ events_of packed.loads.acts)) ended)
       ⊎ EndsUnloaded loaded ended)
 
--- the ways in which there is no summary
+-- the ways in which a drill ends if there is no summary
 abbrev pub HasNoSummary : DrillEnd → Type 0
 HasNoSummary end.Done = ⊥
 HasNoSummary end.WriteFault = ⊥
@@ -85,7 +86,7 @@ EndsWriting (Ok text) old new ended =
     ⊎ ((ended ≡ end.WriteFault) × AppendsPrefix old new (string_bytes text))
 EndsWriting (Err e) old new ended = (ended ≡ e) × (new ≡ old)
 
--- how a drill ends that could not open a spool
+-- how a drill ends if its spool can't be opened, for this cause
 abbrev pub EndsUnopened : EnterErr → DrillEnd → Type 0
 EndsUnopened enter.DiskFault ended = ended ≡ end.DiskFault
 EndsUnopened enter.NoMemory ended = ended ≡ end.NoMemory

@@ -27,7 +27,8 @@ unfoldable pub head_lines : ℕ → ℕ → List ℕ
 head_lines packets pairs =
     codes "drill " ++ (decimal packets ++ (codes "\npairs " ++ (decimal pairs ++ codes "\n")))
 
--- the summary: these two, and a line for each query; each line ends with a line feed
+-- the summary: how many packets were made, how many pairs were published, and a line for each
+-- query; each line ends with a line feed
 abbrev pub summary_text : ℕ → ℕ → Answers → List ℕ
 summary_text packets pairs a =
     head_lines packets pairs

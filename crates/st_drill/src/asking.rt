@@ -26,8 +26,8 @@ use st_shelf::Shelf;
 use st_spool::Spool;
 use std::alloc::Global;
 
-// The numbers of the answer over a store's pairs, with the clock at 0 and without limits. The
-// answer goes to a sink that keeps nothing and never fails.
+// How many packets and bytes the answer over a store's pairs has, with the clock at 0 and without
+// limits. The answer goes to a sink that keeps nothing and never fails.
 fn counted<S: Store>(alloc: Global, store: &mut S, query: &Query) -> Result<Told, AnswerErr>
     // what is told, and how it fails
     ensures tells { TellsReply (asked_of query.now) (asked (S.holds store.new)) result }
@@ -50,7 +50,7 @@ fn counted<S: Store>(alloc: Global, store: &mut S, query: &Query) -> Result<Told
     answer(alloc, store, query, 0, Unit::Micro, limits, &mut outlet)
 }
 
-// How a drill ends whose answer failed so; the sink of the answer never does.
+// How a drill ends if an answer failed so. `WriteFault` never comes: the answer's sink never fails.
 fn broken(error: AnswerErr) -> DrillEnd
     ensures { AnswerFailsBy error result }
 {
@@ -61,7 +61,7 @@ fn broken(error: AnswerErr) -> DrillEnd
     }
 }
 
-// The numbers of the answer to one query over the pairs of a spool.
+// How many packets and bytes the answer to one query over the pairs of a spool has.
 fn ask<D: Shelf>(
     alloc: Global,
     spool: &mut Spool<D, Indexed>,
@@ -89,10 +89,10 @@ fn ask<D: Shelf>(
     }
 }
 
-/// The numbers of the answers to the four queries over the pairs of a spool.
+/// How many packets and bytes the answers to the four queries over the pairs of a spool have.
 ///
-/// `DiskFault` comes only if the shelf's count of faults rose, `Damaged` only if that pair isn't
-/// whole.
+/// `DiskFault` comes only if the shelf's count of faults rose. `Damaged` names a pair that isn't
+/// whole. The only other error is `NoMemory`.
 pub fn ask_all<D: Shelf>(alloc: Global, spool: &mut Spool<D, Indexed>) -> Result<Answers, DrillEnd>
     // what is told, and how it fails
     ensures counts { (log : Log) (earlier h : List Event) (f : Files)

@@ -23,13 +23,13 @@ use st_shelf::Shelf;
 use st_spool::{EnterErr, NotEntered, Spool};
 use std::alloc::Global;
 
-/// What a drill returns: how it ended, and its shelf.
+/// What a drill returns: how it ended, and the shelf that it was given.
 pub struct Drilled<D> {
     pub end: DrillEnd,
     pub shelf: D,
 }
 
-// How a drill ends that could not open a spool.
+// How a drill ends if its spool can't be opened, for this cause.
 fn unopened(cause: EnterErr) -> DrillEnd
     ensures { EndsUnopened cause result }
 {
@@ -39,10 +39,11 @@ fn unopened(cause: EnterErr) -> DrillEnd
     }
 }
 
-// How a drill ends whose load ended so; None if all packets are in the spool.
+// How a drill ends if its load ended so; None if all packets are in the spool.
 //
 // The lines of the pairs are kept in memory, so that writing them fails only if memory runs out.
-// The input is whole, its packets fit a block, and it never fails, so the last three never come.
+// The input is whole, its packets fit a block, and it never fails, so `BadInput`, `TooLong` and
+// `ReadFault` never come.
 fn unloaded(end: LoadEnd) -> Option<DrillEnd>
     requires { LoadCanEnd end }
     ensures { MatchOption result (end ≡ LoadEnd.Done) (EndsUnloaded end) }
@@ -59,7 +60,7 @@ fn unloaded(end: LoadEnd) -> Option<DrillEnd>
     }
 }
 
-// How many lines these bytes are.
+// How many lines this text has.
 fn lines_in(text: &[u8]) -> u64
     ensures { result ≡ count_by (nat_eq LINE_FEED) text.now }
 {
@@ -72,7 +73,7 @@ fn lines_in(text: &[u8]) -> u64
     lines
 }
 
-// Loads the packets of a drill into a spool, and answers how many pairs they became.
+// Loads the packets of a drill into a spool, and returns how many pairs they became.
 fn load_packets<D: Shelf, C: Clock>(
     alloc: Global,
     spool: &mut Spool<D, Indexed>,
@@ -144,7 +145,7 @@ fn summarize<D: Shelf, C: Clock>(
     }
 }
 
-// Writes the summary by one `put`, if there is one, and answers how the drill ended.
+// Writes the summary by one `put`, if there is one, and returns how the drill ended.
 fn written<O: Sink>(summed: Result<String, DrillEnd>, out: &mut O) -> DrillEnd
     requires { IfErr summed HasNoSummary }
     ensures ends { EndsWriting summed (O.written out.old) (O.written out.new) result }
@@ -165,11 +166,15 @@ fn written<O: Sink>(summed: Result<String, DrillEnd>, out: &mut O) -> DrillEnd
 /// then asks four queries over all pairs of the spool, earlier ones too, and writes the summary to
 /// `out` by one `put`.
 ///
-/// The packets become pairs of at most 16 blocks of 65,536 bytes; the spool keeps 65,535 pairs. The
-/// clock, in microseconds since 1970, is read once for each pair; its stamp is not below that.
+/// The packets become pairs of at most 16 blocks of 65,536 bytes; the spool keeps at most 65,535
+/// pairs. The clock, in microseconds since 1970, is read once for each new pair; its stamp is not
+/// below that.
+///
 /// Nothing is written unless all packets were loaded and all queries answered. `WriteFault` comes
-/// only if the output's count of faults rose, `DiskFault` only if the shelf's did; `Damaged` names
-/// a pair that isn't whole.
+/// only if the output's count of faults rose, and a prefix of the summary is then written.
+/// `DiskFault` comes only if the shelf's count rose. `Damaged` names a pair that isn't whole.
+/// `StampsSpent` comes only if no stamp is left: 2^64 - 1 is in use. The pairs that were published
+/// before any of these ends, or before `NoMemory`, stay.
 /// Source: docs/FORMAT.md, "Drill".
 pub fn drill<D: Shelf, O: Sink, C: Clock>(
     alloc: Global,

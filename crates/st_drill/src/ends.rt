@@ -3,7 +3,7 @@
 use st_base::Damage;
 
 /// How a drill ends. At each end the pairs that were published are in the spool, but for the oldest
-/// where there are more than 65,535.
+/// if there are more than 65,535.
 #[derive(Clone, Copy, Debug, PartialEq, Eq)]
 pub enum DrillEnd {
     /// All packets are in the spool, and the summary is written.
@@ -12,8 +12,8 @@ pub enum DrillEnd {
     WriteFault,
     /// The shelf failed: its count of faults rose. The last publication or removal may be in doubt.
     DiskFault,
-    /// The pair of this stamp is not whole; `damage` is a check of it that failed. All packets are
-    /// in the spool.
+    /// The pair with this stamp is not whole; `damage` is a check of it that failed. All packets
+    /// are in the spool.
     Damaged { stamp: u64, damage: Damage },
     /// A pair was not published, since no stamp follows `last`, the greatest that there is.
     StampsSpent { last: u64 },

@@ -27,7 +27,7 @@ fn destination_port(k: u32) -> u16
     }
 }
 
-/// The 64 bytes of packet `k`, counted from 0.
+/// The 64 bytes of packet `k`, counted from 0, from the Ethernet header on.
 ///
 /// Source: docs/FORMAT.md, "Drill".
 #[tactic(auto, unfolding(crate::specs::Packets::frame))]

@@ -21,12 +21,12 @@
 //!
 //! # What it leaves to others
 //!
-//! How a pcap is loaded, and how a query is answered. What happened is said where the shelf's log
-//! is known.
+//! How a pcap is loaded, and how a query is answered. What happened is said if the shelf's log is
+//! known.
 //!
 //! # Where to read
 //!
-//! `specs/Packets.antt` says what the packets are, `specs/Questions.antt` which queries are asked,
+//! `specs/Packets.antt` says what the packets are, `specs/Queries.antt` which queries are asked,
 //! `specs/Summary.antt` what is written, `specs/Drilling.antt` what a drill makes of a shelf. Then
 //! `drilling`, `asking`, `source`. The numbers of the format are in `numbers`.
 #![tactic(auto)]

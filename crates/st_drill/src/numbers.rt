@@ -26,7 +26,7 @@ pub const IP_HEAD: [u8; 9] = [0x45, 0, 0, 50, 0, 0, 0, 0, 64];
 /// The offset of the IPv4 header.
 pub const IP_AT: usize = 14;
 
-/// The offset of the protocol. After it come two bytes of a sum, which is zero.
+/// The offset of the IPv4 header's protocol. The header's checksum, which is zero, follows it.
 pub const PROTO_AT: usize = 23;
 
 /// The protocol of a packet with an even number: UDP (RFC 768).
@@ -35,13 +35,13 @@ pub const UDP: u8 = 17;
 /// The protocol of a packet with an odd number: TCP (RFC 9293).
 pub const TCP: u8 = 6;
 
-/// The size of the sum.
+/// The size of the IPv4 header's checksum.
 pub const SUM_SIZE: usize = 2;
 
 /// The offset of the source address.
 pub const SOURCE_AT: usize = 26;
 
-/// The network of source addresses, of which a packet's number gives the last two bytes.
+/// The first source address: 10.0.0.0. A packet's number gives the last two bytes.
 pub const SOURCE_NET: u32 = 0x0a00_0000;
 
 /// How many source addresses there are.
@@ -86,16 +86,16 @@ pub const HTTPS_PORT: u16 = 443;
 /// How many zeros follow the ports.
 pub const ZEROS: usize = 26;
 
-/// How many bits of a source address the query for the nearest sources looks at.
+/// How many bits of an address the query for 10.0.0.0/25 looks at, from the highest on.
 pub const NEAR_BITS: u8 = 25;
 
-/// The second that two queries part the packets at: 2001-09-09T01:48:20Z.
+/// The second at which two queries part the packets, since 1970: 2001-09-09T01:48:20Z.
 pub const MIDDLE_SECOND: u32 = 1_000_000_100;
 
-/// The greatest number of packets and of captured bytes of an answer: as many as there are.
+/// The limit on the packets of an answer, and that on their captured bytes: the greatest there is.
 pub const NO_LIMIT: u64 = u64::MAX;
 
-/// The size of the blocks that the packets are loaded into.
+/// The size of a block of the block files that the packets are loaded into.
 pub const BLOCK_SIZE: u32 = 65_536;
 
 /// How many blocks a block file has at most.

@@ -11,13 +11,13 @@ use std::alloc::Global;
 /// A query that a drill asks.
 #[derive(Clone, Copy, Debug, PartialEq, Eq)]
 pub enum DrillQuery {
-    /// The packets with the port of DNS, every tenth.
+    /// The packets with the port of DNS: of a drill's packets every tenth.
     Dns,
-    /// Those of TCP with an address of 10.0.0.0/25.
+    /// The packets of TCP with an address in 10.0.0.0/25.
     NearTcp,
-    /// Those before 2001-09-09T01:48:20Z: of a drill's packets the first 10,000.
+    /// The packets before 2001-09-09T01:48:20Z: of a drill's packets the first 10,000.
     Early,
-    /// Those of that second or later: of a drill's packets all others.
+    /// The packets of 2001-09-09T01:48:20Z or later: of a drill's packets all but the first 10,000.
     Late,
 }
 
@@ -36,7 +36,7 @@ impl DrillQuery {
         }
     }
 
-    // What the printed form is read as. It is refused only if there is no memory.
+    // The query that the printed form spells. Parsing it fails only if memory runs out.
     fn parsed(self, alloc: Global) -> Result<Query, QueryErr>
         ensures tree { IfOk result (λ q. tree q ≡ query_tree self) }
         ensures memory { IfErr result (λ e. e ≡ QueryErr.NoMemory) }
@@ -44,7 +44,9 @@ impl DrillQuery {
         parse(alloc, self.text().as_bytes())
     }
 
-    /// The query that `text` spells. `NoMemory` is the only error.
+    /// The query that `text` spells. `NoMemory` comes only if memory runs out.
+    ///
+    /// Source: docs/FORMAT.md, "Drill".
     pub fn query(self, alloc: Global) -> Result<Query, NoMemory>
         ensures { IfOk result (λ q. tree q ≡ query_tree self) }
     {

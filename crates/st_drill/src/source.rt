@@ -15,7 +15,7 @@ use st_pcap::{FILE_HEAD_SIZE, RECORD_HEAD_SIZE, Unit, file_head, record_head};
 use st_plan::MAX_PACKETS;
 use std::marker::Model;
 
-// A record's head, and its body after it.
+// The bytes of a record: its head, and then its body, a packet.
 fn joined(head: &[u8], frame: &[u8]) -> [u8; RECORD_SIZE]
     requires head { length head.now ≡ RECORD_HEAD_SIZE }
     requires frame { length frame.now ≡ FRAME_SIZE }
@@ -27,7 +27,7 @@ fn joined(head: &[u8], frame: &[u8]) -> [u8; RECORD_SIZE]
     bytes
 }
 
-// Writes a part over as many bytes, from the offset `at` on.
+// Writes `part` over as many of the bytes, from the offset `at` on.
 fn put_at(bytes: &mut [u8], at: usize, part: &[u8])
     requires { at + length part.now ≤ length bytes.old }
     ensures { bytes.new ≡ take at bytes.old ++ (part.now ++ drop (at + length part.now) bytes.old) }
@@ -67,7 +67,7 @@ struct Maker {
 }
 
 impl Maker {
-    // What makes the input of `packets` packets.
+    // A maker of the input with this many packets, of which nothing was read.
     fn new(packets: u32) -> Maker
         requires { packets ≤ MAX_PACKETS }
         ensures sound { IsSoundMaker result }

@@ -6,7 +6,8 @@ use crate::queries::DrillQuery;
 use st_answer::Told;
 use std::alloc::{AllocError, Global};
 
-/// For each of the four queries how many packets match, and how many bytes they are as a pcap.
+/// For each of the four queries, over all pairs of the spool, how many packets match and how many
+/// bytes they are as a pcap, its file head included.
 #[derive(Clone, Copy, Debug, PartialEq, Eq)]
 pub struct Answers {
     pub dns: Told,
@@ -15,7 +16,7 @@ pub struct Answers {
     pub late: Told,
 }
 
-// The line of a query with these numbers, without its end.
+// The line of a query whose answer has these numbers, without its line feed.
 #[tactic(auto, unfolding(crate::specs::Summary::query_line))]
 fn line(alloc: Global, question: DrillQuery, told: Told) -> Result<String, AllocError>
     ensures { IfOk result (λ t. string_bytes t ≡ query_line question told) }
