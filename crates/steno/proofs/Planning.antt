@@ -14,7 +14,7 @@ use Rattle.steno.specs.Messages.{line_of}
 use Rattle.steno.specs.Plans.{query_of}
 use Rattle.steno.specs.Reports.{plain_of}
 use Rattle.steno.specs.Causes.{FaultCounts, HasCauses, HasFaultCause, HasPlanFaults, KeepsCounts, NoneRose}
-use Rattle.steno.specs.Running.{DoesNothing, Does, EndsRun, EndsBy, EndsUnfailed, HasPlanCause, HasWordCause, IsSoundPlan}
+use Rattle.steno.specs.Running.{DoesNothing, Does, EndsRun, EndsBy, EndsUnfailed, HasPlanCause, HasArgumentsCause, IsSoundPlan}
 use Rattle.steno.specs.Drilling.{DrillsShelf}
 use Rattle.steno.specs.Scenes.{Scene}
 use Rattle.steno.specs.Spooling.{NamesDamage, ReportsPairs, SaidDamage}
@@ -35,7 +35,7 @@ nothing_done which old report is = record {
 }
 
 -- the cause of an end is that of the arguments' one plan
-pub word_cause : (words : List (List ℕ)) (p : Plan) (status : Status) → IsPlan words p → HasPlanCause p status → HasWordCause words status
+pub word_cause : (words : List (List ℕ)) (p : Plan) (status : Status) → IsPlan words p → HasPlanCause p status → HasArgumentsCause words status
 word_cause words p status plan cause = record {
   usage = λ e q other. cause.usage e;
   unplanned = λ none. absurd (none p plan);
@@ -46,9 +46,9 @@ word_cause words p status plan cause = record {
 }
 
 -- arguments without a plan ask for nothing
-pub unplanned_cause : (words : List (List ℕ)) (report : Report) → report ≡ plain_of Usage → ((p : Plan) → IsPlan words p → ⊥) → HasWordCause words report.status
+pub unplanned_cause : (words : List (List ℕ)) (report : Report) → report ≡ plain_of Usage → ((p : Plan) → IsPlan words p → ⊥) → HasArgumentsCause words report.status
 unplanned_cause words report is none =
-    subst (λ (r : Report). HasWordCause words r.status) (sym is) (record {
+    subst (λ (r : Report). HasArgumentsCause words r.status) (sym is) (record {
       usage = λ _ p plan. none p plan;
       unplanned = λ _. inl refl;
       refused = λ e. let bad : Usage ≡ BadQuery = e in absurd (cc);

@@ -20,7 +20,7 @@ use Rattle.steno.specs.Scenes.{Scene}
 use Rattle.steno.specs.Spooling.{AreWhole, NamesDamage, Says, SaysOutcome}
 use Rattle.steno.specs.Statuses.{Ends}
 
--- what a job asks with this query, at this time of the clock
+-- what a job asks with this query, at this time of the clock, in microseconds since 1970
 abbrev pub question : Job → Node → ℕ → Question
 question job q now = record { node = q; now = now; limits = job.limits; unit = job.unit }
 
@@ -60,7 +60,8 @@ pub record AnswersShelf (job : Job) (old new : Scene) (status : Status) (message
   pub input : new.input ≡ old.input
   pub ends : RefusesQuery job old new status message ⊎ RepliesTo job now old new status message
 
--- what a query comes to if no count rises: if it is one and all pairs are whole, all is done
+-- how a query ends if no count of faults rises: if its text spells one and all pairs are whole, all
+-- is done, unless memory runs out
 abbrev pub QueriesUnfailed : Job → Scene → Status → Type 0
 QueriesUnfailed job old status =
     (first : Log) (pairs : List Entry) (q : Node) → old.log ≡ Some first

@@ -13,10 +13,11 @@ pub record FaultCounts : Type 0 where
   pub output : ℕ
   pub shelf : ℕ
 
+-- these counts, as a record
 abbrev pub counts : ℕ → ℕ → ℕ → FaultCounts
 counts input output shelf = record { input = input; output = output; shelf = shelf }
 
--- a fault comes only if the count of what failed rose, and no count falls
+-- a run ends in a fault only if the count of what failed rose, and no count falls
 pub record HasCauses (old new : FaultCounts) (status : Status) : Type 0 where
   pub read : status ≡ ReadFault → Rose old.input new.input
   pub write : status ≡ WriteFault → Rose old.output new.output
@@ -52,7 +53,8 @@ pub record HasPlanFaults (p : Plan) (old new : FaultCounts) (status : Status) : 
   pub causes : HasCauses old new status
   pub keeps : KeepsCounts p old new status
 
--- and so does a run of these arguments; nothing fails where they ask for nothing
+-- a run of these arguments ends in a fault only with its cause; no count changes if it ends with
+-- `Usage`, and otherwise those stay that a run of their plan keeps
 pub record HasFaultCause (words : List (List ℕ)) (old new : FaultCounts) (status : Status)
     : Type 0 where
   pub causes : HasCauses old new status

@@ -38,8 +38,8 @@ pub record DrillsShelf (drill : DrillPlan) (old new : Scene) (status : Status) (
   pub lent : new.loans.lent ≤ old.loans.lent
   pub input : new.input ≡ old.input
 
--- what a drill comes to if no count rises: if all pairs that it finds are whole, all is done,
--- unless no stamp is left
+-- how a drill ends if no count of faults rises: if all pairs that it finds are whole, all is done,
+-- unless memory runs out or no stamp is left
 abbrev pub DrillsUnfailed : Scene → Status → Type 0
 DrillsUnfailed old status =
     (first : Log) (pairs : List Entry) → old.log ≡ Some first → PairsIn (reads first) pairs

@@ -9,18 +9,19 @@ use Rattle.st_pcap.specs.declared.numbers.TheConstants.{FILE_HEAD_SIZE, RECORD_H
 use Rattle.st_query.specs.declared.nodes.Node.{Node}
 use Rattle.st_query.specs.Meaning.{Matches}
 
--- of these records exactly those of which it holds, in their order
+-- of these records exactly those of which M holds were kept, in their order
 abbrev pub Selects : (Rec → Type 0) → List Rec → List Rec → Type 0
 Selects M [] kept = kept ≡ []
 Selects M (r ∷ rs) kept =
     ((M r → ⊥) × Selects M rs kept)
     ⊎ (M r × ((more : List Rec) × (kept ≡ r ∷ more) × Selects M rs more))
 
--- the record is put after the kept ones where it holds of it, and else nothing is
+-- the record was put after the kept ones if M holds of it, and else nothing was
 abbrev pub KeepsMatch : (Rec → Type 0) → Rec → List Rec → List Rec → Type 0
 KeepsMatch M r old new = ((M r → ⊥) × (new ≡ old)) ⊎ (M r × (new ≡ old ++ r ∷ []))
 
--- the matching records of the input were kept, up to its end; or something outside failed
+-- the matching records of the input were kept, up to its end or its refusal; or reading it failed,
+-- or memory ran out
 abbrev pub IsGathered : Node → ℕ → List ℕ → List Rec → Result (Unit {0}) PcapErr → Type 0
 IsGathered q now bytes kept (Ok done) =
     (rs : List Rec) × Input bytes rs Whole × Selects (Matches q now) rs kept
@@ -40,8 +41,8 @@ pub record StopsAt (bytes : List ℕ) (e : PcapErr) (left : Option (List ℕ)) :
   pub enough : RefusesHead 0 taken e ⊎ RefusesRecord (FILE_HEAD_SIZE + size_of rs) taken e
   pub rest : left ≡ Some (drop taken bytes)
 
--- how far an input was read that ended so: to its end, or as far as its refusal takes; or something
--- outside failed
+-- how far an input was read: to its end, or as far as its refusal takes; or reading it failed, or
+-- memory ran out
 abbrev pub ReadsUpTo : List ℕ → Result (Unit {0}) PcapErr → Option (List ℕ) → Type 0
 ReadsUpTo bytes (Ok done) left = left ≡ Some []
 ReadsUpTo bytes (Err e) left = IsOutside e ⊎ StopsAt bytes e left

@@ -17,21 +17,21 @@ use Rattle.steno.specs.declared.status.Status.TheVariants.{Done, BadInput, BadQu
 use Rattle.st_answer.specs.Limited.{Limited}
 use Rattle.steno.specs.Messages.{status_line, query_line, input_line}
 
--- the output is the pcap text of the answer over these records, cut to the job's limits and in its
--- unit
+-- the output is the pcap of the answer over these records, cut to the job's limits and in its unit
 abbrev pub IsAnswered : Job → Node → ℕ → List Rec → List ℕ → Type 0
 IsAnswered job q now rs output =
     (answer : List Rec) × (cut : List Rec) × AnswerOf q now rs answer
     × Limited job.limits answer cut × (output ≡ PcapText cut job.unit)
 
--- what stands at the output where the input is refused after these records: their answer, but
--- nothing at all where the file head is refused
+-- the output if the input is refused after these records: the answer over them, and nothing if it
+-- is the file head that is refused
 abbrev pub IsAnsweredBefore : Job → Node → ℕ → List Rec → PcapErr → List ℕ → Type 0
 IsAnsweredBefore job q now rs cause output =
     (IsOfFileHead cause × (output ≡ []))
     ⊎ ((IsOfFileHead cause → ⊥) × IsAnswered job q now rs output)
 
--- the query over these bytes ends so, with this output and this message
+-- the query over an input of these bytes ends so, with this output and this message, if no fault
+-- comes and memory suffices
 abbrev pub IsReply : Job → Node → ℕ → List ℕ → List ℕ → Status → List ℕ → Type 0
 IsReply job q now bytes output Done message =
     (rs : List Rec) × Input bytes rs Whole × IsAnswered job q now rs output × (message ≡ [])
@@ -40,15 +40,17 @@ IsReply job q now bytes output BadInput message =
     × IsAnsweredBefore job q now rs cause output × (message ≡ input_line cause)
 IsReply job q now bytes output status message = ⊥
 
--- the job over these bytes ends so, with this output and this message
+-- the job over an input of these bytes ends so, with this output and this message, if no fault
+-- comes and memory suffices
 abbrev pub IsAsked : Job → ℕ → List ℕ → List ℕ → Status → List ℕ → Type 0
 IsAsked job now bytes output BadQuery message =
     (e : QueryErr) × Refuses job.query e × (output ≡ []) × (message ≡ query_line e)
 IsAsked job now bytes output status message =
     (q : Node) × Spells job.query q × IsReply job q now bytes output status message
 
--- What a query leaves at the output, of the ways in which its job may end: all of one's output;
--- after a fault of the output a prefix of it; and nothing where the input failed or memory ran out.
+-- What a query adds to the output, `job` being the ways in which it may end without a fault: the
+-- output of one of them; after a fault of the output a prefix of that; and nothing if reading the
+-- input failed or memory ran out.
 abbrev pub Leaves :
     (List ℕ → Status → List ℕ → Type 0) → Status → List ℕ → Option (List ℕ) → Option (List ℕ)
     → Type 0

@@ -25,7 +25,7 @@ pub record IsSound (load : LoadPlan) : Type 0 where
   pub some : 1 ≤ load.plan.blocks
   pub most : load.plan.blocks ≤ MAX_BLOCKS
 
--- the status and the message, unless there is no memory for the message
+-- the status and the message are these, unless there is no memory for the message
 abbrev pub SaysOr : Status → List ℕ → Status → List ℕ → Type 0
 SaysOr which line status message =
     Says which line status message ⊎ Says NoMemory (status_line NoMemory) status message
@@ -61,12 +61,13 @@ pub record LoadsPairs (load : LoadPlan) (old new : Scene) (status : Status) (mes
       old.output new.output ended
   pub loans : new.loans ≡ old.loans
 
--- the input is whole, and each of its packets fits a block of this size
+-- a load takes all of these records of an input with this end: it is whole, and each of its packets
+-- fits a block of this size
 abbrev pub IsTaken : ℕ → List Rec → End → Type 0
 IsTaken size rs end = (end ≡ Whole) × All (IsShort size) rs
 
--- What a load of these records comes to if no count rises, unless memory runs out or no stamp is
--- left: all is done if the load takes the input, and else the input is refused.
+-- How a load ends if no count of faults rises, unless memory runs out or no stamp is left: all is
+-- done if the load takes the whole input, and else the input is refused.
 pub record LoadsUnfailed (load : LoadPlan) (old : Scene) (status : Status) : Type 0 where
   pub done : (bytes : List ℕ) (rs : List Rec) (end : End) → old.input ≡ Some bytes
       → Input bytes rs end → IsTaken load.plan.size rs end

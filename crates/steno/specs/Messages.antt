@@ -1,4 +1,4 @@
--- The line that says why a run is not done. Each ends with a line feed.
+-- The lines that say why a run is not done. Each ends with a line feed.
 use Rattle.std.specs.Prelude.{ℕ, ◌/◌, ◌%◌, false, List, [], ◌∷◌, ◌++◌, codes, Option, Some, None, String, string_bytes}
 use Rattle.std.specs.Global.{Global}
 use Rattle.std.specs.Fmt.{decimal, digit_glyph}
@@ -25,7 +25,7 @@ hex_word n =
     hex_byte (n / 16777216 % 256)
     ++ (hex_byte (n / 65536 % 256) ++ (hex_byte (n / 256 % 256) ++ hex_byte (n % 256)))
 
--- the line that a status always has
+-- the line that a status always has; empty if it has none, or one for each cause
 abbrev pub status_line : Status → List ℕ
 status_line Done = []
 status_line Usage = codes "steno: usage: steno COMMAND [ARGUMENTS] [OPTIONS]\n"
@@ -38,12 +38,12 @@ status_line Damaged = []
 status_line NoMemory = codes "steno: out of memory\n"
 status_line StampsSpent = []
 
--- a kind of refusal and its place in the query
+-- the line of a query that is refused: the kind of refusal and its place in the text
 abbrev pub place_line : List ℕ → ℕ → List ℕ
 place_line kind place =
     codes "steno: query: " ++ (kind ++ (codes " at " ++ (decimal place ++ end_line)))
 
--- why a query is refused
+-- the line that says why a query is refused
 abbrev pub query_line : QueryErr → List ℕ
 query_line (query.Syntax place) = place_line (codes "syntax") place
 query_line (query.Number place) = place_line (codes "number") place
@@ -54,11 +54,11 @@ query_line (query.Long len) =
     codes "steno: query: " ++ (decimal len ++ codes " bytes are over 4096\n")
 query_line query.NoMemory = status_line NoMemory
 
--- a record by its number, and what is wrong with it
+-- the line of a record that is refused: its number, and what is wrong with it
 abbrev pub record_line : ℕ → List ℕ → List ℕ
 record_line number what = codes "steno: record " ++ (decimal number ++ (codes ": " ++ what))
 
--- why an input is refused
+-- the line that says why an input is refused
 abbrev pub input_line : PcapErr → List ℕ
 input_line pcap.ReadFault = status_line ReadFault
 input_line (pcap.NotPcap found) =
@@ -78,28 +78,30 @@ input_line (pcap.TooMuch taken) =
     codes "steno: input stopped after " ++ (decimal taken ++ codes " bytes\n")
 input_line pcap.NoMemory = status_line NoMemory
 
--- a record that no block of this size takes
+-- the line of a record, by its number and captured length, that no block of this size takes
 abbrev pub unfit_line : ℕ → ℕ → ℕ → List ℕ
 unfit_line number len size =
     record_line number
     (codes "captured length "
     ++ (decimal len ++ (codes " does not fit a block of " ++ (decimal size ++ end_line))))
 
--- a pair is damaged, by its stamp: the check that fails, by its place
+-- the line of a pair that is damaged: its stamp, and the place of the check that fails, what was
+-- found and what was wanted
 abbrev pub damaged_line : ℕ → Damage → List ℕ
 damaged_line stamp d =
     codes "steno: pair "
     ++ (decimal stamp ++ (codes " is damaged at " ++ (decimal d.place ++ (codes ": "
     ++ (decimal d.found ++ (codes " for " ++ (decimal d.want ++ end_line)))))))
 
--- there is no stamp after this one
+-- the line that says that no stamp is left after this one
 abbrev pub spent_line : ℕ → List ℕ
 spent_line last = codes "steno: no stamp follows " ++ (decimal last ++ end_line)
 
--- the line of a report: its own, or its status's
+-- this text if there is one, and else the line that the status always has
 abbrev pub made_line : Status → Option (String Global) → List ℕ
 made_line status (Some text) = string_bytes text
 made_line status None = status_line status
 
+-- the line of a report
 abbrev pub line_of : Report → List ℕ
 line_of e = made_line e.status e.line

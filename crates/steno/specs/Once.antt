@@ -15,7 +15,8 @@ use Rattle.steno.specs.Messages.{status_line, query_line, input_line}
 use Rattle.steno.specs.Scenes.{Scene}
 use Rattle.steno.specs.Statuses.{Ends}
 
--- the job over these bytes ended so, with this message: the clock and the output
+-- a job over an input of these bytes ended so, with this message: it read the clock once, and left
+-- this output
 abbrev pub EndsJob :
     Job → Option (List ℕ) → Option (List ℕ) → List ℕ → Option (List ℕ) → Option (List ℕ) → Status
     → List ℕ → Type 0
@@ -37,7 +38,8 @@ abbrev pub IsJobMessage : Job → Status → List ℕ → Type 0
 IsJobMessage job BadQuery message = (e : QueryErr) × Refuses job.query e × (message ≡ query_line e)
 IsJobMessage job status message = IsAnswerMessage status message
 
--- the query of a plan is refused if and only if it is one that is, unless memory runs out
+-- a job ends with `BadQuery` only if its query is one that is refused, and then always, unless
+-- memory runs out; it never ends with `Usage`
 pub record HasQueryCause (job : Job) (status : Status) : Type 0 where
   pub planned : status ≢ Usage
   pub refused : status ≡ BadQuery → (e : QueryErr) × Refuses job.query e
@@ -53,7 +55,7 @@ pub record HasStreamCause (before after old new : ℕ) (status : Status) : Type 
   pub unread : status ≢ ReadFault → after ≡ before
   pub unwritten : status ≢ WriteFault → new ≡ old
 
--- how far a job that ended so read its input: to its end where all is done, and where the input is
+-- how far a job that ended so read its input: to its end if all is done, and if the input is
 -- refused as far as that takes
 abbrev pub EndsInput : List ℕ → Status → Option (List ℕ) → Type 0
 EndsInput bytes Done left = left ≡ Some []
@@ -73,7 +75,7 @@ IsUnread Usage = Unit {0}
 IsUnread BadQuery = Unit {0}
 IsUnread status = ⊥
 
--- the streams that a job doesn't touch: the input where the query is refused, and the output where
+-- the streams that a job doesn't touch: the input if the query is refused, and the output if
 -- nothing is written
 pub record LeavesStreams {I O : Type 0} (status : Status) (input input' : I)
     (out out' : O) : Type 0 where

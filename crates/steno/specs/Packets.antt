@@ -12,7 +12,7 @@ use Rattle.steno.specs.declared.packets.Packet.{Packet}
 abbrev pub stretch : List ℕ → ℕ → ℕ → List ℕ
 stretch text from to = take (to - from) (drop from text)
 
--- where a packet's text ends in the buffer
+-- the offset in the buffer at which a packet's text ends
 abbrev pub end_of : Packet → ℕ
 end_of p = p.start + RECORD_HEAD_SIZE + p.len
 
@@ -20,7 +20,7 @@ end_of p = p.start + RECORD_HEAD_SIZE + p.len
 abbrev pub text_of : List ℕ → Packet → List ℕ
 text_of text p = stretch text p.start (end_of p)
 
--- the record that a packet stands for in this buffer
+-- the record that a packet represents, by this buffer
 abbrev pub record_of : List ℕ → Packet → Rec
 record_of text p = record {
   sec = p.sec;
@@ -42,12 +42,12 @@ AllLie u text ps = All (Lies u text) ps
 abbrev pub AllWithin : List ℕ → List Packet → Type 0
 AllWithin text ps = All (λ (p : Packet). end_of p ≤ length text) ps
 
--- the one packet was captured at an earlier time than the other
+-- the first packet was captured at an earlier time than the second
 abbrev pub is_earlier : Packet → Packet → Bool
 is_earlier a b = is_lt (ordering_then (nat_cmp a.sec b.sec) (nat_cmp a.nsec b.nsec))
 
--- Where all texts lie in the buffer, they do so afterwards, and the packets are those that there
--- were, with this one at the end; or nothing changed.
+-- After an Ok the packets are those that there were, with this record at the end, and all texts are
+-- in the buffer if all were before; after an error nothing changed.
 abbrev pub Appends :
     {E : Type 0} → unit.Unit → Rec → List ℕ → List Packet → List ℕ → List Packet
     → Result (Unit {0}) E → Type 0

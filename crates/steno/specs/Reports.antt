@@ -18,7 +18,7 @@ use Rattle.steno.specs.Messages.{line_of, query_line, input_line}
 abbrev pub plain_of : Status → Report
 plain_of status = record { status = status; line = None }
 
--- the query is refused, with the line of this refusal; or there was no memory
+-- the report is that of a query with this refusal, with its line; or that there was no memory
 abbrev pub ReportsQuery : QueryErr → Report → Type 0
 ReportsQuery e report =
     (report ≡ plain_of NoMemory)
@@ -30,8 +30,8 @@ pub record IsRefusal (e : PcapErr) (report : Report) : Type 0 where
   pub status : report.status ≡ BadInput
   pub line : line_of report ≡ input_line e
 
--- What a run reports of an input that ended so: Ok where it answers the records before that end
--- first, Err where it ends at once.
+-- What a run reports of an input that ended so: Ok if it writes the answer over the records before
+-- that end first, Err if it ends at once.
 abbrev pub ReportsInput : Result (Unit {0}) PcapErr → Result Report Report → Type 0
 ReportsInput (Ok done) (Ok report) = report ≡ plain_of Done
 ReportsInput (Ok done) (Err report) = ⊥
@@ -41,8 +41,7 @@ ReportsInput (Err e) (Err report) =
     ⊎ (((e ≡ cause.ReadFault) × (report ≡ plain_of ReadFault))
     ⊎ (IsRefusal e report × IsOfFileHead e))
 
--- the message follows what was there, or a prefix of it does where the count of faults rose; the
--- count never falls
+-- the message was written, or a prefix of it and the count of faults rose; the count never falls
 pub record Tells (old new : Option (List ℕ)) (before after : ℕ) (message : List ℕ) : Type 0 where
   pub put : Appends old new message ⊎ (AppendsPrefix old new message × Rose before after)
   pub later : before ≤ after

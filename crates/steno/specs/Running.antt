@@ -29,7 +29,7 @@ pub record DoesNothing (which : Status) (old new : Scene) (status : Status) (mes
   pub line : message ≡ status_line which
   pub same : new ≡ old
 
--- what a run of this plan does, that ends so and with this message
+-- what a run of this plan does that ends with this status and this message
 abbrev pub Does : Plan → Scene → Scene → Status → List ℕ → Type 0
 Does (plan.Once job) old new status message = AnswersInput job old new status message
 Does (plan.Load load) old new status message = LoadsPairs load old new status message
@@ -54,8 +54,8 @@ EndsRun words old new status message =
     ⊎ (DoesNothing NoMemory old new status message
     ⊎ ((p : Plan) × IsPlan words p × Does p old new status message))
 
--- No plan ends as arguments without one do. A query is refused only if the plan asks one that is,
--- and if it does, the run ends in no other way unless memory runs out.
+-- A run of a plan doesn't end with `Usage`. It ends with `BadQuery` only if the plan asks a query
+-- that is refused, and if it does, in no other way unless memory runs out.
 pub record HasPlanCause (p : Plan) (status : Status) : Type 0 where
   pub usage : status ≡ Usage → ⊥
   pub refused : status ≡ BadQuery
@@ -63,10 +63,10 @@ pub record HasPlanCause (p : Plan) (status : Status) : Type 0 where
   pub exact : (text : List ℕ) (e : QueryErr) → query_of p ≡ Some text → Refuses text e
       → Ends BadQuery status
 
--- Arguments without a plan, and only these, end so, unless memory runs out. A query is refused only
--- if the arguments ask one that is, and if they do, the run ends in no other way unless memory runs
--- out.
-pub record HasWordCause (words : List (List ℕ)) (status : Status) : Type 0 where
+-- A run ends with `Usage` if and only if its arguments have no plan, unless memory runs out. It
+-- ends with `BadQuery` only if they ask a query that is refused, and if they do, in no other way
+-- unless memory runs out.
+pub record HasArgumentsCause (words : List (List ℕ)) (status : Status) : Type 0 where
   pub usage : status ≡ Usage → AskNothing words
   pub unplanned : AskNothing words → Ends Usage status
   pub refused : status ≡ BadQuery
@@ -80,7 +80,7 @@ abbrev pub EndsBy : End → Status → Type 0
 EndsBy Whole status = Ends Done status
 EndsBy (Refused cause) status = Ends BadInput status
 
--- how a run of this plan ends if no count rises
+-- how a run of this plan ends if no count of faults rises
 abbrev pub EndsUnfailed : Plan → Scene → Status → Type 0
 EndsUnfailed (plan.Once job) old status =
     (bytes : List ℕ) (q : Node) (rs : List Rec) (end : End) → old.input ≡ Some bytes

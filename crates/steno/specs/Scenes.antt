@@ -12,7 +12,7 @@ pub record Scene : Type 0 where
   pub log : Option Log
   pub loans : LoansView
 
--- the scene of these
+-- these, as a scene
 abbrev pub scene :
     Option (List ℕ) → Option (List ℕ) → Option (List ℕ) → Option Log → LoansView → Scene
 scene input output clock log loans =

@@ -30,7 +30,8 @@ NamesDamage stamp d status message =
 abbrev pub SaidDamage : ℕ → Damage → Status → List ℕ → Type 0
 SaidDamage stamp d status message = Says Damaged [] status message
 
--- the status and the message of a command over a shelf that ended so, and tells damage so
+-- the status and the message of a command over a shelf that ended so; `Tells` is how it tells
+-- damage
 abbrev pub SaysOutcome :
     (ℕ → Damage → Status → List ℕ → Type 0) → Outcome → Status → List ℕ → Type 0
 SaysOutcome Tells outcome.Done status message = Says Done [] status message
@@ -65,14 +66,15 @@ pub record ReportsPairs (report : Report) (old new : Scene) (status : Status) (m
 abbrev pub AreWhole : List Entry → Type 0
 AreWhole pairs = All (λ e. IsWholePair e.block e.index) pairs
 
--- what a list comes to if no count rises: if all pairs are whole, all is done
+-- how a list ends if no count of faults rises: if all pairs are whole, all is done, unless memory
+-- runs out
 abbrev pub ListsUnfailed : Scene → Status → Type 0
 ListsUnfailed old status =
     (first : Log) (pairs : List Entry) → old.log ≡ Some first → PairsIn (reads first) pairs
     → AreWhole pairs → Ends Done status
 
--- what a check comes to if no count rises: if all pairs are whole, all is done, and else it ends
--- with the damage
+-- how a check ends if no count of faults rises: if all pairs are whole, all is done, and else it
+-- ends with `Damaged`; unless memory runs out
 abbrev pub ChecksUnfailed : Scene → Status → Type 0
 ChecksUnfailed old status =
     (first : Log) (pairs : List Entry) → old.log ≡ Some first → PairsIn (reads first) pairs

@@ -17,19 +17,19 @@ SparesInput (plan.Check spool) status = ⊤
 SparesInput (plan.Drill drill) status = ⊤
 SparesInput p status = ⊥
 
--- nor the output
+-- a run of this plan that ends so does not touch the output
 abbrev pub SparesOutput : Plan → Status → Type 0
 SparesOutput (plan.Once job) status = IsSilent status
 SparesOutput (plan.Query query) status = status ≡ BadQuery
 SparesOutput p status = ⊥
 
--- nor the clock
+-- a run of this plan that ends so does not touch the clock
 abbrev pub SparesClock : Plan → Status → Type 0
 SparesClock (plan.List spool) status = ⊤
 SparesClock (plan.Check spool) status = ⊤
 SparesClock p status = ⊥
 
--- nor the shelf
+-- a run of this plan that ends so does not touch the shelf
 abbrev pub SparesShelf : Plan → Status → Type 0
 SparesShelf (plan.Once job) status = ⊤
 SparesShelf (plan.Query query) status = status ≡ BadQuery
@@ -43,7 +43,7 @@ pub record IsSame {I O C D : Type 0} (input input' : I) (out out' : O) (clock cl
   pub clock_is : clock' ≡ clock
   pub shelf_is : shelf' ≡ shelf
 
--- what a run of this plan spares stays as it was
+-- what a run of this plan that ends so does not touch stays as it was
 pub record Spares {I O C D : Type 0} (p : Plan) (status : Status) (input input' : I) (out out' : O)
     (clock clock' : C) (shelf shelf' : D) : Type 0 where
   pub input_is : SparesInput p status → input' ≡ input
@@ -51,15 +51,15 @@ pub record Spares {I O C D : Type 0} (p : Plan) (status : Status) (input input' 
   pub clock_is : SparesClock p status → clock' ≡ clock
   pub shelf_is : SparesShelf p status → shelf' ≡ shelf
 
--- Arguments that ask for nothing leave all as it was, and other ones what their plan spares.
+-- A run that ends with `Usage` leaves all as it was, and a run of a plan leaves what `Spares` says.
 pub record LeavesAlone {I O C D : Type 0} (words : List (List ℕ)) (status : Status)
     (input input' : I) (out out' : O) (clock clock' : C) (shelf shelf' : D) : Type 0 where
   pub usage : status ≡ Usage → IsSame input input' out out' clock clock' shelf shelf'
   pub planned : (p : Plan) → IsPlan words p
       → Spares p status input input' out out' clock clock' shelf shelf'
 
--- a run of these arguments that ends so has no message: all is done, or a check found damage, which
--- its lines name
+-- a run of these arguments that ends so writes no message: all is done, or a check found damage,
+-- which its lines name
 abbrev pub IsUnsaid : List (List ℕ) → Status → Type 0
 IsUnsaid words status =
     (status ≡ Done)

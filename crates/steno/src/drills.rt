@@ -22,7 +22,9 @@ use std::alloc::Global;
 /// over all of its pairs, and writes the summary to `out`.
 ///
 /// The clock is read once for each new pair, in microseconds since 1970. Nothing is written unless
-/// all packets were loaded and all queries answered.
+/// all packets were loaded and all queries answered. The report has the status, and the line that
+/// the cause has.
+/// Source: docs/FORMAT.md, "Drill", "Statuses" and "Messages".
 pub fn drill<D: Shelf, O: Sink, C: Clock>(
     alloc: Global,
     plan: &DrillPlan<'_>,
@@ -57,7 +59,8 @@ pub fn drill<D: Shelf, O: Sink, C: Clock>(
     }
 }
 
-// The report of a drill that ended so. Its line names the damage, if there is any.
+// The report of a drill that ended so. Its line names the damage, if there is any; `NoMemory` if
+// there is no memory for the line.
 fn drill_ended(alloc: Global, end: DrillEnd) -> Report
     ensures { SaysDrill end result.status (line_of result) }
 {

@@ -11,19 +11,21 @@ use st_pcap::{PcapErr, PcapReader, Unit};
 use st_query::{Query, matches};
 use std::alloc::Global;
 
-/// The records of an input that match, in its order, and how the input ended: Ok where a record
-/// would begin.
+/// The records of an input that match, in its order, and how reading it ended: Ok if the input
+/// ended after a whole record, or after the file head.
 #[derive(Drop)]
 pub struct Gathered {
     pub packets: Packets,
     pub end: Result<(), PcapErr>,
 }
 
-/// Reads the pcap to its end, and keeps the records that match `query` at `now`, in microseconds
-/// since 1970, to be written in `unit`.
+/// Reads the pcap to its end, and keeps the records that match `query` with the clock at `now`, in
+/// microseconds since 1970, to be written in `unit`.
 ///
 /// All records are read into the same memory, one after the other. Nothing is read after a refusal.
-/// `ReadFault` comes only if the input's `faults` rose.
+/// The end is `ReadFault` only if the input's `faults` rose, and `NoMemory` if there was no memory
+/// for a record; every other error is the input's refusal.
+/// Source: docs/FORMAT.md, "How an input is read".
 pub fn gather<I: Source>(
     alloc: Global,
     query: &Query,
@@ -72,8 +74,8 @@ pub fn gather<I: Source>(
     }
 }
 
-// Adds a copy of the packet to those that are kept, where it matches, and gives the memory of its
-// body back.
+// Adds a copy of the packet to those that are kept, if it matches, and gives the memory of its body
+// back.
 fn keep(query: &Query, now: u64, packet: Record, packets: &mut Packets) -> Result<Vec<u8>, NoMemory>
     ensures kept { OnOk result
         (KeepsMatch (Matches query.now now) packet packets.old.records packets.new.records) }

@@ -21,7 +21,9 @@ use std::alloc::{AllocError, Global};
 /// the oldest pairs above its limit, and writes a line `STAMP PACKETS` to `out` for each new pair.
 ///
 /// The clock is read once for each pair, in microseconds since 1970. A record that is refused or
-/// that no block takes ends the input, and the packets before it are loaded.
+/// that no block takes ends the input, and the packets before it are loaded. The report has the
+/// status, and the line that the cause has.
+/// Source: docs/FORMAT.md, "Command line", "Statuses" and "Messages".
 pub fn load<D: Shelf, I: Source, O: Sink, C: Clock>(
     alloc: Global,
     plan: &LoadPlan<'_>,
@@ -64,7 +66,8 @@ pub fn load<D: Shelf, I: Source, O: Sink, C: Clock>(
     }
 }
 
-// The report of a load into blocks of `size` bytes that ended so.
+// The report of a load into blocks of `size` bytes that ended so; `NoMemory` if there is no memory
+// for its line.
 fn load_ended(alloc: Global, size: u32, end: LoadEnd) -> Report
     ensures { SaysLoad size end result.status (line_of result) }
 {
@@ -82,7 +85,7 @@ fn load_ended(alloc: Global, size: u32, end: LoadEnd) -> Report
     }
 }
 
-/// The report of this status with this line; `NoMemory` if there was no memory for the line.
+/// The report of this status with this line; one of `NoMemory` if there was no memory for the line.
 pub fn with_line(status: Status, line: Result<String, AllocError>) -> Report
     ensures { MatchResult line
         (λ text. Says status (string_bytes text) result.status (line_of result))

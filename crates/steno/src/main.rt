@@ -6,8 +6,8 @@
 //! N` makes N packets pairs of it, queries them, and writes how much was found.
 //!
 //! A run ends with a status, whose number is the exit status of the process, and with a line on
-//! standard error that says why it isn't done; where a call of the system failed, a second line
-//! names it. docs/FORMAT.md has them all: "Command line", "Statuses" and "Messages".
+//! standard error that says why it isn't done; if a call of the system failed, a second line names
+//! it. docs/FORMAT.md has them all: "Command line", "Statuses" and "Messages".
 //!
 //! # What it promises
 //!
@@ -24,7 +24,7 @@
 //! # What it leaves to others
 //!
 //! What real streams and a real folder give and take is not said: `main` makes them. It gives the
-//! output a buffer where packets are written, and none where each line goes out by itself.
+//! output a buffer if packets are written, and none if each line is to go out as it is written.
 //!
 //! # Where to read
 //!
@@ -70,11 +70,11 @@ fn main(rt: HostRuntime) -> ExitCode {
     ExitCode::from(code(begin(&rt)))
 }
 
-// Runs over the real streams, clock and spool folder, and answers how that ended.
+// Runs over the real streams, clock and spool folder, and returns how that ended.
 fn begin(rt: &HostRuntime) -> Status {
     let alloc = rt.alloc();
     let mut err = StreamSink::over(rt.stderr());
-    let words = match words_of(rt) {
+    let words = match arguments_of(rt) {
         Ok(words) => words,
         Err(status) => return told(&mut err, status),
     };
@@ -100,6 +100,7 @@ struct Setting<'a> {
     room: usize,
 }
 
+// The setting that these arguments ask for; without a plan it has no folder.
 fn setting_of<'a>(alloc: Global, words: &'a [String]) -> Result<Setting<'a>, NoMemory> {
     let room = match plan_of(alloc, words)? {
         Some(plan) => output_room(&plan),
@@ -112,7 +113,7 @@ fn setting_of<'a>(alloc: Global, words: &'a [String]) -> Result<Setting<'a>, NoM
     Ok(Setting { folder, room })
 }
 
-// The room of the output's buffer, in bytes: none where each line is to go out as it is written.
+// The room of the output's buffer, in bytes: none if each line is to go out as it is written.
 fn output_room(plan: &Plan<'_>) -> usize {
     match plan {
         Plan::Once(_) | Plan::Query(_) => BUFFER,
@@ -120,8 +121,8 @@ fn output_room(plan: &Plan<'_>) -> usize {
     }
 }
 
-// Runs over the real streams and clock and this shelf, tells which call of the system failed if
-// that ended it, and answers how it ended.
+// Runs over the real streams and clock and this shelf, writes which call of the system failed if
+// that ended it, and returns how it ended.
 fn run_over<D: Shelf + TellsFailure + Drop, E: Sink>(
     rt: &HostRuntime,
     words: &[String],
@@ -186,8 +187,8 @@ impl TellsFailure for MemShelf {
     }
 }
 
-// How a run ended whose output was then flushed: a flush that fails is a fault of the output,
-// however the run ended.
+// The status of a run that ended so, after the flush of its output: a flush that fails is a fault
+// of the output, however the run ended.
 fn flushed(status: Status, flush: Result<(), Failed>) -> Status
     ensures { MatchResult flush (λ _. result ≡ status) (λ _. result ≡ Status.WriteFault) }
 {
@@ -197,8 +198,9 @@ fn flushed(status: Status, flush: Result<(), Failed>) -> Status
     }
 }
 
-// The words after the program's name. Where one is not UTF-8, there is no command.
-fn words_of(rt: &HostRuntime) -> Result<Vec<String>, Status> {
+// The arguments after the program's name. If one of them is not UTF-8, the run ends with `Usage`,
+// and if there is no memory for them with `NoMemory`.
+fn arguments_of(rt: &HostRuntime) -> Result<Vec<String>, Status> {
     let mut words = Vec::new(rt.alloc());
     let all = match std::env::args(rt) {
         Ok(all) => all,
@@ -217,7 +219,8 @@ fn words_of(rt: &HostRuntime) -> Result<Vec<String>, Status> {
     Ok(words)
 }
 
-// Tells the line of this status, if the run never began or its flush failed.
+// Writes the line that this status always has, for a run that never began or whose flush failed,
+// and returns the status.
 fn told<E: Sink>(err: &mut E, status: Status) -> Status
     ensures same { result ≡ status }
     ensures line { Tells (E.written err.old) (E.written err.new)

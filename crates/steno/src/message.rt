@@ -1,4 +1,4 @@
-//! The line that says why a run is not done. Source: docs/FORMAT.md, "Messages".
+//! The lines that say why a run is not done. Source: docs/FORMAT.md, "Messages".
 
 ghost use Rattle.std.specs.Prelude.{◌≡◌, ◌+◌, ◌/◌, ◌%◌, IfOk, string_bytes};
 ghost use Rattle.steno.specs.Messages.{status_line, query_line, input_line, unfit_line, damaged_line, spent_line, line_of, hex_byte};
@@ -10,7 +10,8 @@ use st_pcap::PcapErr;
 use st_query::QueryErr;
 use std::alloc::{AllocError, Global};
 
-/// The bytes of a report's line.
+/// The bytes of a report's line, its line feed included: its own, or the one that its status always
+/// has. Empty if the run has nothing to say.
 pub fn line_bytes(report: &Report) -> &[u8]
     ensures { result.now ≡ line_of report.now }
 {
@@ -20,7 +21,7 @@ pub fn line_bytes(report: &Report) -> &[u8]
     }
 }
 
-// The line that a status always has.
+// The line that a status always has; empty if it has none, or one for each cause.
 fn status_text(status: Status) -> &'static str
     ensures { result.now ≡ status_line status }
 {
@@ -38,7 +39,7 @@ fn status_text(status: Status) -> &'static str
     }
 }
 
-/// Why a query is refused.
+/// The line that says why a query is refused.
 pub fn query_text(alloc: Global, error: QueryErr) -> Result<String, AllocError>
     ensures { IfOk result (λ t. string_bytes t ≡ query_line error) }
 {
@@ -53,7 +54,7 @@ pub fn query_text(alloc: Global, error: QueryErr) -> Result<String, AllocError>
     }
 }
 
-/// Why an input is refused.
+/// The line that says why an input is refused.
 pub fn input_text(alloc: Global, error: PcapErr) -> Result<String, AllocError>
     ensures { IfOk result (λ t. string_bytes t ≡ input_line error) }
 {
@@ -82,7 +83,8 @@ pub fn input_text(alloc: Global, error: PcapErr) -> Result<String, AllocError>
     }
 }
 
-/// Why a record of this number and captured length is refused that no block of `size` bytes takes.
+/// The line of a record that no block of `size` bytes takes: by its number, counted from 1, and its
+/// captured length, in bytes.
 pub fn unfit_text(alloc: Global, number: u64, len: u32, size: u32) -> Result<String, AllocError>
     ensures { IfOk result (λ t. string_bytes t ≡ unfit_line number len size) }
 {
@@ -91,7 +93,7 @@ pub fn unfit_text(alloc: Global, number: u64, len: u32, size: u32) -> Result<Str
     )
 }
 
-/// Which check of the pair of this stamp fails.
+/// The line of the pair with this stamp, a check of which fails so.
 pub fn damaged_text(alloc: Global, stamp: u64, damage: Damage) -> Result<String, AllocError>
     ensures { IfOk result (λ t. string_bytes t ≡ damaged_line stamp damage) }
 {
@@ -101,13 +103,14 @@ pub fn damaged_text(alloc: Global, stamp: u64, damage: Damage) -> Result<String,
     format!(in alloc; "steno: pair {stamp} is damaged at {place}: {found} for {want}\n")
 }
 
-/// That no stamp is left after this one.
+/// The line that says that no stamp is left after this one.
 pub fn spent_text(alloc: Global, last: u64) -> Result<String, AllocError>
     ensures { IfOk result (λ t. string_bytes t ≡ spent_line last) }
 {
     format!(in alloc; "steno: no stamp follows {last}\n")
 }
 
+// The line of an input whose first four bytes, `found` as a little-endian number, are no magic.
 fn not_pcap_text(alloc: Global, found: u32) -> Result<String, AllocError>
     ensures { IfOk result (λ t. string_bytes t ≡ input_line (PcapErr.NotPcap found)) }
 {
@@ -120,6 +123,7 @@ fn not_pcap_text(alloc: Global, found: u32) -> Result<String, AllocError>
     )
 }
 
+// Two hexadecimal digits, in lower case.
 #[tactic(auto, using(std::proofs::lemmas::Fmt::hex_byte))]
 fn hex_text(alloc: Global, byte: u8) -> Result<String, AllocError>
     ensures { IfOk result (λ t. string_bytes t ≡ hex_byte byte) }

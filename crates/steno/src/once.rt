@@ -16,9 +16,11 @@ use std::alloc::Global;
 /// Writes to `out` the packets of the pcap in `input` that match the plan's query, by second,
 /// nanosecond and place, in the plan's unit and within its limits.
 ///
-/// The clock is read once, in microseconds since 1970, before the query is. A refused record ends
-/// the input, and what came before it is answered; nothing is written where the file head is
-/// refused, the input fails, or memory runs out.
+/// The clock is read once, in microseconds since 1970, before the query is parsed. A refused record
+/// ends the input, and the answer is that over the records before it; nothing is written if the
+/// query or the file head is refused, the input fails, or memory runs out. The report has the
+/// status, and the line that the cause has.
+/// Source: docs/FORMAT.md, "pcap", "Statuses" and "Messages".
 pub fn once<I: Source, O: Sink, C: Clock>(
     alloc: Global,
     plan: &Job<'_>,

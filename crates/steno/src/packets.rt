@@ -1,4 +1,4 @@
-//! The packets of an answer, kept as the text in which they are written.
+//! The packets of an answer, kept as the bytes in which they are written.
 
 ghost use Rattle.std.specs.Prelude.{◌≡◌, ◌≤◌, ◌+◌, List, ℕ, length, take, map, IsTrue, OnOk, vec_len, vec_capacity};
 ghost use Rattle.std.specs.List.{All, flat_map};
@@ -21,7 +21,7 @@ pub struct Packet {
     pub sec: u32,
     /// Nanoseconds, below 10^9.
     pub nsec: u32,
-    /// The length on the wire, in bytes.
+    /// The original length, in bytes.
     pub orig: u32,
     /// The captured length, in bytes.
     pub len: u32,
@@ -31,7 +31,7 @@ pub struct Packet {
 
 /// Packets in some order, whose texts lie in one buffer.
 ///
-/// A contract sees the unit of the texts' times, and the records in their order.
+/// Contracts see the unit of the texts' times, and the records in their order.
 #[derive(Drop)]
 pub struct Packets {
     unit: Unit,
@@ -90,7 +90,8 @@ impl Packets {
 
     /// Sorts matching packets by second and nanosecond; those of one time keep their order.
     ///
-    /// It takes memory only where they are not in that order already.
+    /// It takes memory only if they are not in that order already. `NoMemory` may leave them in
+    /// another order.
     pub fn sort_by_time(&mut self) -> Result<(), NoMemory>
         ensures answer { (q : Node) (now : ℕ) (rs : List Rec)
             → Selects (Matches q now) rs self.old.records
@@ -100,7 +101,8 @@ impl Packets {
         sort(&mut self.order)
     }
 
-    /// Keeps the longest prefix of the packets that is within the limits.
+    /// Keeps the longest prefix of the packets that is within the limits, on their number and on
+    /// their captured bytes.
     pub fn cut(&mut self, limits: Limits)
         ensures limited { Limited limits self.old.records self.new.records }
         ensures unit { self.new.unit ≡ self.old.unit }
@@ -109,10 +111,11 @@ impl Packets {
         self.order.truncate(count);
     }
 
-    /// Writes the pcap file of the packets: its head by one `put`, then each stretch of the buffer
-    /// that holds packets as they follow each other by another. It takes no memory.
+    /// Writes the pcap file of the packets: its head by one `put`, and by one more each run of
+    /// packets whose texts follow each other in the buffer. It takes no memory.
     ///
-    /// `Failed` comes only where the sink's `faults` rose; a prefix of the file is then written.
+    /// `Failed` comes only if the sink's `faults` rose; a prefix of the file is then written.
+    /// Source: docs/FORMAT.md, "What is written".
     pub fn write<O: Sink>(&self, out: &mut O) -> Result<(), Failed>
         ensures bytes { Puts (O.written out.old) (O.written out.new)
             (PcapText self.now.records self.now.unit) result }
@@ -160,8 +163,8 @@ fn append(
     Ok(())
 }
 
-// Makes room for this many elements more: for twice as many as there is room for, so that a list
-// grows seldom, or only for these where memory is short.
+// Makes room for this many elements more: for twice as many as there was room for, so that a list
+// grows seldom, or only for these if memory is short.
 fn make_room<T>(items: &mut Vec<T>, more: usize) -> Result<(), NoMemory>
     ensures same { items.new.items ≡ items.old.items }
     ensures room { OnOk result (vec_len items.new + more ≤ vec_capacity items.new) }
@@ -190,7 +193,7 @@ fn sort(order: &mut Vec<Packet>) -> Result<(), NoMemory>
     }
 }
 
-// Whether no packet is earlier than the one before it.
+// Whether the packets are in the order of their times.
 fn is_sorted(order: &[Packet]) -> bool
     ensures { IsTrue result → IsSortedBy is_earlier order.now }
 {
@@ -202,7 +205,7 @@ fn is_sorted(order: &[Packet]) -> bool
     true
 }
 
-// Whether the one packet was captured at an earlier time than the other.
+// Whether one packet was captured at an earlier time than the other.
 fn is_earlier(one: &Packet, other: &Packet) -> bool
     ensures { result ≡ is_earlier one.now other.now }
 {
@@ -231,7 +234,8 @@ fn limited_len(order: &[Packet], limits: Limits) -> usize
     count
 }
 
-// Writes the packets' texts in their order. What lies together goes out together.
+// Writes the packets' texts in their order, by one `put` for each run of texts that follow each
+// other in the buffer.
 fn put_texts<O: Sink>(out: &mut O, order: &[Packet], text: &[u8]) -> Result<(), Failed>
     requires { AllWithin text.now order.now }
     ensures bytes { Puts (O.written out.old) (O.written out.new)

@@ -19,8 +19,10 @@ use std::alloc::Global;
 /// Writes to `out` the packets of the shelf's pairs that match the plan's query, by second,
 /// nanosecond, stamp and position, in the plan's unit and within its limits.
 ///
-/// The clock is read once, in microseconds since 1970, before the query is. Neither the shelf nor
-/// the output is touched if the query is refused.
+/// The clock is read once, in microseconds since 1970, before the query is parsed. Neither the
+/// shelf nor the output is touched if the query is refused. The report has the status, and the line
+/// that the cause has.
+/// Source: docs/FORMAT.md, "pcap", "Statuses" and "Messages".
 pub fn query<D: Shelf, O: Sink, C: Clock>(
     alloc: Global,
     plan: &Job<'_>,

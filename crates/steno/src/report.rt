@@ -12,14 +12,14 @@ use st_pcap::PcapErr;
 use st_query::QueryErr;
 use std::alloc::Global;
 
-/// How a run ends: its status, and its line where that isn't the one that the status always has.
+/// How a run ends: its status, and its line if that isn't the one that the status always has.
 #[derive(Drop)]
 pub struct Report {
     pub status: Status,
     pub line: Option<String>,
 }
 
-/// How a run ended that has not told it yet, and its shelf.
+/// The report of a run, which has not been written yet, and the run's shelf.
 pub struct Reported<D> {
     pub report: Report,
     pub shelf: D,
@@ -34,7 +34,7 @@ pub fn plain(status: Status) -> Report
 
 /// The report of a query that is refused.
 ///
-/// Its status is `BadQuery`, or `NoMemory` where there was no memory for the query or the line.
+/// Its status is `BadQuery`, or `NoMemory` if there was no memory for the query or the line.
 pub fn query_refused(alloc: Global, error: QueryErr) -> Report
     ensures { ReportsQuery error result }
 {
@@ -52,9 +52,9 @@ pub fn query_refused(alloc: Global, error: QueryErr) -> Report
 
 /// The report of a run whose input ended so.
 ///
-/// Ok where the records before that end are to be answered first. Err where the run ends at once,
-/// with nothing written: at a file head that is refused, at a fault of the input, and where there
-/// was no memory for a record or the line.
+/// Ok if the answer over the records before that end is to be written first. Err if the run ends at
+/// once, with nothing written: at a file head that is refused, at a fault of the input, and if
+/// there was no memory for a record or the line.
 pub fn input_ended(alloc: Global, end: Result<(), PcapErr>) -> Result<Report, Report>
     ensures { ReportsInput end result }
 {
@@ -64,7 +64,8 @@ pub fn input_ended(alloc: Global, end: Result<(), PcapErr>) -> Result<Report, Re
     }
 }
 
-// The report of a run whose input fails or is refused, or for whose records there was no memory.
+// The report of a run whose input fails or is refused, or whose records have no memory, as
+// `input_ended` gives it.
 fn input_stopped(alloc: Global, cause: PcapErr) -> Result<Report, Report>
     ensures { ReportsInput (Err cause) result }
 {
@@ -75,7 +76,7 @@ fn input_stopped(alloc: Global, cause: PcapErr) -> Result<Report, Report>
     }
 }
 
-// The report of a run whose input is refused.
+// The report of a run whose input is refused, as `input_ended` gives it.
 fn input_refused(alloc: Global, cause: PcapErr) -> Result<Report, Report>
     requires { IsOutside cause → ⊥ }
     ensures { ReportsInput (Err cause) result }
@@ -94,7 +95,8 @@ fn input_refused(alloc: Global, cause: PcapErr) -> Result<Report, Report>
     Ok(report)
 }
 
-/// Writes the report's line, where it has one, by one `put`. That this fails changes nothing.
+/// Writes the report's line, if it has one, by one `put`. A failure of this is passed over: a
+/// prefix of the line is then written, and `faults` rose.
 pub fn tell<E: Sink>(err: &mut E, report: &Report)
     ensures line { Tells (E.written err.old) (E.written err.new)
         (E.faults err.old) (E.faults err.new) (line_of report.now) }

@@ -6,7 +6,7 @@ ghost use Rattle.st_plan.specs.declared.jobs.Plan.{Plan as Planned};
 ghost use Rattle.steno.specs.Causes.{HasFaultCause, HasPlanFaults, NoneRose, counts};
 ghost use Rattle.steno.specs.Messages.{line_of};
 ghost use Rattle.steno.specs.Reports.{Tells};
-ghost use Rattle.steno.specs.Running.{Does, EndsRun, EndsUnfailed, HasPlanCause, HasWordCause, IsSoundPlan};
+ghost use Rattle.steno.specs.Running.{Does, EndsRun, EndsUnfailed, HasPlanCause, HasArgumentsCause, IsSoundPlan};
 ghost use Rattle.steno.specs.Scenes.{scene};
 ghost use Rattle.steno.specs.Staying.{IsUnsaid, LeavesAlone, Spares};
 
@@ -23,24 +23,25 @@ use st_plan::{Plan, plan_of};
 use st_shelf::Shelf;
 use std::alloc::Global;
 
-/// Does what the arguments in `words` ask for, and gives the shelf back.
+/// Does what the arguments after the program's name, `words`, ask for, and gives the shelf back.
 ///
 /// - `once QUERY` writes to `out` the packets of the pcap in `input` that match, by second,
 ///   nanosecond and place, as a pcap in the unit and within the limits that the options say. A
-///   refused record ends the input, and what came before it is answered; nothing is written if the
-///   file head is refused, the input fails, or memory runs out.
-/// - `query FOLDER QUERY` does the same with the packets of the shelf's pairs.
+///   refused record ends the input, and the answer is that over the records before it; nothing is
+///   written if the file head is refused, the input fails, or memory runs out.
+/// - `query FOLDER QUERY` writes to `out` the packets of the shelf's pairs that match, by second,
+///   nanosecond, stamp and position, as such a pcap.
 /// - `load FOLDER` makes the packets of the pcap in `input` pairs of the shelf, and writes a line
 ///   `STAMP PACKETS` to `out` for each pair that it published.
 /// - `list FOLDER` and `check FOLDER` write a line to `out` for each pair of the shelf, by stamp.
 /// - `drill FOLDER N` makes N packets pairs of the shelf, asks four queries over all of its pairs,
 ///   and writes a summary to `out`.
 ///
-/// The folder is the caller's to open. A query asks the clock once, in microseconds since 1970,
-/// before it is parsed.
+/// The folder is the caller's to open. The clock is in microseconds since 1970: `once` and `query`
+/// read it once, before the query is parsed, `load` and `drill` once for each new pair.
 ///
-/// Every status but `Done`, and but `Damaged` of a check, puts its line to `err` at once; that this
-/// fails changes nothing.
+/// At the end of the run the line of its status is written to `err` by one `put`, unless the status
+/// is `Done`, or `Damaged` of a check; a failure of this is passed over.
 /// Source: docs/FORMAT.md, "Command line", "Statuses" and "Messages".
 pub fn run<D: Shelf, I: Source, O: Sink, E: Sink, C: Clock>(
     alloc: Global,
@@ -63,7 +64,7 @@ pub fn run<D: Shelf, I: Source, O: Sink, E: Sink, C: Clock>(
         result.status message }
 
     // When each way to end comes.
-    ensures asked { HasWordCause (map string_bytes words.now) result.status }
+    ensures asked { HasArgumentsCause (map string_bytes words.now) result.status }
     ensures fault { HasFaultCause (map string_bytes words.now)
         (counts (I.faults input.old) (O.faults out.old) (D.faults shelf))
         (counts (I.faults input.new) (O.faults out.new) (D.faults result.shelf)) result.status }
@@ -91,7 +92,7 @@ pub fn run<D: Shelf, I: Source, O: Sink, E: Sink, C: Clock>(
     }
 }
 
-// Does what the arguments ask for, and reports how that ended.
+// Does what the arguments ask for, and reports how that ended: with `Usage` if they have no plan.
 fn obey<D: Shelf, I: Source, O: Sink, C: Clock>(
     alloc: Global,
     words: &[String],
@@ -109,7 +110,7 @@ fn obey<D: Shelf, I: Source, O: Sink, C: Clock>(
         result.report.status (line_of result.report) }
 
     // When each way to end comes.
-    ensures asked { HasWordCause (map string_bytes words.now) result.report.status }
+    ensures asked { HasArgumentsCause (map string_bytes words.now) result.report.status }
     ensures fault { HasFaultCause (map string_bytes words.now)
         (counts (I.faults input.old) (O.faults out.old) (D.faults shelf))
         (counts (I.faults input.new) (O.faults out.new) (D.faults result.shelf))
@@ -136,7 +137,7 @@ fn obey<D: Shelf, I: Source, O: Sink, C: Clock>(
     }
 }
 
-// Does what the plan asks for.
+// Does what the plan asks for, and reports how that ended.
 fn follow<D: Shelf, I: Source, O: Sink, C: Clock>(
     alloc: Global,
     plan: &Plan<'_>,

@@ -1,4 +1,4 @@
-//! The commands over a spool, with what their ends report.
+//! What is reported of the ends of `query`, `list` and `check`, and of damage.
 
 ghost use Rattle.steno.specs.Messages.{line_of};
 ghost use Rattle.steno.specs.Spooling.{NamesDamage, SaidDamage, SaysOutcome};
@@ -11,7 +11,7 @@ use st_commands::Outcome;
 use std::alloc::Global;
 
 /// The report of a list or a query over a spool that ended so. Its line names the damage, if there
-/// is any; `NoMemory` where there is no memory for the line.
+/// is any; `NoMemory` if there is no memory for the line.
 pub fn outcome_ended(alloc: Global, outcome: Outcome) -> Report
     ensures { SaysOutcome NamesDamage outcome result.status (line_of result) }
 {

@@ -4,9 +4,11 @@ ghost use Rattle.std.specs.Prelude.{◌≡◌};
 ghost use Rattle.steno.specs.Statuses.{code_of};
 
 /// How a run ends; `code` gives its number.
+///
+/// Source: docs/FORMAT.md, "Statuses".
 #[derive(Clone, Copy, Debug, PartialEq, Eq)]
 pub enum Status {
-    /// The input was read to its end, and the whole answer is written.
+    /// All that the arguments ask for is done, and the whole output is written.
     Done,
     /// The arguments ask for nothing that the program does.
     Usage,
@@ -20,7 +22,7 @@ pub enum Status {
     WriteFault,
     /// The spool failed.
     DiskFault,
-    /// A pair of the spool is damaged.
+    /// A pair of the spool is not whole.
     Damaged,
     /// The program ran out of memory.
     NoMemory,
@@ -28,14 +30,14 @@ pub enum Status {
     StampsSpent,
 }
 
-/// What a run returns: how it ended, and its shelf.
+/// What a run returns: how it ended, and the shelf that it was given.
 #[derive(Drop)]
 pub struct Ended<D> {
     pub status: Status,
     pub shelf: D,
 }
 
-/// The number that a process ends with. Source: docs/FORMAT.md, "Statuses".
+/// The exit status of a process whose run ended so. Source: docs/FORMAT.md, "Statuses".
 pub fn code(status: Status) -> u8
     ensures { result ≡ code_of status }
 {
