@@ -79,7 +79,7 @@ fn sealed<D: Shelf>(
     }
 }
 
-// Publishes a pair, and answers its stamp.
+// Publishes a pair, and returns its stamp.
 fn publish<D: Shelf>(
     spool: &mut Spool<D, AnyPair>,
     block: &[u8],
@@ -149,7 +149,7 @@ fn two_pairs(alloc: Global, block: &[u8], index: &[u8], fails: &[u64]) -> Result
     Ok(shelf)
 }
 
-// How a list ends over this shelf, and what it writes, where these writes of the output fail.
+// How a list ends over this shelf, and what it writes, if these writes of the output fail.
 fn listed(
     alloc: Global,
     shelf: MemShelf,
@@ -161,7 +161,7 @@ fn listed(
     Ok((outcome, bytes, shelf))
 }
 
-// The same of a check.
+// How a check ends over this shelf, and what it writes, if these writes of the output fail.
 fn checked(
     alloc: Global,
     shelf: MemShelf,

@@ -11,14 +11,14 @@ use Rattle.st_spool.specs.Publishing.{next_stamp}
 use Rattle.st_load.specs.Acts.{Act, Happens, Writes, happen, removals, newest}
 
 -- what a load goes on from: the pairs that are published, the greatest stamp that there was, and
--- the clock's answers to come
+-- the clock's readings to come
 pub record Situation : Type 0 where
   pub set : List Entry
   pub last : ℕ
   pub times : Option (List ℕ)
 
 -- A pair of these packets is published: a whole pair, under the next stamp that is not below the
--- clock's answer. Then its line is written, and then the oldest pairs are removed while more than
+-- clock's reading. Then its line is written, and then the oldest pairs are removed while more than
 -- the limit are there.
 pub record Adds (limit size : ℕ) (old new : Situation) (rs : List Rec) (acts : List Act)
     : Type 0 where

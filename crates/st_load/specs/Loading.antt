@@ -52,7 +52,7 @@ pub record AreCutFrom (layout : LanePlan) (bytes : List ℕ) (ended : LoadEnd)
   pub ends : EndsInput ended rest
 
 -- How a load ended, by its job: the acts that were still to come, the situation after all acts, and
--- the clock's answers to come. Only a fault of the shelf or the output, or running out of memory,
+-- the clock's readings to come. Only a fault of the shelf or the output, or running out of memory,
 -- leaves an act to be done.
 abbrev pub EndsJob : LoadEnd → List Act → Situation → Option (List ℕ) → Type 0
 EndsJob end.Done to_come final times = (to_come ≡ []) × (times ≡ final.times)
@@ -82,7 +82,7 @@ WritesLines (end.StampsSpent last) acts to_come old new = Appends old new (lines
 WritesLines end.NoMemory acts to_come old new = Appends old new (lines_of acts)
 
 -- Of the job for these pairs these acts were done, and these are to come. The clock has these
--- answers to come, and the output went from the old bytes to the new.
+-- readings to come, and the output went from the old bytes to the new.
 pub record Did (Job : List (List Rec) → List Act → Situation → Type 0) (ended : LoadEnd)
     (pairs : List (List Rec)) (acts to_come : List Act) (times : Option (List ℕ))
     (old new : Option (List ℕ)) : Type 0 where

@@ -26,8 +26,9 @@
 //! # Where to read
 //!
 //! `specs/Acts.antt` has what a load does and the text of a line, `specs/Job.antt` the job,
-//! `specs/Loading.antt` what a load did by how it ended, `specs/Opening.antt` the same of a shelf,
-//! `specs/Stopping.antt` how an input ends one. Then `loading`, `filling`, `publishing`, `lanes`.
+//! `specs/Loading.antt` what a load did by how it ended, `specs/Opening.antt` what one made of a
+//! shelf, `specs/Stopping.antt` how an input ends one. Then `loading`, `filling`, `publishing`,
+//! `lanes`.
 #![tactic(auto)]
 
 mod ends;

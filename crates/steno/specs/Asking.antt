@@ -51,7 +51,7 @@ pub record RepliesTo (job : Job) (now : ℕ) (old new : Scene) (status : Status)
       → PairsIn (reads first) pairs → ReadsForAnswer q now (Some pairs) old.loans new.loans
   pub back : LendsNone old.loans new.loans
 
--- A query over the pairs of the shelf was answered, or ended in another way. The clock is asked
+-- A query over the pairs of the shelf was answered, or ended in another way. The clock is read
 -- once, and the input is not read.
 pub record AnswersShelf (job : Job) (old new : Scene) (status : Status) (message : List ℕ)
     : Type 0 where

@@ -83,7 +83,7 @@ pub record LeavesStreams {I O : Type 0} (status : Status) (input input' : I)
   pub unwritten : IsSilent status → out' ≡ out
 
 -- A query over the input was answered, or ended in another way: the message over any input, and,
--- over an input whose bytes are known, what is written and read. The clock is asked once.
+-- over an input whose bytes are known, what is written and read. The clock is read once.
 pub record AnswersInput (job : Job) (old new : Scene) (status : Status) (message : List ℕ)
     : Type 0 where
   pub says : IsJobMessage job status message

@@ -28,7 +28,7 @@
 //!
 //! # Where to read
 //!
-//! `specs/Running.antt` says what a run ensures, for each plan by what stands in `specs/Once.antt`,
+//! `specs/Running.antt` says what a run ensures, for each plan by what is in `specs/Once.antt`,
 //! `specs/Asking.antt`, `specs/Loading.antt`, `specs/Spooling.antt` and `specs/Drilling.antt`, and
 //! `specs/Staying.antt` what it leaves alone. Then `runner`, `once`, `query`, `loads`, `spooling`
 //! and `drills`, and below them `gather`, `packets`, `report`.

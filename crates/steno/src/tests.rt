@@ -63,7 +63,7 @@ const NONE: Fails<'static> = Fails {
     messages: &[],
 };
 
-// A run of these words over this input.
+// A run of these arguments over this input.
 fn tried(
     alloc: Global,
     words: Vec<String>,
@@ -73,7 +73,7 @@ fn tried(
     tried_over(alloc, words, MemShelf::empty(alloc), input, fails)
 }
 
-// A run of these words over this shelf and input.
+// A run of these arguments over this shelf and input.
 fn tried_over(
     alloc: Global,
     words: Vec<String>,
@@ -235,7 +235,7 @@ fn a_fault_ends_the_run(rt: HostRuntime) -> Result<(), Fail> {
     Ok(())
 }
 
-// A message goes out by one write: where that fails nothing of it is there, and a second one, which
+// A message goes out by one write: if that fails nothing of it is there, and a second one, which
 // would fail, isn't made. The status stays in either case.
 #[test]
 fn a_message_is_one_write(rt: HostRuntime) -> Result<(), Fail> {
