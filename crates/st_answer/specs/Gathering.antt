@@ -46,7 +46,8 @@ pub record AddsOfPair {T : Type 0} (held : Option (List Entry)) (place : ℕ) (o
   pub adds : AddsPicks place stamp old new
   pub fails : IfErr result (IsReadErr stamp)
 
--- after an Ok the block file of the pair with this number in the set is the last of the files
+-- the files are still of the store with this number; after an Ok there is one more, the last: the
+-- block file of the pair with this number in the set
 pub record AddsFile {T F : Type 0} (content : F → Option (List ℕ)) (home : F → ℕ) (id : ℕ)
     (held : Option (List Entry)) (place : ℕ) (old new : List F)
     (result : Result T AnswerErr) : Type 0 where
@@ -80,6 +81,7 @@ PicksSet q now held reads asked ps =
     (set : List Entry) → held ≡ Some set → IsWholeSet set
     → AreReadFor q now set reads asked ps × HasAllOf q now set set ps
 
--- an error is no failure of the outlet, and names a pair of the set that isn't whole
+-- an error is no failure of the outlet, and damage that it names is that of a pair of the set that
+-- isn't whole, if the set is known
 abbrev pub FailsIn : Option (List Entry) → AnswerErr → Type 0
 FailsIn held e = IsNoWrite e × ((set : List Entry) → held ≡ Some set → BlamesIn set e)
