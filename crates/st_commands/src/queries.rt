@@ -68,9 +68,9 @@ fn outcome_of(told: Result<Told, AnswerErr>) -> Outcome
 }
 
 /// Writes to `out` the packets of all pairs of the shelf that match `query`, as a pcap in `unit`,
-/// with the clock at `now` microseconds since 1970: by second, nanosecond, stamp and position, each
-/// once, up to the first packet that passes a limit: on the number of packets, or on their captured
-/// bytes.
+/// with the clock at `now` microseconds since 1970. They are written by second, nanosecond, stamp
+/// and position, each once, up to the first that passes a limit: the one on the number of packets,
+/// or the one on their captured bytes.
 ///
 /// If it ends `Done` and each pair is whole, `out` gained exactly this pcap. `WriteFault` comes
 /// only if the output's count of faults rose, and a prefix of the pcap is then written; after every
