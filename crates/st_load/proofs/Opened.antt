@@ -1,5 +1,5 @@
 -- A load of a shelf.
-use Rattle.std.proofs.Common.{◌≡◌, ℕ, ◌⊎◌, inl, inr, ⊎_elim, List, [], ◌∷◌, ◌++◌, append_assoc, refl, sym, ap, ◌∙◌, subst, Option, Some, None}
+use Rattle.std.proofs.Common.{◌≡◌, ◌≤◌, ℕ, ◌⊎◌, inl, inr, ⊎_elim, List, [], ◌∷◌, ◌++◌, length, arith, append_assoc, refl, sym, ap, ◌∙◌, subst, Option, Some, None}
 use Rattle.std.proofs.lemmas.List.{append-nil}
 use Rattle.std.specs.Io.KnownBytes.{Appends}
 use Rattle.st_disk.specs.Disks.{Log, reads}
@@ -37,6 +37,13 @@ begun_or (doubt.Unsettled t) f = inl refl
 begun_or (doubt.Settled t) f = inr refl
 begun_or (doubt.Unhidden t) f = inl refl
 begun_or (doubt.Hidden t) f = inr refl
+
+at_most_one : (d : Doubt) (f : Files) → length (begun d f) ≤ 1
+at_most_one doubt.Nothing f = omega arith
+at_most_one (doubt.Unsettled t) f = omega arith
+at_most_one (doubt.Settled t) f = omega arith
+at_most_one (doubt.Unhidden t) f = omega arith
+at_most_one (doubt.Hidden t) f = omega arith
 
 is_disk : (e : LoadEnd) → (e ≡ end.DiskFault) ⊎ (e ≡ end.DiskFault → ⊥)
 is_disk end.Done = inr (λ is. absurd (cc))
@@ -89,6 +96,7 @@ module _ (limit : ℕ) (layout : LanePlan) (first : Log) (mid known : Option Log
     sure = events_of l.acts;
     doubt = begun st.doubt l.f;
     events_are = sym (ap (λ es. events_of l.acts ++ es) none ∙ append-nil (events_of l.acts));
+    at_most_one = at_most_one st.doubt l.f;
     no_doubt = λ other. none;
     images = ran.2;
   }
@@ -130,6 +138,7 @@ module _ (limit : ℕ) (layout : LanePlan) (first : Log) (mid known : Option Log
         sure = events_of l.acts;
         doubt = begun st.doubt l.f;
         events_are = evs ∙ ap (λ es. events_of l.acts ++ es) (sym some);
+        at_most_one = at_most_one st.doubt l.f;
         no_doubt = λ other. absurd (other disk);
         images = covers;
       }

@@ -1,5 +1,5 @@
 -- What a load made of a shelf.
-use Rattle.std.specs.Prelude.{◌≡◌, ◌⊎◌, [], ◌∷◌, ◌++◌, ℕ, List, Option, Some, IsSome}
+use Rattle.std.specs.Prelude.{◌≡◌, ◌⊎◌, ◌≤◌, [], ◌∷◌, ◌++◌, ℕ, List, length, Option, Some, IsSome}
 use Rattle.st_disk.specs.Disks.{Log, Leaves, reads}
 use Rattle.st_disk.specs.Events.{Event, Found, events}
 use Rattle.st_disk.specs.Pairs.{Entry, PairsIn}
@@ -39,10 +39,11 @@ pub record LoadsOpened (limit : ℕ) (layout : LanePlan) (first : Log) (known : 
   pub set : PairsIn (reads log) (set_of (Found found ∷ events_of acts))
   -- until both folders were flushed each crash leaves an image that the shelf had at first
   pub flushed : Ran first (Some (flushed_log first)) [] (Leaves first) (Is (reads first))
-  -- the events came one after the other, but the last may be in doubt if the shelf failed
+  -- the events came one after the other, but the last one may be in doubt if the shelf failed
   pub sure : List Event
   pub doubt : List Event
   pub events_are : events_of acts ≡ sure ++ doubt
+  pub at_most_one : length doubt ≤ 1
   pub no_doubt : (ended ≡ end.DiskFault → ⊥) → doubt ≡ []
   pub images : CoversInDoubt (Found found ∷ []) sure doubt (flushed_log first) log
 
