@@ -8,7 +8,7 @@ use Rattle.st_disk.proofs.Runs.{ran_then}
 use Rattle.st_spool.specs.Holding.{size_of}
 use Rattle.st_spool.specs.Publishing.{Keeps, RanAsBefore}
 use Rattle.st_spool.specs.Recalling.{history, history_of, taken_of, taken_count}
-use Rattle.st_spool.specs.Standing.{StandsFor, Stands, Gives, begun}
+use Rattle.st_spool.specs.Standing.{StandsFor, Stands, Gives, in_doubt}
 use Rattle.st_spool.specs.States.{SpoolState, SpoolView}
 use Rattle.st_spool.specs.declared.state.Doubt.{Doubt}
 use Rattle.st_answer.specs.Spools.{IsStill, Remains, spool_holds, times_in, set_in}
@@ -32,8 +32,8 @@ still_kept : (W : List ℕ → List ℕ → Type 0) (first : Log) (old new : Opt
     → (StandsFor W old st earlier h f → Keeps W old new next earlier h f) → IsStill W first old st earlier h f → IsStill W first new next earlier h f
 still_kept W first old new st next earlier h f same keeps is =
     let kept = keeps is.stands in
-    let P = λ (d : Doubt). Gives h (begun d f) in
-    let run : RanAsBefore first old h (begun next.doubt f) = subst (λ (d : Doubt). RanAsBefore first old h (begun d f)) (sym same) is.images in
+    let P = λ (d : Doubt). Gives h (in_doubt d f) in
+    let run : RanAsBefore first old h (in_doubt next.doubt f) = subst (λ (d : Doubt). RanAsBefore first old h (in_doubt d f)) (sym same) is.images in
     record {
       stands = kept.stands;
       images = ran_then first old new [] [] (P next.doubt) (P next.doubt) (P next.doubt) run (kept.images run.log run.is);

@@ -5,7 +5,7 @@ use Rattle.st_disk.specs.Events.{Event}
 use Rattle.st_disk.specs.Pairs.{Entry, Files}
 use Rattle.st_spool.specs.Publishing.{RanAsBefore}
 use Rattle.st_spool.specs.Recalling.{history_of}
-use Rattle.st_spool.specs.Standing.{StandsFor, begun}
+use Rattle.st_spool.specs.Standing.{StandsFor, in_doubt}
 use Rattle.st_spool.specs.States.{SpoolState, SpoolView, held}
 use Rattle.st_spool.specs.declared.state.Span.{Span}
 use Rattle.st_answer.specs.Stores.{HoldsView}
@@ -43,7 +43,7 @@ set_in seen hold = option_map (held hold) seen
 pub record IsStill (IsWhole : List ℕ → List ℕ → Type 0) (first : Log) (known : Option Log)
     (st : SpoolState) (earlier h : List Event) (f : Files) : Type 0 where
   pub stands : StandsFor IsWhole known st earlier h f
-  pub images : RanAsBefore first known h (begun st.doubt f)
+  pub images : RanAsBefore first known h (in_doubt st.doubt f)
 
 -- Calls on a spool that were no event: it has the history, the limit and the doubt that it had, and
 -- what was so since any log before is so still.

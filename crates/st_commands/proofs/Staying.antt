@@ -9,7 +9,7 @@ use Rattle.st_disk.specs.declared.naming.Kind.TheVariants as kind
 use Rattle.st_disk.proofs.Runs.{ran_then, grew_none, known_then}
 use Rattle.st_shelf.specs.Loans.{LoansView, lend, take_back}
 use Rattle.st_spool.specs.Publishing.{Keeps, RanAsBefore}
-use Rattle.st_spool.specs.Standing.{Gives, begun}
+use Rattle.st_spool.specs.Standing.{Gives, in_doubt}
 use Rattle.st_spool.specs.States.{SpoolState, SpoolView}
 use Rattle.st_spool.specs.declared.state.Doubt.{Doubt}
 use Rattle.st_spool.proofs.Kept.{KeepsRows, keeps_rows}
@@ -29,8 +29,8 @@ keeps_then a b c st next earlier h f same one two = record {
   known = known_then a b c one.known two.known;
   stands = two.stands;
   images = λ first known.
-      let run : RanAsBefore first b h (begun next.doubt f) = subst (λ (d : Doubt). RanAsBefore first b h (begun d f)) (sym same) (one.images first known) in
-      ran_then first b c [] [] (Gives h (begun next.doubt f)) (Gives h (begun next.doubt f)) (Gives h (begun next.doubt f)) run (two.images run.log run.is);
+      let run : RanAsBefore first b h (in_doubt next.doubt f) = subst (λ (d : Doubt). RanAsBefore first b h (in_doubt d f)) (sym same) (one.images first known) in
+      ran_then first b c [] [] (Gives h (in_doubt next.doubt f)) (Gives h (in_doubt next.doubt f)) (Gives h (in_doubt next.doubt f)) run (two.images run.log run.is);
 }
 
 -- no call

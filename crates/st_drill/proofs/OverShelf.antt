@@ -12,7 +12,7 @@ use Rattle.st_pairs.specs.Pairs.{IsWholePair as IsWhole}
 use Rattle.st_plan.specs.declared.limits.TheConstants.{MAX_PAIRS}
 use Rattle.st_spool.specs.Entering.{Enters, FailsToEnter}
 use Rattle.st_spool.specs.History.{set_of}
-use Rattle.st_spool.specs.Standing.{StandsFor, in_doubt, begun, PublishWhole}
+use Rattle.st_spool.specs.Standing.{StandsFor, failed_event, in_doubt, PublishWhole}
 use Rattle.st_spool.specs.States.{SpoolState}
 use Rattle.st_spool.specs.declared.opening.EnterErr.{EnterErr}
 use Rattle.st_spool.specs.declared.opening.EnterErr.TheVariants as enter
@@ -54,8 +54,8 @@ module _ (n : ℕ) (first : Log) (mid known : Option Log) (before st : SpoolStat
       p.lines loaded
 
   -- nothing in doubt has begun
-  none : loaded ≡ load.Done → begun st.doubt p.loads.f ≡ []
-  none done = ap (λ (d : Doubt). begun d p.loads.f)
+  none : loaded ≡ load.Done → in_doubt st.doubt p.loads.f ≡ []
+  none done = ap (λ (d : Doubt). in_doubt d p.loads.f)
       (p.no_doubt (λ disk. let no : load.Done ≡ load.DiskFault = sym done ∙ disk in cc))
 
   abbrev sure : loaded ≡ load.Done → Opens
@@ -74,7 +74,7 @@ module _ (n : ℕ) (first : Log) (mid known : Option Log) (before st : SpoolStat
       let (now, is, covers) = p.loads.images entered.images.cleared.log entered.images.cleared.is in
       set_whole st.limit entered.pairs (events_of p.loads.acts) p.loads.stands.legal
       (whole_first IsWhole (Found entered.pairs ∷ events_of p.loads.acts)
-      (in_doubt st.doubt p.loads.f) (p.loads.stands.disk now is).whole) whole
+      (failed_event st.doubt p.loads.f) (p.loads.stands.disk now is).whole) whole
 
   done_so : (text : List ℕ) (old new : Option (List ℕ)) (ended : DrillEnd) → loaded ≡ load.Done
       → IsSummary n (length p.loads.pairs) set text

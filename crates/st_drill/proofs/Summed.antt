@@ -13,7 +13,7 @@ use Rattle.st_pcap.specs.Input.{Whole}
 use Rattle.st_plan.specs.declared.limits.TheConstants.{MAX_PACKETS}
 use Rattle.st_spool.specs.Covers.{CoversInDoubt}
 use Rattle.st_spool.specs.History.{set_of}
-use Rattle.st_spool.specs.Standing.{StandsFor, in_doubt, begun}
+use Rattle.st_spool.specs.Standing.{StandsFor, failed_event, in_doubt}
 use Rattle.st_spool.specs.States.{SpoolState, SpoolView}
 use Rattle.st_spool.specs.declared.state.Doubt.{Doubt}
 use Rattle.st_spool.specs.declared.state.Doubt.TheVariants.{Nothing}
@@ -43,8 +43,8 @@ use Rattle.st_drill.proofs.Lines.{lines_counted}
 use Rattle.st_drill.proofs.Unloaded.{are_short}
 use Rattle.st_drill.proofs.Replied.{still_now}
 
-none_doubted : (d : Doubt) (f : Files) → d ≡ Nothing → in_doubt d f ≡ []
-none_doubted d f is = ap (λ (x : Doubt). in_doubt x f) is
+none_doubted : (d : Doubt) (f : Files) → d ≡ Nothing → failed_event d f ≡ []
+none_doubted d f is = ap (λ (x : Doubt). failed_event x f) is
 
 abbrev bytes_in : Option (List ℕ) → List ℕ
 bytes_in None = []
@@ -92,7 +92,7 @@ nothing_loaded n limit fits known st earlier h f times runs stands =
         stands = subst (λ (x : List Event). StandsFor IsWhole known st earlier x f)
             (sym (append-nil h)) stands;
         doubt = (gone, ap (λ (es : List Event). happen es ++ gone) (sym none));
-        images = subst (λ (d : Doubt). Covered known known h [] (begun d f)) (sym quiet)
+        images = subst (λ (d : Doubt). Covered known known h [] (in_doubt d f)) (sym quiet)
             (covered_none known st earlier h f stands quiet);
       };
       no_doubt = λ other. quiet;
@@ -168,15 +168,15 @@ module _ {D : Type 0} (log : D → Option Log) (n limit : ℕ) (before : Option 
     pub stood : StandsFor IsWhole (log b.shelf) b.state earlier since l.loads.f
     stood = let (now, known, covers) = l.loads.images first is in (after now known).stands
 
-    pub covered : Covered before (log b.shelf) h (events_of l.loads.acts) (begun b.state.doubt l.loads.f)
+    pub covered : Covered before (log b.shelf) h (events_of l.loads.acts) (in_doubt b.state.doubt l.loads.f)
     covered start is_start =
         let (mid, known, cover) = l.loads.images start is_start in
         let r = (after mid known).images in (
           r.log,
           r.is,
-          covers_doubt h (events_of l.loads.acts) (begun b.state.doubt l.loads.f) start mid r.log
+          covers_doubt h (events_of l.loads.acts) (in_doubt b.state.doubt l.loads.f) start mid r.log
               (log b.shelf)
-              (subst (λ (d : Doubt). CoversInDoubt h (events_of l.loads.acts) (begun d l.loads.f)
+              (subst (λ (d : Doubt). CoversInDoubt h (events_of l.loads.acts) (in_doubt d l.loads.f)
               start mid) (sym remains.doubt) cover)
               r r.is,
         )
@@ -194,7 +194,7 @@ module _ {D : Type 0} (log : D → Option Log) (n limit : ℕ) (before : Option 
         did = l.loads.did;
         f = l.loads.f;
         stands = stood;
-        doubt = subst (λ (d : Doubt). BeginsWith l.loads.to_come (in_doubt d l.loads.f))
+        doubt = subst (λ (d : Doubt). BeginsWith l.loads.to_come (failed_event d l.loads.f))
             (sym remains.doubt) l.loads.doubt;
         images = covered;
       };

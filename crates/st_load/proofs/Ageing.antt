@@ -14,7 +14,7 @@ use Rattle.st_spool.specs.declared.refusals.AgeErr.{AgeErr}
 use Rattle.st_spool.specs.declared.refusals.AgeErr.TheVariants as age_err
 use Rattle.st_spool.specs.History.{set_of, without, entries_of}
 use Rattle.st_spool.specs.Publishing.{failed}
-use Rattle.st_spool.specs.Standing.{StandsFor, stamp_of, in_doubt, begun}
+use Rattle.st_spool.specs.Standing.{StandsFor, stamp_of, failed_event, in_doubt}
 use Rattle.st_spool.specs.States.{SpoolState, SpoolView}
 use Rattle.st_spool.specs.declared.state.Doubt.TheVariants as doubt
 use Rattle.st_spool.proofs.Aged.{split_at}
@@ -110,10 +110,10 @@ aged_all before known st earlier h f a within =
     }
 
 removal_doubted : (old new : SpoolState) (since : ℕ) (f : Files) → (new ≡ failed old (doubt.Unhidden (oldest old)) since) ⊎ (new ≡ failed old (doubt.Hidden (oldest old)) since)
-    → in_doubt new.doubt f ≡ Remove (oldest old) ∷ []
+    → failed_event new.doubt f ≡ Remove (oldest old) ∷ []
 removal_doubted old new since f fails = ⊎_elim
-    (λ is. ap (λ (x : SpoolState). in_doubt x.doubt f) is)
-    (λ is. ap (λ (x : SpoolState). in_doubt x.doubt f) is)
+    (λ is. ap (λ (x : SpoolState). failed_event x.doubt f) is)
+    (λ is. ap (λ (x : SpoolState). failed_event x.doubt f) is)
     fails
 
 -- one failed
@@ -131,7 +131,7 @@ aged_fails before known now st after earlier h f e rest since a lim is at over f
   later = removals st.limit rest;
   doubt = ap (λ n. removals n (set_of (h ++ a.events))) lim ∙ ap (removals st.limit) is ∙ removals_first st.limit e rest over
       ∙ ap (λ es. es ++ removals st.limit rest) (ap (λ (n : ℕ). Remove n ∷ []) (sym at) ∙ sym (removal_doubted st after since (files_of e) how));
-  images = covered_fault before known now h a.events (begun after.doubt (files_of e)) a.images (λ mid same. fails.fails.images mid same);
+  images = covered_fault before known now h a.events (in_doubt after.doubt (files_of e)) a.images (λ mid same. fails.fails.images mid same);
 }
 
 -- an answer other than that there is nothing to remove

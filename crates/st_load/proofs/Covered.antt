@@ -9,7 +9,7 @@ use Rattle.st_disk.proofs.Runs.{started, only_then}
 use Rattle.st_pairs.specs.Pairs.{IsWholePair}
 use Rattle.st_spool.specs.Covers.{Covers, CoversInDoubt}
 use Rattle.st_spool.specs.Publishing.{RanTo, RanInDoubt, Keeps}
-use Rattle.st_spool.specs.Standing.{StandsFor, Gives, begun}
+use Rattle.st_spool.specs.Standing.{StandsFor, Gives, in_doubt}
 use Rattle.st_spool.specs.States.{SpoolState}
 use Rattle.st_spool.specs.declared.state.Doubt.TheVariants as doubt
 use Rattle.st_spool.proofs.Covering.{covers_on, covers_still, covers_fault, covers_more, covers_without_doubt}
@@ -43,8 +43,8 @@ covered_then a b c h es fs doubt one two = λ first is.
 pub covered_none : (known : Option Log) (st : SpoolState) (earlier h : List Event) (f : Files) → StandsFor IsWholePair known st earlier h f → st.doubt ≡ doubt.Nothing
     → Covered known known h [] []
 covered_none known st earlier h f stands no_doubt = λ first is.
-    let each : Each first (Gives h (begun st.doubt f)) = λ c left. gives IsWholePair known st earlier h f stands c ((stands.disk first is).images c left) in
-    let sure : Each first (Gives h []) = subst (λ d. Each first (Gives h (begun d f))) no_doubt each in
+    let each : Each first (Gives h (in_doubt st.doubt f)) = λ c left. gives IsWholePair known st earlier h f stands c ((stands.disk first is).images c left) in
+    let sure : Each first (Gives h []) = subst (λ d. Each first (Gives h (in_doubt d f))) no_doubt each in
     (first, is, covers_more h [] [] first first (started first (Gives h []) sure))
 
 -- a publication or a removal
@@ -66,6 +66,6 @@ pub covered_keeps : (known new : Option Log) (st : SpoolState) (earlier h : List
     → Keeps IsWholePair known new st earlier h f → Covered known new h [] []
 covered_keeps known new st earlier h f stands no_doubt keeps = λ first is.
     let (mid, same, cover) = covered_none known st earlier h f stands no_doubt first is in
-    let run = subst (λ d. Ran mid new [] (Gives h (begun d f)) (Gives h (begun d f))) no_doubt (keeps.images mid same) in
+    let run = subst (λ d. Ran mid new [] (Gives h (in_doubt d f)) (Gives h (in_doubt d f))) no_doubt (keeps.images mid same) in
     let moved = subst (λ xs. Ran mid new [] (Gives xs []) (Gives xs [])) (sym (append-nil h)) run in
     (run.log, run.is, covers_more h [] [] first run.log (covers_still h [] first mid run.log new (covers_without_doubt h [] first mid cover) moved run.is))

@@ -14,7 +14,7 @@ use Rattle.st_pairs.specs.Pairs.{IsWholePair}
 use Rattle.st_spool.specs.History.{set_of}
 use Rattle.st_spool.specs.Placing.{entry}
 use Rattle.st_spool.specs.Publishing.{next_stamp, failed, FailsToPublish}
-use Rattle.st_spool.specs.Standing.{StandsFor, NoDoubtUntilHalted, in_doubt, begun}
+use Rattle.st_spool.specs.Standing.{StandsFor, NoDoubtUntilHalted, failed_event, in_doubt}
 use Rattle.st_rows.specs.Whole.{IsWhole}
 use Rattle.st_block.specs.BlockText.{BlockText}
 use Rattle.st_spool.specs.States.{SpoolState}
@@ -52,8 +52,8 @@ whole_pair size rs b i w = (
 pub set_publish : (h : List Event) (e : Entry) → set_of (h ++ Publish e ∷ []) ≡ set_of h ++ e ∷ []
 set_publish h e = set_more [] h (Publish e)
 
-pub none_doubted : (d : Doubt) (f : Files) → d ≡ doubt.Nothing → in_doubt d f ≡ []
-none_doubted d f is = ap (λ (x : Doubt). in_doubt x f) is
+pub none_doubted : (d : Doubt) (f : Files) → d ≡ doubt.Nothing → failed_event d f ≡ []
+none_doubted d f is = ap (λ (x : Doubt). failed_event x f) is
 
 no_doubt_at : (halted : Option ℕ) (d : Doubt) (halts : ℕ) → NoDoubtUntilHalted halted d halts → halted ≡ None → d ≡ doubt.Nothing
 no_doubt_at None d halts no_doubt is = no_doubt.0
@@ -63,12 +63,12 @@ no_doubt_at (Some n) d halts no_doubt is = absurd (cc)
 pub no_doubt : (known : Option Log) (st : SpoolState) (earlier h : List Event) (f : Files) → StandsFor IsWholePair known st earlier h f → st.halted ≡ None → st.doubt ≡ doubt.Nothing
 no_doubt known st earlier h f stands runs = no_doubt_at st.halted st.doubt st.halts stands.no_doubt runs
 
-pub no_doubt_doubt : (known : Option Log) (st : SpoolState) (earlier h : List Event) (f k : Files) → StandsFor IsWholePair known st earlier h f → st.halted ≡ None → in_doubt st.doubt k ≡ []
+pub no_doubt_doubt : (known : Option Log) (st : SpoolState) (earlier h : List Event) (f k : Files) → StandsFor IsWholePair known st earlier h f → st.halted ≡ None → failed_event st.doubt k ≡ []
 no_doubt_doubt known st earlier h f k stands runs = none_doubted st.doubt k (no_doubt known st earlier h f stands runs)
 
 -- a doubt that isn't there
-pub begun_none : (before known : Option Log) (h es : List Event) (d : Doubt) (f : Files) → d ≡ doubt.Nothing → Covered before known h es [] → Covered before known h es (begun d f)
-begun_none before known h es d f is covered = subst (λ (x : Doubt). Covered before known h es (begun x f)) (sym is) covered
+pub in_doubt_none : (before known : Option Log) (h es : List Event) (d : Doubt) (f : Files) → d ≡ doubt.Nothing → Covered before known h es [] → Covered before known h es (in_doubt d f)
+in_doubt_none before known h es d f is covered = subst (λ (x : Doubt). Covered before known h es (in_doubt x f)) (sym is) covered
 
 -- nothing was done
 pub nothing_done : (Job : List (List Rec) → List Act → Situation → Type 0) (Are : List (List Rec) → Type 0) (e : LoadEnd) (before known : Option Log) (st : SpoolState) (earlier h : List Event) (f : Files)
@@ -83,7 +83,7 @@ nothing_done Job Are e before known st earlier h f times old new final job are e
   f = f;
   stands = subst (λ x. StandsFor IsWholePair known st earlier x f) (sym (append-nil h)) stands;
   doubt = ([], ap (λ es. happen es ++ []) (sym (none_doubted st.doubt f no_doubt)));
-  images = begun_none before known h [] st.doubt f no_doubt covered;
+  images = in_doubt_none before known h [] st.doubt f no_doubt covered;
 }
 
 module _ (limit size : ℕ) (before : SpoolState) (earlier h : List Event) (rs : List Rec) (was times : Option (List ℕ)) (floor : ℕ) (e : Entry)
@@ -165,9 +165,9 @@ module _ (limit size : ℕ) (before : SpoolState) (earlier h : List Event) (rs :
         };
         f = ages.f;
         stands = subst (λ x. StandsFor IsWholePair known st earlier x ages.f) (sym (same_history ages.events)) ages.stands;
-        doubt = (happen ages.later, ap happen ages.doubt ∙ happen_append (in_doubt st.doubt ages.f) ages.later);
-        images = subst (λ es. Covered first known h (Publish e ∷ es) (begun st.doubt ages.f)) (sym (events_happen ages.events))
-            (covered_then first mid known h (Publish e ∷ []) ages.events (begun st.doubt ages.f) covered ages.images);
+        doubt = (happen ages.later, ap happen ages.doubt ∙ happen_append (failed_event st.doubt ages.f) ages.later);
+        images = subst (λ es. Covered first known h (Publish e ∷ es) (in_doubt st.doubt ages.f)) (sym (events_happen ages.events))
+            (covered_then first mid known h (Publish e ∷ []) ages.events (in_doubt st.doubt ages.f) covered ages.images);
       }
 
   -- the line was not written, or not whole
@@ -189,7 +189,7 @@ module _ (limit size : ℕ) (before : SpoolState) (earlier h : List Event) (rs :
         f = f;
         stands = stands;
         doubt = (Writes e.stamp (length rs) ∷ happen gone, ap (λ es. happen es ++ Writes e.stamp (length rs) ∷ happen gone) (sym (none_doubted st.doubt f no_doubt)));
-        images = begun_none first known h (Publish e ∷ []) st.doubt f no_doubt covered;
+        images = in_doubt_none first known h (Publish e ∷ []) st.doubt f no_doubt covered;
       }))
       (λ (fault, (n, some)). subst (λ (x : LoadEnd). Loads (AddsAll limit size start) (AreAdded rs x) x first known st earlier h times old new) (sym fault) (record {
         pairs = rs ∷ [];
@@ -205,13 +205,13 @@ module _ (limit size : ℕ) (before : SpoolState) (earlier h : List Event) (rs :
         f = f;
         stands = stands;
         doubt = (Writes e.stamp (length rs) ∷ happen gone, ap (λ es. happen es ++ Writes e.stamp (length rs) ∷ happen gone) (sym (none_doubted st.doubt f no_doubt)));
-        images = begun_none first known h (Publish e ∷ []) st.doubt f no_doubt covered;
+        images = in_doubt_none first known h (Publish e ∷ []) st.doubt f no_doubt covered;
       }))
       line
 
   -- the publication failed
-  pub finish_none : (first known : Option Log) (st : SpoolState) (f : Files) (old : Option (List ℕ)) → Covered first known h [] (begun st.doubt f) → StandsFor IsWholePair known st earlier h f
-      → in_doubt st.doubt f ≡ Publish e ∷ []
+  pub finish_none : (first known : Option Log) (st : SpoolState) (f : Files) (old : Option (List ℕ)) → Covered first known h [] (in_doubt st.doubt f) → StandsFor IsWholePair known st earlier h f
+      → failed_event st.doubt f ≡ Publish e ∷ []
       → Loads (AddsAll limit size start) (AreAdded rs end.DiskFault) end.DiskFault first known st earlier h times old old
   finish_none first known st f old covered stands is = record {
     pairs = rs ∷ [];
@@ -231,8 +231,8 @@ module _ (limit size : ℕ) (before : SpoolState) (earlier h : List Event) (rs :
   }
 
 -- which publication is in doubt
-pub doubted : (old new : SpoolState) (t since : ℕ) (p : Files) → FailsToPublish old new t since → in_doubt new.doubt p ≡ Publish (entry t p) ∷ []
+pub doubted : (old new : SpoolState) (t since : ℕ) (p : Files) → FailsToPublish old new t since → failed_event new.doubt p ≡ Publish (entry t p) ∷ []
 doubted old new t since p fails = ⊎_elim
-    (λ is. ap (λ (x : SpoolState). in_doubt x.doubt p) is)
-    (λ is. ap (λ (x : SpoolState). in_doubt x.doubt p) is)
+    (λ is. ap (λ (x : SpoolState). failed_event x.doubt p) is)
+    (λ is. ap (λ (x : SpoolState). failed_event x.doubt p) is)
     fails

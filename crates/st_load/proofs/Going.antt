@@ -10,7 +10,7 @@ use Rattle.st_disk.specs.Events.{Event}
 use Rattle.st_disk.specs.Pairs.{Files}
 use Rattle.st_pairs.specs.Pairs.{IsWholePair}
 use Rattle.st_plan.specs.declared.jobs.LanePlan.{LanePlan}
-use Rattle.st_spool.specs.Standing.{StandsFor, begun}
+use Rattle.st_spool.specs.Standing.{StandsFor, in_doubt}
 use Rattle.st_spool.specs.declared.state.Doubt.TheVariants as doubt
 use Rattle.st_spool.specs.States.{SpoolState}
 use Rattle.st_load.specs.Acts.{Act, line_text, events_of, lines_of, happen}
@@ -22,7 +22,7 @@ use Rattle.st_load.specs.Loading.{Covered, Loads, EndsJob, WritesLines, situatio
 use Rattle.st_load.specs.declared.ends.LoadEnd.{LoadEnd}
 use Rattle.st_load.specs.declared.ends.LoadEnd.TheVariants as end
 use Rattle.st_load.proofs.Covered.{covered_then}
-use Rattle.st_load.proofs.Finishing.{none_doubted, begun_none}
+use Rattle.st_load.proofs.Finishing.{none_doubted, in_doubt_none}
 use Rattle.st_load.proofs.Cutting.{CutSoFar, IsFault}
 use Rattle.st_load.proofs.Jobs.{events_append, lines_append}
 
@@ -65,8 +65,8 @@ loads_after Job Job2 Are Are2 e first mid known st earlier h times a b c done ac
   f = loads.f;
   stands = subst (λ x. StandsFor IsWholePair known st earlier x loads.f) (append_assoc h (events_of acts) (events_of loads.acts) ∙ ap (λ es. h ++ es) (sym (events_append acts loads.acts))) loads.stands;
   doubt = loads.doubt;
-  images = subst (λ es. Covered first known h es (begun st.doubt loads.f)) (sym (events_append acts loads.acts))
-      (covered_then first mid known h (events_of acts) (events_of loads.acts) (begun st.doubt loads.f) covered loads.images);
+  images = subst (λ es. Covered first known h es (in_doubt st.doubt loads.f)) (sym (events_append acts loads.acts))
+      (covered_then first mid known h (events_of acts) (events_of loads.acts) (in_doubt st.doubt loads.f) covered loads.images);
 }
 
 -- an end that isn't a fault of writing, after which nothing is to come and the clock was not read
@@ -142,7 +142,7 @@ ends_between Job Are e first known st earlier h f times old new done acts job ar
   f = f;
   stands = stands;
   doubt = ([], ap (λ es. happen es ++ []) (sym (none_doubted st.doubt f no_doubt)));
-  images = begun_none first known h (events_of acts) st.doubt f no_doubt covered;
+  images = in_doubt_none first known h (events_of acts) st.doubt f no_doubt covered;
 }
 
 -- How far a load came before the pair that this record begins. `Given` are the bytes that it has,

@@ -10,7 +10,7 @@ use Rattle.st_pairs.specs.Pairs.{IsWholePair}
 use Rattle.st_shelf.specs.declared.shelves.SealedPair.{SealedPair}
 use Rattle.st_spool.specs.Publishing.{Keeps, RanAsBefore, MayPublish}
 use Rattle.st_spool.specs.Refusing.{RefusesPair}
-use Rattle.st_spool.specs.Standing.{Gives, begun}
+use Rattle.st_spool.specs.Standing.{Gives, in_doubt}
 use Rattle.st_spool.specs.States.{SpoolState, SpoolView}
 use Rattle.st_spool.specs.declared.refusals.PublishErr.{PublishErr}
 use Rattle.st_spool.specs.declared.refusals.PublishErr.TheVariants as publish
@@ -23,8 +23,8 @@ keeps_then a b c st next earlier h f same one two = record {
   known = known_then a b c one.known two.known;
   stands = two.stands;
   images = λ first known.
-      let run : RanAsBefore first b h (begun next.doubt f) = subst (λ (d : Doubt). RanAsBefore first b h (begun d f)) (sym same) (one.images first known) in
-      ran_then first b c [] [] (Gives h (begun next.doubt f)) (Gives h (begun next.doubt f)) (Gives h (begun next.doubt f)) run (two.images run.log run.is);
+      let run : RanAsBefore first b h (in_doubt next.doubt f) = subst (λ (d : Doubt). RanAsBefore first b h (in_doubt d f)) (sym same) (one.images first known) in
+      ran_then first b c [] [] (Gives h (in_doubt next.doubt f)) (Gives h (in_doubt next.doubt f)) (Gives h (in_doubt next.doubt f)) run (two.images run.log run.is);
 }
 
 pub kept_then : {D : Type 0} (log : D → Option Log) (a b c : SpoolView D) → KeepsSpool log a b → KeepsSpool log b c → KeepsSpool log a c

@@ -10,7 +10,7 @@ use Rattle.st_plan.specs.declared.jobs.LanePlan.{LanePlan}
 use Rattle.st_spool.specs.Covers.{CoversInDoubt}
 use Rattle.st_spool.specs.Entering.{Enters, flushed_log}
 use Rattle.st_spool.specs.History.{Legal, set_of}
-use Rattle.st_spool.specs.Standing.{StandsFor, in_doubt, begun}
+use Rattle.st_spool.specs.Standing.{StandsFor, failed_event, in_doubt}
 use Rattle.st_spool.specs.States.{SpoolState}
 use Rattle.st_spool.specs.declared.opening.EnterErr.{EnterErr}
 use Rattle.st_spool.specs.declared.opening.EnterErr.TheVariants as enter
@@ -31,12 +31,12 @@ use Rattle.st_load.proofs.Jobs.{events_append, lines_append, events_happen, line
 use Rattle.st_load.proofs.ReadBack.{read_set}
 
 -- an event in doubt has begun, or not
-begun_or : (d : Doubt) (f : Files) → (begun d f ≡ []) ⊎ (begun d f ≡ in_doubt d f)
-begun_or doubt.Nothing f = inl refl
-begun_or (doubt.Unsettled t) f = inl refl
-begun_or (doubt.Settled t) f = inr refl
-begun_or (doubt.Unhidden t) f = inl refl
-begun_or (doubt.Hidden t) f = inr refl
+in_doubt_or : (d : Doubt) (f : Files) → (in_doubt d f ≡ []) ⊎ (in_doubt d f ≡ failed_event d f)
+in_doubt_or doubt.Nothing f = inl refl
+in_doubt_or (doubt.Unsettled t) f = inl refl
+in_doubt_or (doubt.Settled t) f = inr refl
+in_doubt_or (doubt.Unhidden t) f = inl refl
+in_doubt_or (doubt.Hidden t) f = inr refl
 
 at_most_one : (d : Doubt) (f : Files) → length (begun d f) ≤ 1
 at_most_one doubt.Nothing f = omega arith
@@ -62,21 +62,21 @@ module _ (limit : ℕ) (layout : LanePlan) (first : Log) (mid known : Option Log
   h = Found entered.pairs ∷ []
 
   -- the run since both folders were flushed
-  pub ran : (now : Log) × (known ≡ Some now) × CoversInDoubt h (events_of l.acts) (begun st.doubt l.f) (flushed_log first) now
+  pub ran : (now : Log) × (known ≡ Some now) × CoversInDoubt h (events_of l.acts) (in_doubt st.doubt l.f) (flushed_log first) now
   ran =
       let cleared = entered.images.cleared in
       let one = covers_opening entered.pairs first cleared.log mid entered.found entered.images cleared.is in
       let (now, is, more) = l.images cleared.log cleared.is in
-      (now, is, covers_join h [] (events_of l.acts) (begun st.doubt l.f) (flushed_log first) cleared.log now one more)
+      (now, is, covers_join h [] (events_of l.acts) (in_doubt st.doubt l.f) (flushed_log first) cleared.log now one more)
 
-  pub past : (now : Log) → known ≡ Some now → events now ≡ events first ++ (events_of l.acts ++ begun st.doubt l.f)
+  pub past : (now : Log) → known ≡ Some now → events now ≡ events first ++ (events_of l.acts ++ in_doubt st.doubt l.f)
   past now is = (l.stands.disk now is).past
 
-  pub read : (now : Log) → known ≡ Some now → PairsIn (reads now) (set_of ((h ++ events_of l.acts) ++ begun st.doubt l.f))
+  pub read : (now : Log) → known ≡ Some now → PairsIn (reads now) (set_of ((h ++ events_of l.acts) ++ in_doubt st.doubt l.f))
   read now is = read_set IsWholePair known st (events first) (h ++ events_of l.acts) l.f l.stands now is
 
   -- nothing in doubt has begun
-  abbrev pub opened_sure : begun st.doubt l.f ≡ [] → LoadsOpened limit layout first known left times times_now old new e
+  abbrev pub opened_sure : in_doubt st.doubt l.f ≡ [] → LoadsOpened limit layout first known left times times_now old new e
   opened_sure none = record {
     found = entered.pairs;
     are_found = entered.found;
@@ -94,7 +94,7 @@ module _ (limit : ℕ) (layout : LanePlan) (first : Log) (mid known : Option Log
     set = subst (λ (es : List Event). PairsIn (reads ran.0) (set_of es)) (ap (λ (es : List Event). (h ++ events_of l.acts) ++ es) none ∙ append-nil (h ++ events_of l.acts)) (read ran.0 ran.1);
     flushed = entered.images.flushed;
     sure = events_of l.acts;
-    doubt = begun st.doubt l.f;
+    doubt = in_doubt st.doubt l.f;
     events_are = sym (ap (λ es. events_of l.acts ++ es) none ∙ append-nil (events_of l.acts));
     at_most_one = at_most_one st.doubt l.f;
     no_doubt = λ other. none;
@@ -102,10 +102,10 @@ module _ (limit : ℕ) (layout : LanePlan) (first : Log) (mid known : Option Log
   }
 
   -- the event in doubt has begun
-  pub opened_doubt : e ≡ end.DiskFault → begun st.doubt l.f ≡ in_doubt st.doubt l.f → LoadsOpened limit layout first known left times times_now old new e
+  pub opened_doubt : e ≡ end.DiskFault → in_doubt st.doubt l.f ≡ failed_event st.doubt l.f → LoadsOpened limit layout first known left times times_now old new e
   opened_doubt disk some =
       let (now, is, covers) = ran in
-      let d = in_doubt st.doubt l.f in
+      let d = failed_event st.doubt l.f in
       let later = l.doubt.0 in
       let evs : events_of (l.acts ++ happen d) ≡ events_of l.acts ++ d = events_append l.acts (happen d) ∙ ap (λ es. events_of l.acts ++ es) (events_happen d) in
       let lines : lines_of l.acts ≡ lines_of (l.acts ++ happen d) =
@@ -136,7 +136,7 @@ module _ (limit : ℕ) (layout : LanePlan) (first : Log) (mid known : Option Log
             (ap (λ (es : List Event). (h ++ events_of l.acts) ++ es) some ∙ append_assoc h (events_of l.acts) d ∙ ap (λ (es : List Event). h ++ es) (sym evs)) (read now is);
         flushed = entered.images.flushed;
         sure = events_of l.acts;
-        doubt = begun st.doubt l.f;
+        doubt = in_doubt st.doubt l.f;
         events_are = evs ∙ ap (λ es. events_of l.acts ++ es) (sym some);
         at_most_one = at_most_one st.doubt l.f;
         no_doubt = λ other. absurd (other disk);
@@ -145,8 +145,8 @@ module _ (limit : ℕ) (layout : LanePlan) (first : Log) (mid known : Option Log
 
   pub opened : ((e ≡ end.DiskFault → ⊥) → st.doubt ≡ doubt.Nothing) → LoadsOpened limit layout first known left times times_now old new e
   opened quiet = ⊎_elim
-      (λ disk. ⊎_elim (λ none. opened_sure none) (λ some. opened_doubt disk some) (begun_or st.doubt l.f))
-      (λ other. opened_sure (ap (λ (x : Doubt). begun x l.f) (quiet other)))
+      (λ disk. ⊎_elim (λ none. opened_sure none) (λ some. opened_doubt disk some) (in_doubt_or st.doubt l.f))
+      (λ other. opened_sure (ap (λ (x : Doubt). in_doubt x l.f) (quiet other)))
       (is_disk e)
 
 -- a load into the spool that was opened is a load of the shelf

@@ -13,7 +13,7 @@ use Rattle.st_lane.specs.Sealing.{AreWhole}
 use Rattle.st_pairs.specs.Pairs.{IsWholePair}
 use Rattle.st_spool.specs.Placing.{entry}
 use Rattle.st_spool.specs.Publishing.{next_stamp, published, MayPublish, Publishes, Keeps, RanTo, RanInDoubt}
-use Rattle.st_spool.specs.Standing.{StandsFor, begun}
+use Rattle.st_spool.specs.Standing.{StandsFor, in_doubt}
 use Rattle.st_spool.specs.States.{SpoolState, SpoolView}
 use Rattle.st_spool.specs.declared.state.Doubt.TheVariants as doubt
 use Rattle.st_load.specs.Acts.{line_text}
@@ -68,7 +68,7 @@ module _ (limit size : ℕ) (before : SpoolState) (earlier h : List Event) (rs :
   publish_fails known st since old end.DiskFault fails (left, how) =
       let start = covered_none first before earlier h f stands (no_doubt first before earlier h f stands runs) in
       finish_none limit size before earlier h rs was times floor (entry (next_stamp before.last floor) p) left ticks refl whole first known st p old
-      (covered_fault first first known h [] (begun st.doubt p) start (λ mid is. subst (λ x. RanInDoubt mid known x (begun st.doubt p)) (sym (append-nil h)) (fails.images mid is)))
+      (covered_fault first first known h [] (in_doubt st.doubt p) start (λ mid is. subst (λ x. RanInDoubt mid known x (in_doubt st.doubt p)) (sym (append-nil h)) (fails.images mid is)))
       fails.stands (doubted before st (next_stamp before.last floor) since p how)
   publish_fails known st since old (end.StampsSpent last) keeps (same, spent, is) =
       let quiet = no_doubt first before earlier h f stands runs in

@@ -8,7 +8,7 @@ use Rattle.st_disk.specs.Pairs.{Entry, Files, PairsIn, IsFileSet}
 use Rattle.st_spool.specs.History.{set_of, entries_of}
 use Rattle.st_spool.specs.Placing.{entry}
 use Rattle.st_spool.specs.Rows.{Row, Pair, Held, Has, set_row}
-use Rattle.st_spool.specs.Standing.{StandsFor, begun}
+use Rattle.st_spool.specs.Standing.{StandsFor, in_doubt}
 use Rattle.st_spool.specs.States.{SpoolState, rows_of, with_read, MayBe, place_in}
 use Rattle.st_spool.specs.declared.state.Doubt.{Doubt}
 use Rattle.st_spool.specs.declared.state.Doubt.TheVariants as doubt
@@ -49,7 +49,7 @@ module _ (W : List ℕ → List ℕ → Type 0) (known : Option Log) (st : Spool
       subst (λ (s : List Entry). PairsIn c s) (sym set)
       (sure_set (rows_of (st.removed + 1) st.holds st.last all) (drop (st.removed + 1) all) c (rows_sure (st.removed + 1) st.last st.holds all) (rows_set (st.removed + 1) st.last st.holds all stands.rises) now)
 
-  by_doubt : (d : Doubt) → MayBe d k st.removed st.last all → (c : Folder) → Has (with_read d k rows) c → PairsIn c (set_of (h ++ begun d k))
+  by_doubt : (d : Doubt) → MayBe d k st.removed st.last all → (c : Folder) → Has (with_read d k rows) c → PairsIn c (set_of (h ++ in_doubt d k))
   by_doubt doubt.Nothing may c has = none_set c (sure_sets W known st earlier h k stands c has)
   by_doubt (doubt.Unsettled t) may c has = none_set c (half_sets W known st earlier h k stands t k may c has)
   by_doubt (doubt.Settled t) may c has = settled_set t may c has
@@ -57,5 +57,5 @@ module _ (W : List ℕ → List ℕ → Type 0) (known : Option Log) (st : Spool
   by_doubt (doubt.Hidden t) may c has = hidden_set t may c has
 
   -- the pairs of the history are read, with the event in doubt if it has begun
-  pub read_set : (log : Log) → known ≡ Some log → PairsIn (reads log) (set_of (h ++ begun st.doubt k))
+  pub read_set : (log : Log) → known ≡ Some log → PairsIn (reads log) (set_of (h ++ in_doubt st.doubt k))
   read_set log is = by_doubt st.doubt stands.doubt (reads log) (stands.disk log is).read

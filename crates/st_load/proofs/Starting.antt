@@ -13,7 +13,7 @@ use Rattle.st_pcap.specs.Reading.{PcapReaderView, HasRead, IsOutside, fresh}
 use Rattle.st_pcap.specs.declared.errors.PcapErr.{PcapErr}
 use Rattle.st_plan.specs.declared.jobs.LanePlan.{LanePlan}
 use Rattle.st_spool.specs.History.{set_of}
-use Rattle.st_spool.specs.Standing.{StandsFor, in_doubt, begun}
+use Rattle.st_spool.specs.Standing.{StandsFor, failed_event, in_doubt}
 use Rattle.st_spool.specs.States.{SpoolState}
 use Rattle.st_spool.specs.declared.state.Doubt.TheVariants as doubt
 use Rattle.st_load.specs.Acts.{Act, events_of, lines_of, happen, removals, newest}
@@ -96,8 +96,8 @@ starts_fails limit size first known st before earlier h times old Are a lim are 
       };
       f = a.f;
       stands = subst (λ es. StandsFor IsWholePair known st earlier (h ++ es) a.f) (sym (events_happen a.events)) a.stands;
-      doubt = (happen a.later, ap happen a.doubt ∙ happen_append (in_doubt st.doubt a.f) a.later);
-      images = subst (λ es. Covered first known h es (begun st.doubt a.f)) (sym (events_happen a.events)) a.images;
+      doubt = (happen a.later, ap happen a.doubt ∙ happen_append (failed_event st.doubt a.f) a.later);
+      images = subst (λ es. Covered first known h es (in_doubt st.doubt a.f)) (sym (events_happen a.events)) a.images;
     }
 
 -- what a new reader read

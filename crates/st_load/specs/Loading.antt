@@ -10,7 +10,7 @@ use Rattle.st_pcap.specs.Input.{End, Whole, Refused, Input}
 use Rattle.st_plan.specs.declared.jobs.LanePlan.{LanePlan}
 use Rattle.st_spool.specs.History.{set_of}
 use Rattle.st_spool.specs.Covers.{CoversInDoubt}
-use Rattle.st_spool.specs.Standing.{StandsFor, in_doubt, begun}
+use Rattle.st_spool.specs.Standing.{StandsFor, failed_event, in_doubt}
 use Rattle.st_spool.specs.States.{SpoolState}
 use Rattle.st_load.specs.Acts.{Act, Writes, line_text, events_of, lines_of, happen}
 use Rattle.st_load.specs.Job.{Situation, AreFirstLists, Takes}
@@ -118,8 +118,8 @@ pub record Loads (Job : List (List Rec) → List Act → Situation → Type 0)
   pub did : Did Job ended pairs acts to_come times old new
   pub f : Files
   pub stands : StandsFor IsWholePair known st earlier (h ++ events_of acts) f
-  pub doubt : BeginsWith to_come (in_doubt st.doubt f)
-  pub images : Covered before known h (events_of acts) (begun st.doubt f)
+  pub doubt : BeginsWith to_come (failed_event st.doubt f)
+  pub images : Covered before known h (events_of acts) (in_doubt st.doubt f)
 
 -- what a load goes on from in a spool of this history
 abbrev pub situation : List Event → SpoolState → Option (List ℕ) → Situation

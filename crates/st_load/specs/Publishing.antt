@@ -8,7 +8,7 @@ use Rattle.st_disk.specs.Pairs.{Files}
 use Rattle.st_pairs.specs.Pairs.{IsWholePair}
 use Rattle.st_spool.specs.History.{set_of}
 use Rattle.st_spool.specs.Publishing.{FailsToPublish, Fails, Keeps}
-use Rattle.st_spool.specs.Standing.{StandsFor, in_doubt, begun}
+use Rattle.st_spool.specs.Standing.{StandsFor, failed_event, in_doubt}
 use Rattle.st_spool.specs.States.{SpoolState}
 use Rattle.st_load.specs.Acts.{Act, line_text, events_of, lines_of, removals, newest}
 use Rattle.st_load.specs.Job.{Situation, Adds, AddsAll}
@@ -26,8 +26,8 @@ pub record Ages (before known : Option Log) (st : SpoolState) (earlier h : List 
   pub f : Files
   pub stands : StandsFor IsWholePair known st earlier (h ++ events) f
   pub later : List Event
-  pub doubt : to_come ≡ in_doubt st.doubt f ++ later
-  pub images : Covered before known h events (begun st.doubt f)
+  pub doubt : to_come ≡ failed_event st.doubt f ++ later
+  pub images : Covered before known h events (in_doubt st.doubt f)
 
 -- all removals that a history asks for happened, in order, and the newest pairs are left
 pub record AgesAll (before known : Option Log) (st : SpoolState) (earlier h : List Event)

@@ -13,7 +13,7 @@ use Rattle.st_disk.proofs.Runs.{ran_widen, ran_then}
 use Rattle.st_spool.specs.Rows.{Row, Pair, Going, Held, Past, Fits, Has, set_row, RanBy}
 use Rattle.st_spool.specs.History.{set_of, entries_of, IsLeast, Legal}
 use Rattle.st_spool.specs.States.{SpoolState, rows_of, with_doubt, MayBe, AreUpTo, IsWithin, place_in, Placement, covers}
-use Rattle.st_spool.specs.Standing.{StandsFor, OnDisk, Gives, begun, in_doubt, after_found, PublishWhole, stamp_of}
+use Rattle.st_spool.specs.Standing.{StandsFor, OnDisk, Gives, in_doubt, failed_event, after_found, PublishWhole, stamp_of}
 use Rattle.st_spool.specs.Recalling.{entries_in, log_before}
 use Rattle.st_spool.specs.Publishing.{RanTo, Fails}
 use Rattle.st_spool.specs.declared.state.Span.{Span}
@@ -55,10 +55,10 @@ module _ (W : List ℕ → List ℕ → Type 0) (old : Option Log) (st : SpoolSt
   each_row l known = subst (λ (d : Doubt). Each l (Has (with_doubt d k (rows_of st.removed st.holds st.last (entries_of h))))) none (stands.disk l known).images
 
   past_without_doubt : (l : Log) → old ≡ Some l → events l ≡ earlier ++ (after_found h ++ [])
-  past_without_doubt l known = subst (λ (d : Doubt). events l ≡ earlier ++ (after_found h ++ begun d k)) none (stands.disk l known).past
+  past_without_doubt l known = subst (λ (d : Doubt). events l ≡ earlier ++ (after_found h ++ in_doubt d k)) none (stands.disk l known).past
 
   whole_without_doubt : (l : Log) → old ≡ Some l → PublishWhole W h
-  whole_without_doubt l known = whole_first W h (in_doubt st.doubt k) (stands.disk l known).whole
+  whole_without_doubt l known = whole_first W h (failed_event st.doubt k) (stands.disk l known).whole
 
   pair_fits : (l : Log) → old ≡ Some l → Fits (Pair (files_of e)) (reads l (Block t)) (reads l (Index t)) (reads l (Parked t))
   pair_fits l known = subst (λ (q : Row). Fits q (reads l (Block t)) (reads l (Index t)) (reads l (Parked t))) pair_row (each_row l known (reads l) (leaves_now l) t)
@@ -112,10 +112,10 @@ module _ (W : List ℕ → List ℕ → Type 0) (old : Option Log) (st : SpoolSt
       let two = at_place 0 st.removed (entries_of h) e rest is stands.rises in
       ap (λ (q : Placement). q.files) (some_place (record { place = 0 + i; files = files_of d }) (record { place = 0 + st.removed; files = files_of e }) (sym one ∙ ap (λ (q : ℕ). place_in 0 q (entries_of h)) (sym stamp ∙ same) ∙ two))
 
-  shows_all : st.removed ≡ 0 → begun st.doubt k ≡ [] → (c : Folder) → Has (rows_of st.removed st.holds st.last (entries_of h)) c → entries_in c (map stamp_of (entries_of h)) ≡ entries_of h
+  shows_all : st.removed ≡ 0 → in_doubt st.doubt k ≡ [] → (c : Folder) → Has (rows_of st.removed st.holds st.last (entries_of h)) c → entries_in c (map stamp_of (entries_of h)) ≡ entries_of h
   shows_all zero no_doubt c has = rows_show st.last st.holds (entries_of h) c stands.rises (subst (λ (g : ℕ). Has (rows_of g st.holds st.last (entries_of h)) c) zero has)
 
-  shows_leaving : st.removed ≡ 0 → begun st.doubt k ≡ [] → (c : Folder) → Has (set_row (rows_of st.removed st.holds st.last (entries_of h)) t (Going (files_of e))) c → entries_in c (map stamp_of (entries_of h)) ≡ entries_of h
+  shows_leaving : st.removed ≡ 0 → in_doubt st.doubt k ≡ [] → (c : Folder) → Has (set_row (rows_of st.removed st.holds st.last (entries_of h)) t (Going (files_of e))) c → entries_in c (map stamp_of (entries_of h)) ≡ entries_of h
   shows_leaving zero no_doubt c has =
       set_shows st.last st.holds (entries_of h) c t (Going (files_of e)) stands.rises
       (λ i d more at stamp b x p fits. subst (λ (f : Files). Shows f b x p) (sym (same_files i d more at stamp)) (shows_going (files_of e) b x p fits))
@@ -153,7 +153,7 @@ module _ (W : List ℕ → List ℕ → Type 0) (old : Option Log) (st : SpoolSt
     pub aged_stands : (to : ℕ) → StandsFor W new (record st { removed = st.removed + 1; swept = to }) earlier (h ++ Remove t ∷ []) k
     aged_stands to = record {
       legal = legal_new over;
-      more = subst (λ (d : Doubt). Legal st.limit ((h ++ Remove t ∷ []) ++ in_doubt d k)) (sym none) (subst (Legal st.limit) (sym (append-nil (h ++ Remove t ∷ []))) (legal_new over));
+      more = subst (λ (d : Doubt). Legal st.limit ((h ++ Remove t ∷ []) ++ failed_event d k)) (sym none) (subst (Legal st.limit) (sym (append-nil (h ++ Remove t ∷ []))) (legal_new over));
       found = stands.found;
       counts = counts_new;
       stamps = ap (map stamp_of) entries ∙ stands.stamps;

@@ -10,7 +10,7 @@ use Rattle.st_spool.specs.Rows.{Row, Free, Half, Coming, Pair, Going, Has, set_r
 use Rattle.st_spool.specs.Placing.{entry}
 use Rattle.st_spool.specs.History.{set_of, entries_of, without}
 use Rattle.st_spool.specs.States.{SpoolState, rows_of, with_doubt, MayBe, Placement, place_in}
-use Rattle.st_spool.specs.Standing.{StandsFor, Gives, begun}
+use Rattle.st_spool.specs.Standing.{StandsFor, Gives, in_doubt}
 use Rattle.st_spool.specs.declared.state.Doubt.{Doubt}
 use Rattle.st_spool.specs.declared.state.Doubt.TheVariants as doubt
 use Rattle.st_spool.proofs.Keeping.{by_test, is_same, same_here}
@@ -115,7 +115,7 @@ module _ (W : List ℕ → List ℕ → Type 0) (known : Option Log) (st : Spool
       let r = found_at 0 st.removed t (entries_of h) k (may ∙ ap (λ (n : ℕ). Some (record { place = n; files = k })) (let z : st.removed ≡ 0 + st.removed = omega arith in z)) in
       going_sets t r.0 r.1 r.2 r.3 c (subst (λ (q : Files). Has (set_row (rows_of st.removed st.holds st.last (entries_of h)) t (Going q)) c) (sym r.4) has)
 
-  sets_by : (d : Doubt) → MayBe d k st.removed st.last (entries_of h) → (c : Folder) → Has (with_doubt d k (rows_of st.removed st.holds st.last (entries_of h))) c → Gives h (begun d k) c
+  sets_by : (d : Doubt) → MayBe d k st.removed st.last (entries_of h) → (c : Folder) → Has (with_doubt d k (rows_of st.removed st.holds st.last (entries_of h))) c → Gives h (in_doubt d k) c
   sets_by doubt.Nothing may c has = sure_sets c has
   sets_by (doubt.Unsettled t) may c has = half_sets t k may c has
   sets_by (doubt.Settled t) may c has = coming_sets t k may c has
@@ -123,5 +123,5 @@ module _ (W : List ℕ → List ℕ → Type 0) (known : Option Log) (st : Spool
   sets_by (doubt.Hidden t) may c has = going_found t may c has
 
   -- each image has the pairs of the history, or those with the event in doubt if it began
-  pub gives : (c : Folder) → Has (with_doubt st.doubt k (rows_of st.removed st.holds st.last (entries_of h))) c → Gives h (begun st.doubt k) c
+  pub gives : (c : Folder) → Has (with_doubt st.doubt k (rows_of st.removed st.holds st.last (entries_of h))) c → Gives h (in_doubt st.doubt k) c
   gives c has = sets_by st.doubt stands.doubt c has

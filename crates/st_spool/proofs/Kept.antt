@@ -18,7 +18,7 @@ use Rattle.st_spool.specs.Rows.{Row, Half, Has, set_row, RanBy}
 use Rattle.st_spool.specs.History.{entries_of}
 use Rattle.st_spool.specs.Recalling.{entries_in}
 use Rattle.st_spool.specs.States.{SpoolState, SpoolView, rows_by, rows_of, with_doubt, MayBe}
-use Rattle.st_spool.specs.Standing.{StandsFor, Gives, begun, stamp_of}
+use Rattle.st_spool.specs.Standing.{StandsFor, Gives, in_doubt, stamp_of}
 use Rattle.st_spool.specs.Publishing.{Keeps, Fails, RanTo}
 use Rattle.st_spool.specs.Aging.{Removes, StoppedBy}
 use Rattle.st_spool.specs.Placing.{FailsToHide}
@@ -51,10 +51,10 @@ keeps_read (doubt.Unhidden t) old new keeps n v none read = absurd none
 keeps_read (doubt.Hidden t) old new keeps n v is read = subst (λ (m : Name). Reads new m (λ x. x ≡ v)) (sym is) ((keeps.reads t v).1 (subst (λ (m : Name). Reads old m (λ x. x ≡ v)) is read))
 
 -- as long as there was no event each folder shows all pairs that were found
-pub doubt_shows : (W : List ℕ → List ℕ → Type 0) (known : Option Log) (st : SpoolState) (earlier h : List Event) (k : Files) → StandsFor W known st earlier h k → st.removed ≡ 0 → begun st.doubt k ≡ [] → (c : Folder) → Has (rows_by st k (entries_of h)) c → entries_in c (map stamp_of (entries_of h)) ≡ entries_of h
+pub doubt_shows : (W : List ℕ → List ℕ → Type 0) (known : Option Log) (st : SpoolState) (earlier h : List Event) (k : Files) → StandsFor W known st earlier h k → st.removed ≡ 0 → in_doubt st.doubt k ≡ [] → (c : Folder) → Has (rows_by st k (entries_of h)) c → entries_in c (map stamp_of (entries_of h)) ≡ entries_of h
 doubt_shows W known st earlier h k stands zero no_doubt c has = by_doubt st.doubt no_doubt stands.doubt has
   where
-    by_doubt : (d : Doubt) → begun d k ≡ [] → MayBe d k st.removed st.last (entries_of h) → Has (with_doubt d k (rows_of st.removed st.holds st.last (entries_of h))) c → entries_in c (map stamp_of (entries_of h)) ≡ entries_of h
+    by_doubt : (d : Doubt) → in_doubt d k ≡ [] → MayBe d k st.removed st.last (entries_of h) → Has (with_doubt d k (rows_of st.removed st.holds st.last (entries_of h))) c → entries_in c (map stamp_of (entries_of h)) ≡ entries_of h
     by_doubt doubt.Nothing none may has = rows_show st.last st.holds (entries_of h) c stands.rises (subst (λ (g : ℕ). Has (rows_of g st.holds st.last (entries_of h)) c) zero has)
     by_doubt (doubt.Unsettled t) none may has = above_shows st.last st.holds (entries_of h) c t (Half k) stands.rises stands.last may (subst (λ (g : ℕ). Has (set_row (rows_of g st.holds st.last (entries_of h)) t (Half k)) c) zero has)
     by_doubt (doubt.Settled t) none may has = absurd (cc)
@@ -95,7 +95,7 @@ keeps_rows W old new st earlier h k keeps stands = record {
   };
   images = λ first known.
       let rows = rows_by st k (entries_of h) in
-      ran_widen first new [] (Has rows) (Has rows) (Gives h (begun st.doubt k)) (Gives h (begun st.doubt k)) (gives W old st earlier h k stands) (gives W old st earlier h k stands)
+      ran_widen first new [] (Has rows) (Has rows) (Gives h (in_doubt st.doubt k)) (Gives h (in_doubt st.doubt k)) (gives W old st earlier h k stands) (gives W old st earlier h k stands)
       (keeps.ran first rows (start first rows old known (stands.disk first known).images));
 }
 

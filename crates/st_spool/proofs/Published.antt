@@ -16,7 +16,7 @@ use Rattle.st_spool.specs.Placing.{entry}
 use Rattle.st_spool.specs.History.{set_of, entries_of, Legal}
 use Rattle.st_spool.specs.Recalling.{entries_in}
 use Rattle.st_spool.specs.States.{SpoolState, rows_of, with_doubt, MayBe, AreUpTo, IsWithin}
-use Rattle.st_spool.specs.Standing.{StandsFor, OnDisk, NoDoubtUntilHalted, Gives, begun, in_doubt, after_found, PublishWhole, stamp_of}
+use Rattle.st_spool.specs.Standing.{StandsFor, OnDisk, NoDoubtUntilHalted, Gives, in_doubt, failed_event, after_found, PublishWhole, stamp_of}
 use Rattle.st_spool.specs.Publishing.{RanTo, RanInDoubt}
 use Rattle.st_spool.specs.declared.state.Doubt.{Doubt}
 use Rattle.st_spool.specs.declared.state.Doubt.TheVariants as doubt
@@ -68,10 +68,10 @@ module _ (W : List ℕ → List ℕ → Type 0) (old new : Option Log) (st : Spo
   each_row l known = subst (λ (d : Doubt). Each l (Has (with_doubt d k (rows_of st.removed st.holds st.last (entries_of h))))) none (stands.disk l known).images
 
   past_without_doubt : (l : Log) → old ≡ Some l → events l ≡ earlier ++ (after_found h ++ [])
-  past_without_doubt l known = subst (λ (d : Doubt). events l ≡ earlier ++ (after_found h ++ begun d k)) none (stands.disk l known).past
+  past_without_doubt l known = subst (λ (d : Doubt). events l ≡ earlier ++ (after_found h ++ in_doubt d k)) none (stands.disk l known).past
 
   whole_without_doubt : (l : Log) → old ≡ Some l → PublishWhole W h
-  whole_without_doubt l known = whole_first W h (in_doubt st.doubt k) (stands.disk l known).whole
+  whole_without_doubt l known = whole_first W h (failed_event st.doubt k) (stands.disk l known).whole
 
   done_rows : (c : Folder) → Has (set_row (rows_of st.removed st.holds st.last (entries_of h)) t (Pair f)) c → Has (rows_of st.removed st.holds t (entries_of (h ++ Publish (entry t f) ∷ []))) c
   done_rows c has =
@@ -102,7 +102,7 @@ module _ (W : List ℕ → List ℕ → Type 0) (old new : Option Log) (st : Spo
   events_longer = ap length (after_more st.limit h (Publish (entry t f) ∷ []) stands.legal) ∙ length-append (after_found h) (Publish (entry t f) ∷ [])
 
   -- meanwhile each folder shows all pairs that were found
-  shows : (r : Row) → st.removed ≡ 0 → begun st.doubt k ≡ [] → (c : Folder) → Has (set_row (rows_of st.removed st.holds st.last (entries_of h)) t r) c → entries_in c (map stamp_of (entries_of h)) ≡ entries_of h
+  shows : (r : Row) → st.removed ≡ 0 → in_doubt st.doubt k ≡ [] → (c : Folder) → Has (set_row (rows_of st.removed st.holds st.last (entries_of h)) t r) c → entries_in c (map stamp_of (entries_of h)) ≡ entries_of h
   shows r zero no_doubt c has =
       above_shows st.last st.holds (entries_of h) c t r stands.rises stands.last more (subst (λ (g : ℕ). Has (set_row (rows_of g st.holds st.last (entries_of h)) t r) c) zero has)
 
@@ -125,7 +125,7 @@ module _ (W : List ℕ → List ℕ → Type 0) (old new : Option Log) (st : Spo
       → StandsFor W new (record st { stamps = stamps; last = t }) earlier (h ++ Publish (entry t f) ∷ []) k
   published_stands stamps pushed whole before placed = record {
     legal = legal_new;
-    more = subst (λ (d : Doubt). Legal st.limit ((h ++ Publish (entry t f) ∷ []) ++ in_doubt d k)) (sym none) (subst (Legal st.limit) (sym (append-nil (h ++ Publish (entry t f) ∷ []))) legal_new);
+    more = subst (λ (d : Doubt). Legal st.limit ((h ++ Publish (entry t f) ∷ []) ++ failed_event d k)) (sym none) (subst (Legal st.limit) (sym (append-nil (h ++ Publish (entry t f) ∷ []))) legal_new);
     found = let few : st.found ≤ length st.stamps = stands.found in let long = stamps_longer stamps pushed in omega arith;
     counts = counts_new stamps pushed;
     stamps = ap (map stamp_of) entries ∙ stamps_more (entries_of h) (entry t f) ∙ ap (λ (xs : List ℕ). xs ++ t ∷ []) stands.stamps ∙ sym pushed;
@@ -162,11 +162,11 @@ module _ (W : List ℕ → List ℕ → Type 0) (old new : Option Log) (st : Spo
       (placed l (rows_of st.removed st.holds st.last (entries_of h)) known (each_row l known) free)
 
   -- a publication that failed leaves the history
-  failed_stands : (d : Doubt) (r : Row) (es : List Event) (since halts : ℕ) → 0 < halts → with_doubt d f (rows_of st.removed st.holds st.last (entries_of h)) ≡ set_row (rows_of st.removed st.holds st.last (entries_of h)) t r → begun d f ≡ es
-      → ((l : Log) → old ≡ Some l → PublishWhole W (in_doubt d f)) → ((m : Log) → new ≡ Some m → IsRead d f (reads m)) → Legal st.limit (h ++ in_doubt d f) → MayBe d f st.removed st.last (entries_of h) → KnownBefore old new
+  failed_stands : (d : Doubt) (r : Row) (es : List Event) (since halts : ℕ) → 0 < halts → with_doubt d f (rows_of st.removed st.holds st.last (entries_of h)) ≡ set_row (rows_of st.removed st.holds st.last (entries_of h)) t r → in_doubt d f ≡ es
+      → ((l : Log) → old ≡ Some l → PublishWhole W (failed_event d f)) → ((m : Log) → new ≡ Some m → IsRead d f (reads m)) → Legal st.limit (h ++ failed_event d f) → MayBe d f st.removed st.last (entries_of h) → KnownBefore old new
       → ((l : Log) (rows : ℕ → Row) → old ≡ Some l → Each l (Has rows) → rows t ≡ Free → RanBy l new es (set_row rows t r) (set_row rows t r))
       → StandsFor W new (record st { doubt = d; halted = Some since; halts = halts }) earlier h f
-  failed_stands d r es since halts some rows_are begun_is whole is_read more_legal may before placed = record {
+  failed_stands d r es since halts some rows_are in_doubt_is whole is_read more_legal may before placed = record {
     legal = stands.legal;
     more = more_legal;
     found = stands.found;
@@ -185,13 +185,13 @@ module _ (W : List ℕ → List ℕ → Type 0) (old new : Option Log) (st : Spo
         let run = placed was.0 (rows_of st.removed st.holds st.last (entries_of h)) was.1 (each_row was.0 was.1) free in
         let images_now : Each m (Has (with_doubt d f (rows_of st.removed st.holds st.last (entries_of h)))) =
         subst (λ (q : ℕ → Row). Each m (Has q)) (sym rows_are) (ran_each was.0 new es (Has (set_row (rows_of st.removed st.holds st.last (entries_of h)) t r)) (Has (set_row (rows_of st.removed st.holds st.last (entries_of h)) t r)) run m known) in
-        let past_now : events m ≡ earlier ++ (after_found h ++ begun d f) =
+        let past_now : events m ≡ earlier ++ (after_found h ++ in_doubt d f) =
         ran_past was.0 new es (Has (set_row (rows_of st.removed st.holds st.last (entries_of h)) t r)) (Has (set_row (rows_of st.removed st.holds st.last (entries_of h)) t r)) run m known
-        ∙ past_more (events was.0) earlier (after_found h) es (past_without_doubt was.0 was.1) ∙ ap (λ (xs : List Event). earlier ++ (after_found h ++ xs)) (sym begun_is) in
+        ∙ past_more (events was.0) earlier (after_found h) es (past_without_doubt was.0 was.1) ∙ ap (λ (xs : List Event). earlier ++ (after_found h ++ xs)) (sym in_doubt_is) in
         record {
           images = images_now;
           past = past_now;
-          whole = whole_more W h (in_doubt d f) (whole_without_doubt was.0 was.1) (whole was.0 was.1);
+          whole = whole_more W h (failed_event d f) (whole_without_doubt was.0 was.1) (whole was.0 was.1);
           recalls = recalls_on W old new st earlier h k stands (record st { doubt = d; halted = Some since; halts = halts }) h f was.0 m es (Has (set_row (rows_of st.removed st.holds st.last (entries_of h)) t r)) (Has (set_row (rows_of st.removed st.holds st.last (entries_of h)) t r)) was.1 known run
               refl refl stands.legal past_now stands.counts (shows r);
           read = read_rows_of d f (rows_of st.removed st.holds st.last (entries_of h)) (reads m) (images_now (reads m) (leaves_now m)) (is_read m known);

@@ -13,8 +13,8 @@ use Rattle.st_disk.proofs.Reading.{known_log}
 use Rattle.st_spool.specs.Rows.{Row, Pair, Going, Held, Past, Fits, Has, set_row}
 use Rattle.st_spool.specs.History.{entries_of, Legal}
 use Rattle.st_spool.specs.States.{SpoolState, rows_of, row_at, covers, AreUpTo}
-use Rattle.st_spool.specs.Recalling.{entry_in, entries_in, calls_within, first_read, log_before, event_count, begun_count, earlier_count, history}
-use Rattle.st_spool.specs.Standing.{StandsFor, begun, after_found, stamp_of}
+use Rattle.st_spool.specs.Recalling.{entry_in, entries_in, calls_within, first_read, log_before, event_count, in_doubt_count, earlier_count, history}
+use Rattle.st_spool.specs.Standing.{StandsFor, in_doubt, after_found, stamp_of}
 use Rattle.st_spool.specs.declared.state.Span.{Span}
 use Rattle.st_spool.specs.declared.state.Doubt.{Doubt}
 use Rattle.st_spool.specs.declared.state.Doubt.TheVariants.{Nothing, Unsettled, Settled, Unhidden, Hidden}
@@ -121,17 +121,17 @@ take_first : (xs ys : List Event) → take (length xs) (xs ++ ys) ≡ xs
 take_first [] ys = refl
 take_first (x ∷ xs) ys = ap (λ (zs : List Event). x ∷ zs) (take_first xs ys)
 
-begun_long : (d : Doubt) (f : Files) → length (begun d f) ≡ begun_count d
-begun_long Nothing f = refl
-begun_long (Unsettled t) f = refl
-begun_long (Settled t) f = refl
-begun_long (Unhidden t) f = refl
-begun_long (Hidden t) f = refl
+in_doubt_long : (d : Doubt) (f : Files) → length (in_doubt d f) ≡ in_doubt_count d
+in_doubt_long Nothing f = refl
+in_doubt_long (Unsettled t) f = refl
+in_doubt_long (Settled t) f = refl
+in_doubt_long (Unhidden t) f = refl
+in_doubt_long (Hidden t) f = refl
 
-module _ (st : SpoolState) (log : Log) (earlier h : List Event) (f : Files) (past : events log ≡ earlier ++ (after_found h ++ begun st.doubt f)) (counts : length (after_found h) ≡ event_count st) where
-  long : length (events log) ≡ length earlier + (event_count st + begun_count st.doubt)
-  long = ap length past ∙ length-append earlier (after_found h ++ begun st.doubt f)
-      ∙ ap (λ (n : ℕ). length earlier + n) (length-append (after_found h) (begun st.doubt f) ∙ (λ i. counts i + begun_long st.doubt f i))
+module _ (st : SpoolState) (log : Log) (earlier h : List Event) (f : Files) (past : events log ≡ earlier ++ (after_found h ++ in_doubt st.doubt f)) (counts : length (after_found h) ≡ event_count st) where
+  long : length (events log) ≡ length earlier + (event_count st + in_doubt_count st.doubt)
+  long = ap length past ∙ length-append earlier (after_found h ++ in_doubt st.doubt f)
+      ∙ ap (λ (n : ℕ). length earlier + n) (length-append (after_found h) (in_doubt st.doubt f) ∙ (λ i. counts i + in_doubt_long st.doubt f i))
 
   pub earlier_long : earlier_count st log ≡ length earlier
   earlier_long = let l = long in omega arith
@@ -143,8 +143,8 @@ module _ (st : SpoolState) (log : Log) (earlier h : List Event) (f : Files) (pas
   since_is =
       ap (λ (n : ℕ). take (event_count st) (drop n (events log))) earlier_long
       ∙ ap (λ (xs : List Event). take (event_count st) (drop (length earlier) xs)) past
-      ∙ ap (take (event_count st)) (drop_first earlier (after_found h ++ begun st.doubt f))
-      ∙ ap (λ (n : ℕ). take n (after_found h ++ begun st.doubt f)) (sym counts) ∙ take_first (after_found h) (begun st.doubt f)
+      ∙ ap (take (event_count st)) (drop_first earlier (after_found h ++ in_doubt st.doubt f))
+      ∙ ap (λ (n : ℕ). take n (after_found h ++ in_doubt st.doubt f)) (sym counts) ∙ take_first (after_found h) (in_doubt st.doubt f)
 
   as_found : (limit : ℕ) → Legal limit h → h ≡ Found (found_of h) ∷ after_found h
   as_found limit legal = parts limit h legal
@@ -247,15 +247,15 @@ take_long (suc n) (x ∷ xs) le = ap (λ (ys : List ℕ). x ∷ ys) (take_long n
 -- were found, if no event came before these calls.
 module _ (W : List ℕ → List ℕ → Type 0) (old new : Option Log) (st : SpoolState) (earlier h : List Event) (k : Files) (stands : StandsFor W old st earlier h k) where
   pub found_on : (a b : Log) (now : Option Log) (es : List Event) (P Q : Folder → Type 0) → old ≡ Some a → now ≡ Some b → Ran a now es P Q
-      → (st.removed ≡ 0 → begun st.doubt k ≡ [] → (c : Folder) → P c → entries_in c (map stamp_of (entries_of h)) ≡ entries_of h)
+      → (st.removed ≡ 0 → in_doubt st.doubt k ≡ [] → (c : Folder) → P c → entries_in c (map stamp_of (entries_of h)) ≡ entries_of h)
       → entries_in (reads (log_before (length earlier) b)) (take st.found st.stamps) ≡ found_of h
   found_on a b now es P Q was is run shows =
       let disk = stands.disk a was in
       let first = found_from st a earlier h k disk.past stands.counts disk.recalls in
       found_later a b now es P Q (length earlier) (take st.found st.stamps) (found_of h) run is first
       (λ le.
-      let long : length (events a) ≡ length earlier + length (after_found h ++ begun st.doubt k) = ap length disk.past ∙ length-append earlier (after_found h ++ begun st.doubt k) in
-      let none = nothing_left (after_found h) (begun st.doubt k) 0 (omega arith) in
+      let long : length (events a) ≡ length earlier + length (after_found h ++ in_doubt st.doubt k) = ap length disk.past ∙ length-append earlier (after_found h ++ in_doubt st.doubt k) in
+      let none = nothing_left (after_found h) (in_doubt st.doubt k) 0 (omega arith) in
       let zero_count : event_count st ≡ 0 = sym stands.counts ∙ ap length none.0 in
       let few : st.found ≤ length st.stamps = stands.found in
       let whole : take st.found st.stamps ≡ map stamp_of (entries_of h) = take_long st.found st.stamps (omega arith) ∙ sym stands.stamps in
@@ -263,7 +263,7 @@ module _ (W : List ℕ → List ℕ → Type 0) (old new : Option Log) (st : Spo
 
   pub recalls_with : (next : SpoolState) (after : List Event) (f : Files) (b : Log) → entries_in (reads (log_before (length earlier) b)) (take st.found st.stamps) ≡ found_of h
       → take next.found next.stamps ≡ take st.found st.stamps → found_of after ≡ found_of h → Legal st.limit after
-      → events b ≡ earlier ++ (after_found after ++ begun next.doubt f) → length (after_found after) ≡ event_count next
+      → events b ≡ earlier ++ (after_found after ++ in_doubt next.doubt f) → length (after_found after) ≡ event_count next
       → history next b ≡ after
   recalls_with next after f b found same_stamps same_found legal past counts =
       recall_by next b earlier after f past counts st.limit legal
@@ -271,8 +271,8 @@ module _ (W : List ℕ → List ℕ → Type 0) (old new : Option Log) (st : Spo
 
   pub recalls_on : (next : SpoolState) (after : List Event) (f : Files) (a b : Log) (es : List Event) (P Q : Folder → Type 0) → old ≡ Some a → new ≡ Some b → Ran a new es P Q
       → take next.found next.stamps ≡ take st.found st.stamps → found_of after ≡ found_of h → Legal st.limit after
-      → events b ≡ earlier ++ (after_found after ++ begun next.doubt f) → length (after_found after) ≡ event_count next
-      → (st.removed ≡ 0 → begun st.doubt k ≡ [] → (c : Folder) → P c → entries_in c (map stamp_of (entries_of h)) ≡ entries_of h)
+      → events b ≡ earlier ++ (after_found after ++ in_doubt next.doubt f) → length (after_found after) ≡ event_count next
+      → (st.removed ≡ 0 → in_doubt st.doubt k ≡ [] → (c : Folder) → P c → entries_in c (map stamp_of (entries_of h)) ≡ entries_of h)
       → history next b ≡ after
   recalls_on next after f a b es P Q was now run same_stamps same_found legal past counts shows =
       recalls_with next after f b (found_on a b new es P Q was now run shows) same_stamps same_found legal past counts

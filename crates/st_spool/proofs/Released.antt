@@ -17,7 +17,7 @@ use Rattle.st_disk.specs.Pairs.{Entry, Files, files_of, IsFileSet}
 use Rattle.st_spool.specs.Rows.{Row, Half, Coming, Pair, Going, Held, Past, Fits, Has, set_row, RanBy}
 use Rattle.st_spool.specs.History.{entries_of}
 use Rattle.st_spool.specs.States.{SpoolState, rows_by, rows_of, with_doubt, with_read, MayBe, AreUpTo, place_in, Placement, covers}
-use Rattle.st_spool.specs.Standing.{StandsFor, Gives, begun}
+use Rattle.st_spool.specs.Standing.{StandsFor, Gives, in_doubt}
 use Rattle.st_spool.specs.Holding.{IsWithout, IsOther, StayRead}
 use Rattle.st_spool.specs.Publishing.{Keeps}
 use Rattle.st_spool.specs.declared.state.Span.{Span}
@@ -155,7 +155,7 @@ swept_keeps W old new st earlier h k stamps holds to stands same_stamps same_hol
                   (still_read st.doubt k old new was.0 m was.1 now (swept_read W old new st earlier h k stamps stands same_stamps spares) (is_read_of st.doubt k (rows_of st.removed st.holds st.last (entries_of h)) (reads was.0) (stands.disk was.0 was.1).read));
             };
       };
-      images = λ first known. ran_widen first new [] (Has rows) (Has rows) (Gives h (begun st.doubt k)) (Gives h (begun st.doubt k)) (gives W old st earlier h k stands) (gives W old st earlier h k stands) (ran first known);
+      images = λ first known. ran_widen first new [] (Has rows) (Has rows) (Gives h (in_doubt st.doubt k)) (Gives h (in_doubt st.doubt k)) (gives W old st earlier h k stands) (gives W old st earlier h k stands) (ran first known);
     }
 
 covers_removed : (sp : List Span) (i n : ℕ) → covers (take i sp ++ drop (suc i) sp) n ≡ true → covers sp n ≡ true

@@ -10,7 +10,7 @@ use Rattle.st_spool.specs.History.{set_of}
 use Rattle.st_spool.specs.States.{SpoolState}
 use Rattle.st_shelf.specs.Origins.{DraftOrigin}
 use Rattle.st_disk.specs.declared.naming.Kind.TheVariants as kind
-use Rattle.st_spool.specs.Standing.{StandsFor, Gives, begun}
+use Rattle.st_spool.specs.Standing.{StandsFor, Gives, in_doubt}
 use Rattle.st_spool.specs.declared.state.Doubt.{Doubt}
 use Rattle.st_spool.specs.declared.state.Doubt.TheVariants.{Unsettled, Settled}
 
@@ -64,14 +64,14 @@ pub record Fails (IsWhole : List ℕ → List ℕ → Type 0) (old new : Option 
     (earlier h : List Event) (f : Files) : Type 0 where
   pub known : KnownBefore old new
   pub stands : StandsFor IsWhole new st earlier h f
-  pub images : (first : Log) → old ≡ Some first → RanInDoubt first new h (begun st.doubt f)
+  pub images : (first : Log) → old ≡ Some first → RanInDoubt first new h (in_doubt st.doubt f)
 
 -- a call with no event: the spool stands for the history as before, with the same event in doubt
 pub record Keeps (IsWhole : List ℕ → List ℕ → Type 0) (old new : Option Log) (st : SpoolState)
     (earlier h : List Event) (f : Files) : Type 0 where
   pub known : KnownBefore old new
   pub stands : StandsFor IsWhole new st earlier h f
-  pub images : (first : Log) → old ≡ Some first → RanAsBefore first new h (begun st.doubt f)
+  pub images : (first : Log) → old ≡ Some first → RanAsBefore first new h (in_doubt st.doubt f)
 
 -- a sealed block and a sealed index, both of this shelf
 pub record IsPairOf (home : ℕ) (block index : DraftOrigin) : Type 0 where

@@ -44,16 +44,16 @@ abbrev pub event_count : SpoolState → ℕ
 event_count st = (length st.stamps - st.found) + st.removed
 
 -- how many events the log has that are in doubt
-abbrev pub begun_count : Doubt → ℕ
-begun_count Nothing = 0
-begun_count (Unsettled t) = 0
-begun_count (Settled t) = 1
-begun_count (Unhidden t) = 0
-begun_count (Hidden t) = 1
+abbrev pub in_doubt_count : Doubt → ℕ
+in_doubt_count Nothing = 0
+in_doubt_count (Unsettled t) = 0
+in_doubt_count (Settled t) = 1
+in_doubt_count (Unhidden t) = 0
+in_doubt_count (Hidden t) = 1
 
 -- how many events the log had before the opening
 abbrev pub earlier_count : SpoolState → Log → ℕ
-earlier_count st log = length (events log) - (event_count st + begun_count st.doubt)
+earlier_count st log = length (events log) - (event_count st + in_doubt_count st.doubt)
 
 -- the events before the opening
 abbrev pub earlier : SpoolState → Log → List Event

@@ -17,23 +17,25 @@ use Rattle.st_spool.specs.declared.state.Doubt.TheVariants.{Nothing, Unsettled, 
 abbrev pub stamp_of : Entry → ℕ
 stamp_of e = e.stamp
 
--- the event in doubt, if any, whose pair has these files
+-- the event of the call that failed, if one did, whether it is in doubt or not: the publication of
+-- a pair with these files, or the removal of its stamp
+abbrev pub failed_event : Doubt → Files → List Event
+failed_event Nothing f = []
+failed_event (Unsettled t) f = Publish (entry t f) ∷ []
+failed_event (Settled t) f = Publish (entry t f) ∷ []
+failed_event (Unhidden t) f = Remove t ∷ []
+failed_event (Hidden t) f = Remove t ∷ []
+
+-- the event in doubt, which a crash may leave or not: that of the failed call, if that call settled
+-- the block or hid the index
 abbrev pub in_doubt : Doubt → Files → List Event
 in_doubt Nothing f = []
-in_doubt (Unsettled t) f = Publish (entry t f) ∷ []
+in_doubt (Unsettled t) f = []
 in_doubt (Settled t) f = Publish (entry t f) ∷ []
-in_doubt (Unhidden t) f = Remove t ∷ []
+in_doubt (Unhidden t) f = []
 in_doubt (Hidden t) f = Remove t ∷ []
 
--- the event in doubt, if the failed call settled its block or hid its index
-abbrev pub begun : Doubt → Files → List Event
-begun Nothing f = []
-begun (Unsettled t) f = []
-begun (Settled t) f = Publish (entry t f) ∷ []
-begun (Unhidden t) f = []
-begun (Hidden t) f = Remove t ∷ []
-
--- the events of a history after its first, which found pairs
+-- the events of a history after its first one, which is what was found at the opening
 abbrev pub after_found : List Event → List Event
 after_found [] = []
 after_found (e ∷ h) = h
@@ -50,32 +52,33 @@ abbrev pub Gives : List Event → List Event → Folder → Type 0
 Gives h [] c = PairsIn c (set_of h)
 Gives h (e ∷ es) c = Either (set_of h) (set_of (h ++ e ∷ [])) c
 
--- nothing is in doubt but after a call that failed
+-- until a call fails nothing is in doubt and no failed call is counted; from then on some are
 abbrev pub NoDoubtUntilHalted : Option ℕ → Doubt → ℕ → Type 0
 NoDoubtUntilHalted None doubt halts = (doubt ≡ Nothing) × (halts ≡ 0)
 NoDoubtUntilHalted (Some since) doubt halts = 0 < halts
 
--- what is so of the shelf, where its log is known
+-- what is so of the shelf of such a spool, with its log
 pub record OnDisk (IsWhole : List ℕ → List ℕ → Type 0) (log : Log) (st : SpoolState)
     (earlier h : List Event) (f : Files) : Type 0 where
   -- under the names of each stamp each image has what the state allows
   pub images : Each log (Has (rows_by st f (entries_of h)))
   -- the shelf's events are those before the opening, those of the history since, and the one in
-  -- doubt just if the failed call settled its block or hid its index
-  pub past : events log ≡ earlier ++ (after_found h ++ begun st.doubt f)
-  pub whole : PublishWhole IsWhole (h ++ in_doubt st.doubt f)
+  -- doubt, if there is one
+  pub past : events log ≡ earlier ++ (after_found h ++ in_doubt st.doubt f)
+  -- the pairs that were published are whole, and so is that of a publication that failed
+  pub whole : PublishWhole IsWhole (h ++ failed_event st.doubt f)
   -- the history is the one that the state and the log tell
   pub recalls : history st log ≡ h
-  -- what is read under the names of each stamp, that of the doubt among them
+  -- what is read under the names of each stamp, also under those of the failed call's pair
   pub read : Has (read_rows st f (entries_of h)) (reads log)
 
--- A spool with this state, over a shelf of this log, whose events before the opening are given,
--- stands for the history h; these are the files of the pair in doubt.
+-- A spool with this state, over a shelf with this log if it is known, stands for the history h.
+-- The events before its opening are `earlier`, and `f` has the files of the failed call's pair.
 pub record StandsFor (IsWhole : List ℕ → List ℕ → Type 0) (known : Option Log) (st : SpoolState)
     (earlier h : List Event) (f : Files) : Type 0 where
-  -- with the event in doubt, if there is one, this is a history too
+  -- this is a history, and so it is with the failed call's event after it
   pub legal : Legal st.limit h
-  pub more : Legal st.limit (h ++ in_doubt st.doubt f)
+  pub more : Legal st.limit (h ++ failed_event st.doubt f)
   -- what is kept of the history
   pub stamps : map stamp_of (entries_of h) ≡ st.stamps
   pub set : set_of h ≡ drop st.removed (entries_of h)
@@ -87,7 +90,7 @@ pub record StandsFor (IsWhole : List ℕ → List ℕ → Type 0) (known : Optio
   -- the held sets, and the one that was asked for last
   pub holds : AreWithin (length (entries_of h)) st.holds
   pub asked : IsWithin (length (entries_of h)) st.asked
-  -- the event in doubt
+  -- the call that failed
   pub no_doubt : NoDoubtUntilHalted st.halted st.doubt st.halts
   pub doubt : MayBe st.doubt f st.removed st.last (entries_of h)
   -- the shelf

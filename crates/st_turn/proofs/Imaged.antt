@@ -11,7 +11,7 @@ use Rattle.st_spool.specs.declared.state.Doubt.{Doubt}
 use Rattle.st_spool.specs.History.{without, entries_after, entries_of, MayFollow, Legal}
 use Rattle.st_spool.specs.States.{SpoolState, AreUpTo}
 use Rattle.st_spool.specs.Recalling.{history, earlier, event_count}
-use Rattle.st_spool.specs.Standing.{StandsFor, OnDisk, NoDoubtUntilHalted, Gives, begun, after_found}
+use Rattle.st_spool.specs.Standing.{StandsFor, OnDisk, NoDoubtUntilHalted, Gives, in_doubt, after_found}
 use Rattle.st_spool.specs.Publishing.{RanTo, RanInDoubt, RanAsBefore, Fails, Keeps}
 use Rattle.st_spool.specs.Holding.{with_hold}
 use Rattle.st_spool.specs.Covers.{CoversInDoubt}
@@ -63,8 +63,8 @@ top_self limit n (Publish e ∷ h) legal up = absurd legal
 top_self limit n (Remove s ∷ h) legal up = absurd legal
 
 -- nothing is in doubt of a spool that has not failed
-no_doubt_of : (halted : Option ℕ) (d : Doubt) (halts : ℕ) (f : Files) → NoDoubtUntilHalted halted d halts → halted ≡ None → begun d f ≡ []
-no_doubt_of None d halts f no_doubt is = ap (λ (c : Doubt). begun c f) no_doubt.0
+no_doubt_of : (halted : Option ℕ) (d : Doubt) (halts : ℕ) (f : Files) → NoDoubtUntilHalted halted d halts → halted ≡ None → in_doubt d f ≡ []
+no_doubt_of None d halts f no_doubt is = ap (λ (c : Doubt). in_doubt c f) no_doubt.0
 no_doubt_of (Some since) d halts f no_doubt is = absurd (cc)
 
 -- a hold changes none of it
@@ -85,20 +85,20 @@ module _ (W : List ℕ → List ℕ → Type 0) where
   earlier_at : (log : Log) (st : SpoolState) (before h : List Event) (f : Files) → OnDisk W log st before h f → length (after_found h) ≡ event_count st → earlier st log ≡ before
   earlier_at log st before h f disk counts =
       ap (λ (n : ℕ). take n (events log)) (earlier_long st log before h f disk.past counts)
-      ∙ ap (take (length before)) disk.past ∙ take_first before (after_found h ++ begun st.doubt f)
+      ∙ ap (take (length before)) disk.past ∙ take_first before (after_found h ++ in_doubt st.doubt f)
 
   past_at : (log : Log) (st : SpoolState) (before h : List Event) (f : Files) → OnDisk W log st before h f → length (after_found h) ≡ event_count st
-      → events log ≡ earlier st log ++ (after_found (history st log) ++ begun st.doubt f)
+      → events log ≡ earlier st log ++ (after_found (history st log) ++ in_doubt st.doubt f)
   past_at log st before h f disk counts =
-      disk.past ∙ ap (λ (xs : List Event). xs ++ (after_found h ++ begun st.doubt f)) (sym (earlier_at log st before h f disk counts))
-      ∙ ap (λ (xs : List Event). earlier st log ++ (after_found xs ++ begun st.doubt f)) (sym disk.recalls)
+      disk.past ∙ ap (λ (xs : List Event). xs ++ (after_found h ++ in_doubt st.doubt f)) (sym (earlier_at log st before h f disk counts))
+      ∙ ap (λ (xs : List Event). earlier st log ++ (after_found xs ++ in_doubt st.doubt f)) (sym disk.recalls)
 
   -- what comes after the history is in doubt
   doubt_at : (log : Log) (st : SpoolState) (before h doubt : List Event) (f : Files) → OnDisk W log st before h f → length (after_found h) ≡ event_count st
-      → events log ≡ earlier st log ++ (after_found (history st log) ++ doubt) → doubt ≡ begun st.doubt f
+      → events log ≡ earlier st log ++ (after_found (history st log) ++ doubt) → doubt ≡ in_doubt st.doubt f
   doubt_at log st before h doubt f disk counts past =
-      append_cancel_left (after_found (history st log)) doubt (begun st.doubt f)
-      (append_cancel_left (earlier st log) (after_found (history st log) ++ doubt) (after_found (history st log) ++ begun st.doubt f)
+      append_cancel_left (after_found (history st log)) doubt (in_doubt st.doubt f)
+      (append_cancel_left (earlier st log) (after_found (history st log) ++ doubt) (after_found (history st log) ++ in_doubt st.doubt f)
       (sym past ∙ past_at log st before h f disk counts))
 
   -- a state keeps its own images
@@ -112,11 +112,11 @@ module _ (W : List ℕ → List ℕ → Type 0) where
         more = [];
         history_is = sym (append-nil (history st first));
         last_is = sym (top_self st.limit st.last (history st first) (subst (λ (g : List Event). Legal st.limit g) (sym disk.recalls) stands.legal) (subst (λ (g : List Event). AreUpTo st.last (entries_of g)) (sym disk.recalls) stands.last));
-        doubt = begun st.doubt f;
+        doubt = in_doubt st.doubt f;
         past = past_at first st before h f disk stands.counts;
         no_doubt = λ none. no_doubt_of st.halted st.doubt st.halts f stands.no_doubt none;
         covers = λ none.
-            covers_more (history st first) [] (begun st.doubt f) first first
+            covers_more (history st first) [] (in_doubt st.doubt f) first first
             (started first (Gives (history st first) [])
             (λ c left. subst (λ (g : List Event). Gives g [] c) (sym disk.recalls)
             (subst (λ (d : List Event). Gives h d c) (no_doubt_of st.halted st.doubt st.halts f stands.no_doubt none)
@@ -135,14 +135,14 @@ module _ (W : List ℕ → List ℕ → Type 0) where
         ∙ ap (top_stamp b.last) (ap (λ (g : List Event). g ++ more) was.recalls ∙ sym is.recalls)
 
     -- by what a call makes of the images
-    images_on : (b.halted ≡ None → CoversInDoubt (history b first) kept.more (begun x.doubt f) first mid → CoversInDoubt (history b first) (kept.more ++ more) (begun y.doubt k) first now)
+    images_on : (b.halted ≡ None → CoversInDoubt (history b first) kept.more (in_doubt x.doubt f) first mid → CoversInDoubt (history b first) (kept.more ++ more) (in_doubt y.doubt k) first now)
         → KeepsImages b y first now
     images_on goes = record {
       earlier_is = earlier_at now y before (h ++ more) k is counts ∙ sym (earlier_at mid x before h f was counted) ∙ kept.earlier_is;
       more = kept.more ++ more;
       last_is = last_now;
       history_is = is.recalls ∙ ap (λ (xs : List Event). xs ++ more) (sym history_so_far) ∙ append_assoc (history b first) kept.more more;
-      doubt = begun y.doubt k;
+      doubt = in_doubt y.doubt k;
       past = past_at now y before (h ++ more) k is counts;
       no_doubt = λ none. no_doubt_of y.halted y.doubt y.halts k no_doubt none;
       covers = λ none. goes none (subst (λ (d : List Event). CoversInDoubt (history b first) kept.more d first mid) (doubt_at mid x before h kept.doubt f was counted kept.past) (kept.covers none));
@@ -161,19 +161,19 @@ module _ (W : List ℕ → List ℕ → Type 0) where
         let there = keeps.stands.disk now is in
         let none = append-nil h in
         let past : events now ≡ events mid = ap events (known_log now run.log (sym is ∙ run.is)) ∙ run.past ∙ append-nil (events mid) in
-        let doubts : begun x.doubt f ≡ begun y.doubt f =
-        append_cancel_left (after_found h) (begun x.doubt f) (begun y.doubt f)
-        (append_cancel_left before (after_found h ++ begun x.doubt f) (after_found h ++ begun y.doubt f)
+        let doubts : in_doubt x.doubt f ≡ in_doubt y.doubt f =
+        append_cancel_left (after_found h) (in_doubt x.doubt f) (in_doubt y.doubt f)
+        (append_cancel_left before (after_found h ++ in_doubt x.doubt f) (after_found h ++ in_doubt y.doubt f)
         (sym here.past ∙ sym past ∙ there.past)) in
         images_on b x y first mid now so_far before h [] f f here stands.counts
         (subst (λ (g : List Event). OnDisk W now y before g f) (sym none) there)
         (ap (λ (g : List Event). length (after_found g)) none ∙ keeps.stands.counts)
         keeps.stands.no_doubt last
         (λ free covers.
-        subst (λ (es : List Event). CoversInDoubt (history b first) es (begun y.doubt f) first now) (sym (append-nil so_far.more))
-        (covers_doubt (history b first) so_far.more (begun y.doubt f) first mid now new
+        subst (λ (es : List Event). CoversInDoubt (history b first) es (in_doubt y.doubt f) first now) (sym (append-nil so_far.more))
+        (covers_doubt (history b first) so_far.more (in_doubt y.doubt f) first mid now new
         (subst (λ (d : List Event). CoversInDoubt (history b first) so_far.more d first mid) doubts covers)
-        (subst (λ (g : List Event). RanAsBefore mid new g (begun y.doubt f)) (sym (sym so_far.history_is ∙ here.recalls)) run)
+        (subst (λ (g : List Event). RanAsBefore mid new g (in_doubt y.doubt f)) (sym (sym so_far.history_is ∙ here.recalls)) run)
         is))
 
     -- a publication or a removal
@@ -186,7 +186,7 @@ module _ (W : List ℕ → List ℕ → Type 0) where
         let here = stands.disk mid was in
         images_on b x y first mid now so_far before h (e ∷ []) f k here stands.counts (after.disk now is) after.counts after.no_doubt last
         (λ free covers.
-        covers_more (history b first) (so_far.more ++ e ∷ []) (begun y.doubt k) first now
+        covers_more (history b first) (so_far.more ++ e ∷ []) (in_doubt y.doubt k) first now
         (covers_on (history b first) so_far.more e first mid now new
         (covers_without_doubt (history b first) so_far.more first mid
         (subst (λ (d : List Event). CoversInDoubt (history b first) so_far.more d first mid) (no_doubt_of x.halted x.doubt x.halts f stands.no_doubt sound) covers))
@@ -206,9 +206,9 @@ module _ (W : List ℕ → List ℕ → Type 0) where
         (ap (λ (g : List Event). length (after_found g)) none ∙ fails.stands.counts)
         fails.stands.no_doubt last
         (λ free covers.
-        subst (λ (es : List Event). CoversInDoubt (history b first) es (begun y.doubt k) first now) (sym (append-nil so_far.more))
-        (covers_fault (history b first) so_far.more (begun y.doubt k) first mid now new
+        subst (λ (es : List Event). CoversInDoubt (history b first) es (in_doubt y.doubt k) first now) (sym (append-nil so_far.more))
+        (covers_fault (history b first) so_far.more (in_doubt y.doubt k) first mid now new
         (covers_without_doubt (history b first) so_far.more first mid
         (subst (λ (d : List Event). CoversInDoubt (history b first) so_far.more d first mid) (no_doubt_of x.halted x.doubt x.halts f stands.no_doubt sound) covers))
-        (subst (λ (g : List Event). RanInDoubt mid new g (begun y.doubt k)) (sym (sym so_far.history_is ∙ here.recalls)) (fails.images mid was))
+        (subst (λ (g : List Event). RanInDoubt mid new g (in_doubt y.doubt k)) (sym (sym so_far.history_is ∙ here.recalls)) (fails.images mid was))
         is))

@@ -5,7 +5,7 @@ use Rattle.st_disk.specs.Pairs.{Entry, Files}
 use Rattle.st_disk.proofs.OneSet.{one_file_set}
 use Rattle.st_spool.specs.Entering.{FailsToEnter}
 use Rattle.st_spool.specs.Publishing.{RanAsBefore}
-use Rattle.st_spool.specs.Standing.{begun}
+use Rattle.st_spool.specs.Standing.{in_doubt}
 use Rattle.st_spool.specs.States.{SpoolView}
 use Rattle.st_spool.specs.declared.state.Doubt.{Doubt}
 use Rattle.st_commands.specs.Commands.{KeepsPairs}
@@ -60,5 +60,5 @@ returns-clause-images g c = λ first known.
     let both = keeps_then (D.log c.hold.new.self.shelf) (D.log c.report_pairs-outcome.new.spool.shelf) (D.log c.release.new.self.shelf) c.report_pairs-outcome.new.spool.state c.release.new.self.state (events first) h f released one two in
     let here = ap D.log (ap (λ (v : SpoolView g.row.D.Denot). v.shelf) c.in-Ok-hold.ensures.state.1) in
     let clears = stays_clear first (D.log c.in-Ok.spool.shelf) (D.log c.release.new.self.shelf) entered.pairs entered.found entered.images
-    (λ m is. subst (λ (d : Doubt). RanAsBefore m (D.log c.release.new.self.shelf) h (begun d f)) no_doubt (both.images m (here ∙ is))) in
+    (λ m is. subst (λ (d : Doubt). RanAsBefore m (D.log c.release.new.self.shelf) h (in_doubt d f)) no_doubt (both.images m (here ∙ is))) in
     subst (λ (o : Option Log). KeepsPairs first o c.report_pairs-outcome.result) (sym (ap D.log c.close-2.ensures)) (keeps_pairs first (D.log c.release.new.self.shelf) c.report_pairs-outcome.result clears)

@@ -6,7 +6,7 @@ use Rattle.st_disk.specs.Pairs.{Entry, Files}
 use Rattle.st_shelf.specs.Loans.{LoansView}
 use Rattle.st_spool.specs.Publishing.{RanAsBefore}
 use Rattle.st_spool.specs.Recalling.{history_of, taken_of}
-use Rattle.st_spool.specs.Standing.{begun}
+use Rattle.st_spool.specs.Standing.{in_doubt}
 use Rattle.st_spool.specs.States.{SpoolState}
 use Rattle.st_spool.specs.declared.state.Doubt.{Doubt}
 use Rattle.st_answer.specs.Bounds.{ReadsForAnswer}
@@ -73,7 +73,7 @@ returns-clause-images g c first known =
     (λ m is.
     let start = ((kept_none D.log D.id D.faults a).keeps (events first) h f stands).images m is in
     let still = became.still m (events first) h f (record { stands = stands; images = start }) in
-    subst (λ (d : Doubt). RanAsBefore m (D.log b.shelf) h (begun d f)) no_doubt still.images) in
+    subst (λ (d : Doubt). RanAsBefore m (D.log b.shelf) h (in_doubt d f)) no_doubt still.images) in
     subst (λ (o : Option Log). KeepsPairs first o c.outcome_of.result) (sym (ap D.log c.close.ensures)) (keeps_pairs first (D.log b.shelf) c.outcome_of.result clears)
 
 pub returns-clause-disk : goal.returns-clause-disk
