@@ -12,7 +12,7 @@ use Rattle.st_disk.specs.Pairs.{Entry, Files}
 use Rattle.st_lane.specs.Sealing.{AreWhole}
 use Rattle.st_pairs.specs.Pairs.{IsWholePair}
 use Rattle.st_spool.specs.History.{set_of}
-use Rattle.st_spool.specs.Placing.{entry}
+use Rattle.st_spool.specs.Settling.{entry}
 use Rattle.st_spool.specs.Publishing.{next_stamp, failed, FailsToPublish}
 use Rattle.st_spool.specs.Standing.{StandsFor, NoDoubtUntilHalted, failed_event, in_doubt}
 use Rattle.st_rows.specs.Whole.{IsWhole}

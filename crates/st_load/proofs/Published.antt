@@ -11,7 +11,7 @@ use Rattle.st_disk.specs.Events.{Event, Publish}
 use Rattle.st_disk.specs.Pairs.{Files}
 use Rattle.st_lane.specs.Sealing.{AreWhole}
 use Rattle.st_pairs.specs.Pairs.{IsWholePair}
-use Rattle.st_spool.specs.Placing.{entry}
+use Rattle.st_spool.specs.Settling.{entry}
 use Rattle.st_spool.specs.Publishing.{next_stamp, published, MayPublish, Publishes, Keeps, RanTo, RanInDoubt}
 use Rattle.st_spool.specs.Standing.{StandsFor, in_doubt}
 use Rattle.st_spool.specs.States.{SpoolState, SpoolView}

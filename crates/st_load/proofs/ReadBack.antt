@@ -6,7 +6,7 @@ use Rattle.st_disk.specs.Disks.{Log, reads}
 use Rattle.st_disk.specs.Events.{Event, Publish, Remove}
 use Rattle.st_disk.specs.Pairs.{Entry, Files, PairsIn, IsFileSet}
 use Rattle.st_spool.specs.History.{set_of, entries_of}
-use Rattle.st_spool.specs.Placing.{entry}
+use Rattle.st_spool.specs.Settling.{entry}
 use Rattle.st_spool.specs.Rows.{Row, Pair, Held, Has, set_row}
 use Rattle.st_spool.specs.Standing.{StandsFor, in_doubt}
 use Rattle.st_spool.specs.States.{SpoolState, rows_of, with_read, MayBe, place_in}

@@ -14,7 +14,7 @@ ghost use Rattle.st_load.specs.Lanes.{IsLaneOf, KeepsSpool};
 ghost use Rattle.st_load.specs.Loading.{situation};
 ghost use Rattle.st_load.specs.Publishing.{Ages, AgesAll, IsUnpublished, IsUnpublishedState, WritesLine, Finishes, KeepsLimitAndHolds};
 ghost use Rattle.st_pairs.specs.Pairs.{IsWholePair};
-ghost use Rattle.st_spool.specs.Placing.{files, entry};
+ghost use Rattle.st_spool.specs.Settling.{files, entry};
 ghost use Rattle.st_spool.specs.Publishing.{Publishes, IsPairOf, published, next_stamp, MayPublish};
 ghost use Rattle.st_spool.specs.Standing.{StandsFor};
 

@@ -7,7 +7,7 @@ use Rattle.st_disk.specs.Events.{Event, Publish, Remove}
 use Rattle.st_disk.proofs.Sets.{files_more, files_less}
 use Rattle.st_disk.specs.Pairs.{Entry, Files, files_of, files_at, PairsIn, IsBelow, IsFileSet}
 use Rattle.st_spool.specs.Rows.{Row, Free, Half, Coming, Pair, Going, Has, set_row, pair_before, IsSetOf, Either}
-use Rattle.st_spool.specs.Placing.{entry}
+use Rattle.st_spool.specs.Settling.{entry}
 use Rattle.st_spool.specs.History.{set_of, entries_of, without}
 use Rattle.st_spool.specs.States.{SpoolState, rows_of, with_doubt, MayBe, Placement, place_in}
 use Rattle.st_spool.specs.Standing.{StandsFor, Gives, in_doubt}

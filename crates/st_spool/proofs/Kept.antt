@@ -21,7 +21,7 @@ use Rattle.st_spool.specs.States.{SpoolState, SpoolView, rows_by, rows_of, with_
 use Rattle.st_spool.specs.Standing.{StandsFor, Gives, in_doubt, stamp_of}
 use Rattle.st_spool.specs.Publishing.{Keeps, Fails, RanTo}
 use Rattle.st_spool.specs.Aging.{Removes, StoppedBy}
-use Rattle.st_spool.specs.Placing.{FailsToHide}
+use Rattle.st_spool.specs.Settling.{FailsToHide}
 use Rattle.st_spool.specs.declared.settling.Stopped.{Stopped}
 use Rattle.st_spool.specs.declared.settling.Stopped.TheVariants.{Before, After}
 use Rattle.st_disk.specs.Events as event

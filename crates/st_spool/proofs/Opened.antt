@@ -15,7 +15,7 @@ use Rattle.st_spool.specs.Rows.{Row, Free, Past, Pair, Held, Fits, Has, pair_bef
 use Rattle.st_disk.specs.Runs.{Each}
 use Rattle.st_disk.proofs.Images.{leaves_now}
 use Rattle.st_spool.specs.Recalling.{entries_in, log_before}
-use Rattle.st_spool.specs.Placing.{files, entry}
+use Rattle.st_spool.specs.Settling.{files, entry}
 use Rattle.st_spool.specs.States.{SpoolState, place_in, covers, row_at, rows_of, AreUpTo}
 use Rattle.st_spool.specs.Standing.{StandsFor, OnDisk, stamp_of}
 use Rattle.st_spool.specs.Entering.{Is, SamePairs, pairs_alone, beside, ArePaired, IsLastStamp, flushed_log, opened, Opens, Enters}

@@ -12,7 +12,7 @@ use Rattle.st_disk.specs.Runs.{Each, Ran}
 use Rattle.st_disk.specs.Pairs.{Entry, Files, PairsIn, IsFileSet}
 use Rattle.st_disk.proofs.Reading.{known_log}
 use Rattle.st_spool.specs.Rows.{Row, Free, Half, Coming, Pair, Fits, Has, set_row, RanBy}
-use Rattle.st_spool.specs.Placing.{entry}
+use Rattle.st_spool.specs.Settling.{entry}
 use Rattle.st_spool.specs.History.{set_of, entries_of, Legal}
 use Rattle.st_spool.specs.Recalling.{entries_in}
 use Rattle.st_spool.specs.States.{SpoolState, rows_of, with_doubt, MayBe, AreUpTo, IsWithin}

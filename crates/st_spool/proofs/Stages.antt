@@ -18,7 +18,7 @@ use Rattle.st_disk.proofs.Runs.{ran_start, ran_widen, ran_quiet, ran_looks, ran_
 use Rattle.st_disk.proofs.Reading.{known_log}
 use Rattle.st_disk.proofs.Images.{leaves_now}
 use Rattle.st_spool.specs.Rows.{Row, Free, Half, Coming, Pair, Going, Held, Fits, Has, set_row, pair_before, IsSetOf, RanBy}
-use Rattle.st_spool.specs.Placing.{entry}
+use Rattle.st_spool.specs.Settling.{entry}
 use Rattle.st_spool.proofs.Keeping.{by_test, is_same, widen, widen_from, index_keeps, block_keeps, hide_keeps, draft_keeps, row_here, set_has, has_here, has_other}
 
 -- the row set at a stamp takes what the row itself takes

@@ -6,7 +6,7 @@ use Rattle.st_disk.specs.Pairs.{Entry, Files, files_of}
 use Rattle.st_disk.specs.Events.{Event, Remove}
 use Rattle.st_spool.specs.States.{SpoolState}
 use Rattle.st_spool.specs.Standing.{StandsFor}
-use Rattle.st_spool.specs.Placing.{FailsToHide}
+use Rattle.st_spool.specs.Settling.{FailsToHide}
 use Rattle.st_spool.specs.Publishing.{failed, RanTo, Fails}
 use Rattle.st_spool.specs.declared.state.Doubt.{Doubt}
 use Rattle.st_spool.specs.declared.state.Doubt.TheVariants.{Nothing, Unsettled, Settled, Unhidden, Hidden}

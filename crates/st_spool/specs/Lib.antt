@@ -1,6 +1,6 @@
 pub mod History
 pub mod Rows
-pub mod Placing
+pub mod Settling
 pub mod States
 pub mod Recalling
 pub mod Standing

@@ -7,7 +7,7 @@ use Rattle.st_disk.specs.Pairs.{Entry, Files, IsFileSet, PairsIn}
 use Rattle.st_disk.specs.Events.{Event, Found, Publish, Remove, events}
 use Rattle.st_spool.specs.Rows.{Has, Either}
 use Rattle.st_spool.specs.History.{set_of, entries_of, Legal}
-use Rattle.st_spool.specs.Placing.{entry}
+use Rattle.st_spool.specs.Settling.{entry}
 use Rattle.st_spool.specs.States.{SpoolState, rows_by, read_rows, MayBe, AreUpTo, IsWithin, AreWithin}
 use Rattle.st_spool.specs.Recalling.{history, event_count}
 use Rattle.st_spool.specs.declared.state.Doubt.{Doubt}

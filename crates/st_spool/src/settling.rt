@@ -11,7 +11,7 @@ ghost use Rattle.st_disk.specs.Pairs.{Files};
 ghost use Rattle.st_disk.specs.Events.{Event};
 ghost use Rattle.st_spool.specs.Rows.{Row, Free, Past, Pair, Has, RanBy};
 ghost use Rattle.st_spool.specs.Holding.{is_parked, index_name};
-ghost use Rattle.st_spool.specs.Placing.{Placed, Hidden, FailsToHide, files};
+ghost use Rattle.st_spool.specs.Settling.{SettlesPair, Hidden, FailsToHide, files};
 
 use crate::state::Doubt;
 use st_shelf::{End, Kind, Name, SealedPair, Shelf};
@@ -26,7 +26,7 @@ pub enum Stopped {
 // Settles the index of a pair, then its block, under a stamp of which nothing is there, and makes
 // both durable. The index comes first: a crash may leave it alone, which is no pair. What was not
 // settled is abandoned.
-pub(crate) fn place<D: Shelf>(
+pub(crate) fn settle_pair<D: Shelf>(
     shelf: &mut D,
     pair: SealedPair<D::Draft>,
     stamp: u64,
@@ -40,7 +40,8 @@ pub(crate) fn place<D: Shelf>(
     // what it does
     ensures placed { (first : Log) (rows : ℕ → Row) → D.log shelf.old ≡ Some first
         → Each first (Has rows) → rows stamp ≡ Free
-        → Placed first (D.log shelf.new) rows stamp (files (given (D.Draft.sealed_bytes pair.block))
+        → SettlesPair first (D.log shelf.new) rows stamp
+        (files (given (D.Draft.sealed_bytes pair.block))
         (given (D.Draft.sealed_bytes pair.index))) result }
     // the counts
     ensures known { KnownBefore (D.log shelf.old) (D.log shelf.new) }

@@ -17,7 +17,7 @@ use Rattle.st_spool.specs.Standing.{StandsFor, Stands, NoDoubtUntilHalted}
 use Rattle.st_spool.specs.Recalling.{history_of, event_count}
 use Rattle.st_disk.specs.Folders.{given}
 use Rattle.st_shelf.specs.declared.shelves.SealedPair.{SealedPair}
-use Rattle.st_spool.specs.Placing.{files, entry}
+use Rattle.st_spool.specs.Settling.{files, entry}
 use Rattle.st_spool.specs.Publishing.{Keeps, MayPublish, next_stamp, published}
 use Rattle.st_spool.specs.declared.refusals.PublishErr.{PublishErr}
 use Rattle.st_spool.specs.declared.refusals.PublishErr.TheVariants as publish

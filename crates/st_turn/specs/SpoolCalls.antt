@@ -22,7 +22,7 @@ use Rattle.st_turn.specs.declared.refusals.SharedPublishErr.TheVariants as share
 use Rattle.st_spool.specs.History.{set_of}
 use Rattle.st_spool.specs.States.{SpoolView, held}
 use Rattle.st_spool.specs.Standing.{StandsFor, Stands}
-use Rattle.st_spool.specs.Placing.{files, entry}
+use Rattle.st_spool.specs.Settling.{files, entry}
 use Rattle.st_spool.specs.Publishing.{next_stamp, MayPublish, published as with_pair, FailsToPublish, Publishes, Fails, Keeps}
 use Rattle.st_spool.specs.Aging.{pair_count, MayAge, Ages, AgesTo}
 use Rattle.st_spool.specs.Refusing.{RefusesPair, RefusesAge}

@@ -8,13 +8,13 @@ ghost use Rattle.st_disk.specs.Folders.{given};
 ghost use Rattle.st_disk.specs.Pairs.{Files};
 ghost use Rattle.st_disk.specs.Events.{Event};
 ghost use Rattle.st_spool.specs.Refusing.{RefusesPair};
-ghost use Rattle.st_spool.specs.Placing.{files, entry};
+ghost use Rattle.st_spool.specs.Settling.{files, entry};
 ghost use Rattle.st_spool.specs.Standing.{StandsFor};
 ghost use Rattle.st_spool.specs.Publishing.{next_stamp, MayPublish, published, FailsToPublish, Publishes, Fails, Keeps, IsPairOf};
 
 use crate::pair_rule::PairRule;
 use crate::refusals::{DiskFault, PublishErr};
-use crate::settling::{Stopped, place};
+use crate::settling::{Stopped, settle_pair};
 use crate::spool::Spool;
 use crate::state::Doubt;
 use st_base::NoMemory;
@@ -129,7 +129,7 @@ impl<D: Shelf, W: PairRule> Spool<D, W> {
             });
         }
         let stamp = floor.max(self.last + 1);
-        match place(&mut self.shelf, pair, stamp) {
+        match settle_pair(&mut self.shelf, pair, stamp) {
             Ok(()) => {
                 self.last = stamp;
                 let _ = self.stamps.push(stamp);

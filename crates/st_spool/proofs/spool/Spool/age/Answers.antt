@@ -10,7 +10,7 @@ use Rattle.st_disk.proofs.Runs.{known_then}
 use Rattle.st_spool.specs.Rows.{Row, Pair, Going, Has, set_row, RanBy}
 use Rattle.st_spool.specs.declared.settling.Stopped.{Stopped}
 use Rattle.st_spool.specs.declared.settling.Stopped.TheVariants.{Before, After}
-use Rattle.st_spool.specs.Placing.{Hidden}
+use Rattle.st_spool.specs.Settling.{Hidden}
 use Rattle.st_spool.proofs.Kept.{stands_from, fails_moved, removes_moved, stopped_before, stopped_after}
 use Rattle.st_spool.proofs.AgedStates.{leaving, leaving_as, there_read, parked_free, aged_run, aged_found, aged_stands, aged_images, unhidden_fails, hidden_fails}
 use Rattle.st_spool.proofs.spool.Spool.age.Goals as goal

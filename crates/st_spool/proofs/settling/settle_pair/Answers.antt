@@ -5,11 +5,11 @@ use Rattle.st_disk.specs.declared.changes.Call.TheVariants.{Flush}
 use Rattle.st_disk.specs.Folders.{given}
 use Rattle.st_disk.proofs.Reading.{reads_still, reads_looked, flush_spares}
 use Rattle.st_spool.specs.Rows.{Half, Coming, set_row}
-use Rattle.st_spool.specs.Placing.{files, entry}
+use Rattle.st_spool.specs.Settling.{files, entry}
 use Rattle.st_disk.specs.Events.{Publish}
 use Rattle.st_spool.proofs.Stages.{half_start, looks, abandons, half_settled, settled, index_flushed, index_looks, block_flushed}
 use Rattle.st_spool.proofs.Sparing.{index_spares, block_spares}
-use Rattle.st_spool.proofs.settling.place.Goals as goal
+use Rattle.st_spool.proofs.settling.settle_pair.Goals as goal
 
 pub settle-requires-2-clause-free : goal.settle-requires-2-clause-free
 settle-requires-2-clause-free g c =

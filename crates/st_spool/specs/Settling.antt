@@ -22,12 +22,13 @@ entry s f = record { stamp = s; block = f.block; index = f.index }
 -- The files of a pair were settled under a stamp that was free. At Ok each crash leaves the pair; a
 -- call that was stopped before it settled the block leaves at most half of it, and one that was
 -- stopped later leaves both files as they are read.
-abbrev pub Placed : Log → Option Log → (ℕ → Row) → ℕ → Files → Result (Unit {0}) Stopped → Type 0
-Placed first new rows t f (Ok v) =
+abbrev pub SettlesPair :
+    Log → Option Log → (ℕ → Row) → ℕ → Files → Result (Unit {0}) Stopped → Type 0
+SettlesPair first new rows t f (Ok v) =
     RanBy first new (Publish (entry t f) ∷ []) (set_row rows t (Coming f)) (set_row rows t (Pair f))
-Placed first new rows t f (Err Before) =
+SettlesPair first new rows t f (Err Before) =
     RanBy first new [] (set_row rows t (Half f)) (set_row rows t (Half f))
-Placed first new rows t f (Err After) =
+SettlesPair first new rows t f (Err After) =
     RanBy first new (Publish (entry t f) ∷ []) (set_row rows t (Coming f))
     (set_row rows t (Coming f))
     × Reads new (Block t) (λ v. v ≡ Some f.block) × Reads new (Index t) (λ v. v ≡ Some f.index)
