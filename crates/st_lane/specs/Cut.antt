@@ -4,8 +4,8 @@ use Rattle.std.specs.Prelude.{◌≡◌, ℕ, ◌<◌, ◌≤◌, List, [], ◌�
 use Rattle.st_base.specs.Records.{Rec}
 use Rattle.st_block.specs.BlockText.{IsShort, blocks}
 
--- Records are the longest prefix of themselves and the rest whose file has at most this many
--- blocks: a file of them and one or more of the rest has more.
+-- The list `first` is the longest prefix of `first ++ rest` whose file has at most `most` blocks: a
+-- file of it and of one or more of the rest has more. It has at least one record.
 pub record IsLongest (size most : ℕ) (first rest : List Rec) : Type 0 where
   pub some : 1 ≤ length first
   pub fits : length (blocks size first) ≤ most
@@ -25,7 +25,7 @@ pub record Cut (size most : ℕ) (rs : List Rec) (lists : List (List Rec)) : Typ
   pub short : All (IsShort size) rs
   pub are : AreLongest size most lists rs
 
--- these records are a list of the cut, wherever this record comes next: a file of them has at most
--- this many blocks, and with the record more
+-- The file of these records and of this one has more than `most` blocks. So a list of the cut that
+-- begins with these records ends with them, if this record is the next.
 abbrev pub EndsList : ℕ → ℕ → List Rec → Rec → Type 0
 EndsList size most rs r = most < length (blocks size (rs ++ r ∷ []))

@@ -1,4 +1,4 @@
--- What a lane keeps of its records: the block at hand, and the index of all of them.
+-- What a lane keeps of its records: those of the block at hand, and the index of all of them.
 use Rattle.std.specs.Prelude.{◌≡◌, ℕ, ◌+◌, ◌*◌, ◌<◌, ◌≤◌, List, [], ◌∷◌, ◌++◌, length, All, Option, Result, Ok, Err, MatchResult, IsSome}
 use Rattle.std.specs.Io.KnownBytes.{Appends}
 use Rattle.st_base.specs.Records.{Rec, InRange}
@@ -84,14 +84,14 @@ IsPlace f r place.Next =
 IsPlace f r place.Nowhere = IsFull f r
 IsPlace f r place.TooLong = IsShort f.size r → ⊥
 
--- one record more, or after an error the same ones
+-- at Ok there is this record after the others, and after an error there are the same ones
 abbrev pub Adds : {T E : Type 0} → FillingView → FillingView → Rec → Result T E → Type 0
 Adds old new r result =
     (rs : List Rec) → Fills old rs
     → MatchResult result (λ _. Fills new (rs ++ r ∷ [])) (λ _. Fills new rs)
 
--- the record begins the next block, after the block at hand was put to a sink; without memory
--- nothing was put, and after a fault nothing is said
+-- At Ok the record begins the next block, and the block at hand was put to a sink. If memory ran
+-- out the records are the same. After a fault nothing is said.
 abbrev pub Begins : Option (List ℕ) → Option (List ℕ) → FillingView → FillingView → Rec → List Rec
     → Result (Unit {0}) BuildErr → Type 0
 Begins before now old new r rs (Ok u) =

@@ -28,7 +28,8 @@ Begun block index size most l =
     (l.block ≡ block) × (l.index ≡ index) × (l.filling.size ≡ size) × (l.filling.most ≡ most)
     × (l.filling.records ≡ 0) × (l.broken ≡ false)
 
--- a lane keeps its numbers and its index draft, and which file its block draft is
+-- the lane has the same block size and the same limit of blocks as before, the same index draft,
+-- and a block draft of the same origin
 abbrev pub IsSameLane : {T : Type 0} → (T → DraftOrigin) → LaneView T → LaneView T → Type 0
 IsSameLane origin old new =
     (origin new.block ≡ origin old.block) × (new.index ≡ old.index)
@@ -47,8 +48,8 @@ pub record Represents {T : Type 0} (written : T → Option (List ℕ)) (l : Lane
   pub block : IsTextButLast l.filling.size rs (written l.block)
   pub index : written l.index ≡ Some []
 
--- a push of a lane of these records: the record follows them, or they stay; of a lane that a fault
--- broke nothing is said
+-- A push to a lane of these records: the record follows them, or they stay as they were. After a
+-- fault nothing is said of the records.
 abbrev pub Pushes : {T : Type 0} → (T → Option (List ℕ)) → LaneView T → LaneView T → List Rec → Rec
     → Result Pushed LaneErr → Type 0
 Pushes written old new rs r (Ok Kept) = Represents written new (rs ++ r ∷ [])
@@ -57,20 +58,20 @@ Pushes written old new rs r (Err (lane_err.DiskFault lost)) = Unit {0}
 Pushes written old new rs r (Err (lane_err.TooLong len)) = new ≡ old
 Pushes written old new rs r (Err lane_err.NoMemory) = Represents written new rs
 
--- how many records there are after a push: one more where it was kept
+-- how many records there are after a push: one more if it was kept
 abbrev pub pushed_count : ℕ → Result Pushed LaneErr → ℕ
 pushed_count n (Ok Kept) = n + 1
 pushed_count n (Ok Ready) = n
 pushed_count n (Err e) = n
 
--- a body that is too long for a block, and no other, is refused by its length
+-- `TooLong` comes if and only if the body is too long for a block, and has the body's length
 pub record RefusesLong (size : ℕ) (r : Rec) (result : Result Pushed LaneErr) : Type 0 where
   pub long : (IsShort size r → ⊥) → result ≡ Err (lane_err.TooLong (length r.body))
   pub only : (len : ℕ) → result ≡ Err (lane_err.TooLong len)
       → (IsShort size r → ⊥) × (len ≡ length r.body)
 
 -- Whatever is known of the drafts: a fault breaks the lane and says how many records are lost, and
--- nothing else breaks it; without memory nothing is written; a record that is not taken leaves the
+-- nothing else breaks it. If memory runs out nothing is written. `Ready` and `TooLong` leave the
 -- lane as it was.
 abbrev pub Leaves : {T : Type 0} → LaneView T → LaneView T → Result Pushed LaneErr → Type 0
 Leaves old new (Ok Kept) = new.broken ≡ false

@@ -36,8 +36,8 @@ pub record CameBack {T S : Type 0} (origin : T → DraftOrigin) (sealed_origin :
   pub failed : OneFailed (faults block) (end_faults faults sealed_faults block_now)
       (faults index) (end_faults faults sealed_faults index_now)
 
--- without memory the lane comes back as it was; after a fault both drafts do, and the records that
--- were in the lane are lost
+-- if memory runs out the lane comes back as it was; after a fault both drafts come back, and the
+-- records of the lane are lost
 abbrev pub FailsToSeal : {T S : Type 0} → (T → DraftOrigin) → (S → DraftOrigin) → (T → ℕ) → (S → ℕ)
     → LaneView T → SealErr T S → Type 0
 FailsToSeal origin sealed_origin faults sealed_faults l (seal_err.NoMemory lane) = lane ≡ l

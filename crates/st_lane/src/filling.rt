@@ -28,7 +28,7 @@ pub(crate) enum Place {
     TooLong,
 }
 
-/// The same record, lent again.
+/// Lends a record once more, by its fields.
 fn again<'a>(r: &RecordRef<'a>) -> RecordRef<'a>
     ensures same { result ≡ r.now }
     ensures range { InRange r.now }
@@ -107,7 +107,8 @@ impl Model for Filling {
 }
 
 impl Filling {
-    /// Nothing yet, of a file of at most `most` blocks of `size` bytes.
+    /// A filling without records, of a file of at most `most` blocks of `size` bytes. `NoMemory`
+    /// comes if memory runs out.
     pub(crate) fn new(alloc: Global, size: u32, most: u32) -> Result<Filling, NoMemory>
         requires size { IsBlockSize size }
         requires some { 1 ≤ most }
@@ -213,7 +214,8 @@ impl Filling {
         }
     }
 
-    /// The index of all records, which has one at least.
+    /// The index of all records, of which there is at least one. `NoMemory` comes if memory runs
+    /// out.
     pub(crate) fn index_table(&self, alloc: Global) -> Result<MemSink, NoMemory>
         requires { 1 ≤ self.now.records }
         ensures { IfOk result (λ table. (given : List PositionedRecord)
@@ -227,7 +229,7 @@ impl Filling {
         }
     }
 
-    /// Puts the block at hand, which has one record at least. It is the last one.
+    /// Puts the block at hand, which has at least one record, as the last one of its file.
     ///
     /// `Failed` comes only if the sink's `faults` rose in this call; a prefix of the block then
     /// follows what the sink had.

@@ -51,10 +51,10 @@ impl<T: Draft> Model for Lane<T> {
 impl<T: Draft> Lane<T> {
     ghost use Rattle.st_lane.specs.Sealing.{AreWhole, FailsToSeal};
 
-    /// A lane without records, for a block file of at most `blocks` blocks of `size` bytes. The
-    /// drafts are to be empty.
+    /// A lane without records, for a block file of at most `blocks` blocks of `size` bytes. If both
+    /// drafts are empty it represents no records.
     ///
-    /// If memory runs out both drafts come back.
+    /// `LaneRefused` comes if memory runs out, and hands both drafts back.
     pub fn new(
         alloc: Global,
         block: T,
@@ -91,14 +91,14 @@ impl<T: Draft> Lane<T> {
         self.filling.records()
     }
 
-    /// Whether a write failed.
+    /// Whether a write of this lane failed.
     pub fn is_broken(&self) -> bool
         ensures { result ≡ self.now.broken }
     {
         self.broken
     }
 
-    /// Hands the drafts back.
+    /// Hands the drafts back, that of the block file first.
     pub fn give_up(self) -> (T, T)
         ensures { result ≡ (self.block, self.index) }
     {

@@ -1,4 +1,4 @@
-//! Laws of the definitions. These functions do nothing; what they ensure is what counts.
+//! Laws of lanes and of cuts. Each of these functions does nothing: its contract is the law.
 
 ghost use Rattle.st_lane.specs.Laws.{CutEnds, CutGoesOn, CutOfNone, OneCut, OneLane};
 

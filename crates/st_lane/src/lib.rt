@@ -1,15 +1,16 @@
 //! Lanes: one pair of a block file and its index that is being filled, record by record.
 //!
 //! A lane has two drafts of a shelf. A block goes to the draft of the block file as soon as the
-//! next one begins, so packets are in memory for one block only; of the others the positions of
-//! their keys are. A file has 1 to 4,095 blocks of one size, a power of two from 4,096 to 1,048,576
-//! bytes: docs/FORMAT.md, "Block file" and "Index rows".
+//! next one begins, so packets are in memory for one block only; of the other blocks' packets only
+//! the keys and their positions are. A file has 1 to 4,095 blocks of one size, a power of two from
+//! 4,096 to 1,048,576 bytes: docs/FORMAT.md, "Block file" and "Index rows".
 //!
 //! # What it promises
 //!
-//! - A record is kept, or the lane is ready if the file has no block left that takes it, or the
-//!   record is longer than any block takes (`Lane::push`). After each push that succeeds the draft
-//!   of the block file has all blocks of the lane's records but the one at hand.
+//! - A push keeps the record, or answers that the lane is ready, if the file has no block left that
+//!   takes it, or refuses a record that is longer than any block takes (`Lane::push`). After each
+//!   push that succeeds the draft of the block file has all blocks of the lane's records but the
+//!   one at hand.
 //! - A lane is ready if and only if a list of the cut ends: of all records to come, each pair takes
 //!   as many as its file has blocks for (`Lane::push`, `one_cut`, `cut_goes_on`, `cut_ends`).
 //! - A sealed pair is whole for the lane's records, and each file is the draft of its kind

@@ -9,7 +9,9 @@ use crate::filling::Filling;
 use st_base::{Failed, put};
 use st_shelf::{Draft, End, SealedPair};
 
-/// Puts the last block and the index to the drafts.
+/// Puts the last block to the draft of the block file and the index to the other one.
+///
+/// `Failed` comes only if the count of faults of one of the drafts rose in this call.
 pub(crate) fn put_pair<T: Draft>(
     filling: Filling,
     table: &[u8],
@@ -36,7 +38,7 @@ pub(crate) fn put_pair<T: Draft>(
     }
 }
 
-/// Seals both drafts. If one fails, both come back.
+/// Seals both drafts. If one fails, both come back, sealed or not.
 pub(crate) fn seal_both<T: Draft>(block: T, index: T) -> Result<SealedPair<T>, (End<T>, End<T>)>
     // the files
     ensures bytes { IfOk result (λ p. (T.sealed_bytes p.block ≡ T.written block)
