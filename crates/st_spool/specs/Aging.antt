@@ -22,22 +22,23 @@ pair_count st = length st.stamps - st.removed
 abbrev pub oldest : SpoolState → ℕ
 oldest st = slice_index st.stamps st.removed
 
--- an ageing is not refused, and there is something to remove
+-- no call has failed, and more pairs are published than the limit
 abbrev pub MayAge : SpoolState → Type 0
 MayAge st = (st.halted ≡ None) × (st.limit < pair_count st)
 
--- the state after a removal, and after a sweep that reached this place
+-- the state after a removal and a sweep: of the pairs before this place no file is left
 abbrev pub aged : SpoolState → ℕ → SpoolState
 aged st to = record st { removed = st.removed + 1; swept = to }
 
--- the spool stands for the history with the removal, and no crash leaves the pair
+-- A removal that succeeded: the spool represents the history with the removal. Until the call ends
+-- a crash leaves the pairs before or after, and from then on those after.
 pub record Removes (IsWhole : List ℕ → List ℕ → Type 0) (old new : Option Log) (st : SpoolState)
     (earlier h : List Event) (e : Entry) (f : Files) : Type 0 where
   pub known : KnownBefore old new
   pub stands : StandsFor IsWhole new st earlier (h ++ Remove e.stamp ∷ []) f
   pub images : (first : Log) → old ≡ Some first → RanTo first new h (Remove e.stamp)
 
--- where an ageing that failed was stopped, by the event in doubt
+-- the calls that an ageing made before it was stopped, by the doubt that it left
 abbrev pub StoppedBy : Option Log → Option Log → Doubt → Type 0
 StoppedBy old new Nothing = ⊥
 StoppedBy old new (Unsettled t) = ⊥
@@ -45,14 +46,14 @@ StoppedBy old new (Settled t) = ⊥
 StoppedBy old new (Unhidden t) = FailsToHide old new t Before
 StoppedBy old new (Hidden t) = FailsToHide old new t After
 
--- An ageing that failed: the spool stands for the history as before, and the call that failed was
+-- An ageing that failed: the spool represents the history as before, and the call that failed was
 -- one that parks the index or makes that durable, not the removal of a file.
 pub record FailsToAge (IsWhole : List ℕ → List ℕ → Type 0) (old new : Option Log) (st : SpoolState)
     (earlier h : List Event) (e : Entry) : Type 0 where
   pub fails : Fails IsWhole old new st earlier h (files_of e)
   pub stopped : StoppedBy old new st.doubt
 
--- an ageing of a spool whose oldest pair is this one
+-- what an ageing makes of a spool with more pairs than the limit, of which this is the oldest
 abbrev pub Ages :
     (List ℕ → List ℕ → Type 0) → Option Log → Option Log → SpoolState → List Event → List Event
     → Entry → Files → Result Bool AgeErr → Type 0
@@ -62,7 +63,7 @@ Ages IsWhole old new st earlier h e f (Err DiskFault) =
     FailsToAge IsWhole old new st earlier h e
 Ages IsWhole old new st earlier h e f (Err (Halted since)) = ⊥
 
--- the state after it, with the shelf's count of faults
+-- the state after such an ageing, where the shelf's count of faults is `since`
 abbrev pub AgesTo : SpoolState → SpoolState → ℕ → Result Bool AgeErr → Type 0
 AgesTo old new since (Ok true) = new ≡ aged old new.swept
 AgesTo old new since (Ok false) = ⊥

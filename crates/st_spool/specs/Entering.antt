@@ -16,7 +16,7 @@ use Rattle.st_spool.specs.States.{SpoolState}
 use Rattle.st_spool.specs.Standing.{StandsFor}
 use Rattle.st_spool.specs.declared.state.Doubt.TheVariants as doubt
 
--- the second where the first is there
+-- the second file if the first is there, and no file otherwise
 abbrev pub beside : Option (List ℕ) → Option (List ℕ) → Option (List ℕ)
 beside None own = None
 beside (Some other) own = own
@@ -28,7 +28,7 @@ pairs_alone f (Index s) = beside (f (Block s)) (f (Index s))
 pairs_alone f (Parked s) = None
 pairs_alone f (Draft k d) = None
 
--- the second folder is the first
+-- both folders have the same files
 abbrev pub Is : Folder → Folder → Type 0
 Is f c = (n : Name) → c n ≡ f n
 
@@ -36,12 +36,14 @@ Is f c = (n : Name) → c n ≡ f n
 abbrev pub SamePairs : Folder → Folder → Type 0
 SamePairs f c = (s : ℕ) → both (c (Block s)) (c (Index s)) ≡ both (f (Block s)) (f (Index s))
 
--- the row of what was found, whatever was removed since that is no part of a pair
+-- the row of a block and an index that were found: a pair keeps both files, and of any other file
+-- nothing is said
 abbrev pub found_row : Option (List ℕ) → Option (List ℕ) → Row
 found_row None index = Lone
 found_row (Some block) None = Past
 found_row (Some block) (Some index) = Both (record { block = block; index = index })
 
+-- the row of each stamp, by the files that were found
 abbrev pub found_rows : Folder → ℕ → Row
 found_rows f s = found_row (f (Block s)) (f (Index s))
 
@@ -52,11 +54,11 @@ IsPart P (Index s) = P (Block s)
 IsPart P (Parked s) = ⊥
 IsPart P (Draft k d) = ⊥
 
--- these are just the names that are there
+-- these are the names of all files that are there, and no others
 abbrev pub AreThere : List Name → Folder → Type 0
 AreThere names f = (n : Name) → Contains names n ↔ IsSome (f n)
 
--- the stamps, in order, of which both names hold P
+-- these are, in order, the stamps for whose block and index P holds
 pub record ArePaired (P : Name → Type 0) (stamps : List ℕ) : Type 0 where
   pub rises : AllPairs (λ s t. s < t) stamps
   pub each : (s : ℕ) → Contains stamps s → P (Block s) × P (Index s)
@@ -74,7 +76,7 @@ pub record IsLastStamp (P : Name → Type 0) (last : ℕ) : Type 0 where
   pub above : (n : Name) → IsStamped n → P n → number_of n ≤ last
   pub some : (last ≡ 0) ⊎ ((n : Name) × IsStamped n × P n × (number_of n ≡ last))
 
--- after a clearing there are just the pairs of what was read before
+-- after a clearing the pairs that were read before are read, and nothing else
 abbrev pub ReadsCleared : Option Log → Option Log → List Name → Type 0
 ReadsCleared old new names =
     (f : Folder) → AreThere names f → ((n : Name) → Reads old n (λ v. v ≡ f n)) → (n : Name)
@@ -84,30 +86,31 @@ ReadsCleared old new names =
 abbrev pub flushed_log : Log → Log
 flushed_log log = and_then (and_then log (Flush kind.Block)) (Flush kind.Index)
 
--- Until both folders were flushed each crash leaves an image that the shelf had at first, and from
--- then on the pairs that are read; a crash now leaves what has Q. No event happened.
+-- Until both folders were flushed each crash leaves what it might have left at first, and from then
+-- on the pairs that are read; a crash now leaves a folder with Q. No event happened.
 pub record Clears (first : Log) (known : Option Log) (Q : Folder → Type 0) : Type 0 where
   pub flushed : Ran first (Some (flushed_log first)) [] (Leaves first) (Is (reads first))
   pub cleared : Ran (flushed_log first) known [] (SamePairs (reads first)) Q
 
 -- One of the two flushes failed, and no other call was made: the block folder was not flushed, or
--- the index folder after it. Each crash leaves an image that the shelf had at first.
+-- the index folder after it. Each crash leaves what it might have left at first.
 pub record FailsToFlush (first : Log) (known : Option Log) : Type 0 where
   pub calls : Looks (Some first) known ⊎ Looks (Some (and_then first (Flush kind.Block))) known
   pub images : Ran first known [] (Leaves first) (Leaves first)
 
--- an opening that failed: as it flushed both folders, or after
+-- an opening that failed, at one of the two flushes or after both
 abbrev pub FailsToEnter : Log → Option Log → Type 0
 FailsToEnter first known =
     FailsToFlush first known ⊎ Clears first known (SamePairs (reads first))
 
--- an opening found the pairs of these stamps and this greatest stamp, and cleared the folders
+-- an opening found pairs with these stamps and this greatest stamp of all files, and cleared the
+-- folders of all other files
 pub record Opens (first : Log) (known : Option Log) (stamps : List ℕ) (last : ℕ) : Type 0 where
   pub paired : ArePaired (λ n. IsSome (reads first n)) stamps
   pub greatest : IsLastStamp (λ n. IsSome (reads first n)) last
   pub images : Clears first known (Is (pairs_alone (reads first)))
 
--- the state of a spool that was opened just now
+-- the state of a spool just after its opening
 abbrev pub opened : ℕ → List ℕ → ℕ → SpoolState
 opened limit stamps last = record {
   limit = limit;
@@ -124,8 +127,8 @@ opened limit stamps last = record {
   asked = record { from = 0; to = length stamps };
 }
 
--- An opening: the spool stands for the pairs that were read, and every crash leaves just these, and
--- no draft, parked index or half of a pair.
+-- An opening that succeeded: the spool represents the history that found the pairs that were read.
+-- A crash now leaves these, and no draft, parked index or half of a pair.
 pub record Enters (IsWhole : List ℕ → List ℕ → Type 0) (first : Log) (known : Option Log)
     (st : SpoolState) : Type 0 where
   pub pairs : List Entry

@@ -19,33 +19,34 @@ HoldsStay =
     → held hold (h ++ Publish e ∷ []) ≡ held hold h)
     × ((hold : Span) (h : List Event) (s : ℕ) → held hold (h ++ Remove s ∷ []) ≡ held hold h)
 
--- the history that the last hold took is the whole one, just after the hold
+-- just after a hold the history that the last hold took is the whole history
 abbrev pub TakesAll : Type 0
 TakesAll =
     (st : SpoolState) (log : Log)
     → take (taken_count (with_hold st)) (history (with_hold st) log) ≡ history st log
 
 module _ (IsWhole : List ℕ → List ℕ → Type 0) where
-  -- a spool stands for one history
+  -- a spool whose log is known represents one history only: the one that state and log tell
   abbrev pub OneHistory : Type 0
   OneHistory =
       (known : Option Log) (log : Log) (st : SpoolState) (earlier h : List Event) (f : Files)
       → StandsFor IsWhole known st earlier h f → known ≡ Some log → history st log ≡ h
 
-  -- calls after which it stands for the history as before
+  -- a call without an event leaves the history
   abbrev pub HistoryStays : Type 0
   HistoryStays =
       (old new : Option Log) (st next : SpoolState) (earlier h : List Event) (f g : Files)
       → StandsFor IsWhole old st earlier h f → Keeps IsWhole old new next earlier h g
       → option_map (history next) new ≡ option_map (history st) old
 
+  -- so does a publication or a removal that failed
   abbrev pub FailedStays : Type 0
   FailedStays =
       (old new : Option Log) (st next : SpoolState) (earlier h : List Event) (f g : Files)
       → StandsFor IsWhole old st earlier h f → Fails IsWhole old new next earlier h g
       → option_map (history next) new ≡ option_map (history st) old
 
-  -- a publication and a removal add their event to it
+  -- a publication that succeeds adds its event to the history
   abbrev pub PublishedGoesOn : Type 0
   PublishedGoesOn =
       (old new : Option Log) (st next : SpoolState) (earlier h : List Event) (e : Entry)
@@ -54,6 +55,7 @@ module _ (IsWhole : List ℕ → List ℕ → Type 0) where
       → option_map (history next) new
       ≡ option_map (λ past. past ++ Publish e ∷ []) (option_map (history st) old)
 
+  -- a removal that succeeds adds its event to the history
   abbrev pub RemovedGoesOn : Type 0
   RemovedGoesOn =
       (old new : Option Log) (st next : SpoolState) (earlier h : List Event) (e : Entry)

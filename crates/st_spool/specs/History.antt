@@ -19,13 +19,14 @@ set_after set (Remove s ∷ h) = set_after (without s set) h
 abbrev pub set_of : List Event → List Entry
 set_of h = set_after [] h
 
--- the entries that a history found or published
+-- the entries that were found or published after some events, of which the first finds these
 abbrev pub entries_after : List Entry → List Event → List Entry
 entries_after all [] = all
 entries_after all (Found es ∷ h) = entries_after es h
 entries_after all (Publish e ∷ h) = entries_after (all ++ e ∷ []) h
 entries_after all (Remove s ∷ h) = entries_after all h
 
+-- all entries that a history found or published, also those that were removed
 abbrev pub entries_of : List Event → List Entry
 entries_of h = entries_after [] h
 
@@ -35,8 +36,8 @@ IsLeast s [] = ⊥
 IsLeast s (e ∷ es) = e.stamp ≡ s
 
 -- Events that may come after these entries and this file set, in a spool of this limit: a stamp
--- that is published is above all stamps before it, and the least stamp is removed of a set that has
--- more than the limit's number of pairs. Pairs are found only at the beginning.
+-- that is published is above all stamps before it, and a removal takes the least stamp of a set of
+-- more pairs than the limit. Pairs are found only at the beginning.
 abbrev pub MayFollow : ℕ → List Entry → List Entry → List Event → Type 0
 MayFollow limit all set [] = Unit {0}
 MayFollow limit all set (Found es ∷ h) = ⊥

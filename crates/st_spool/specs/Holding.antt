@@ -1,4 +1,4 @@
--- What holds are, and what the calls on them ensure.
+-- Which pairs a hold has, where their files are, and what its release removes.
 use Rattle.std.specs.Prelude.{◌≡◌, ◌<◌, ◌≤◌, ◌-◌, ◌∷◌, [], ◌++◌, ℕ, List, Option, None, slice_index, Bool, true, false, length, nat_eq, nat_lt, ◌||◌}
 use Rattle.std.specs.List.{remove, slice_index_or}
 use Rattle.st_disk.specs.declared.naming.Name.{Name}
@@ -28,12 +28,12 @@ with_hold st =
       asked = whole_set st;
     }
 
--- the second list is the first without one hold
+-- the second list is the first with this hold taken out once
 abbrev pub IsWithout : Span → List Span → List Span → Type 0
 IsWithout hold old new =
     (k : ℕ) × (k < length old) × (slice_index_or old k hold ≡ hold) × (new ≡ remove old k)
 
--- the index of the pair at this place is parked
+-- whether the index of the pair at this place is parked, by the doubt and how many were removed
 abbrev pub is_parked : Doubt → ℕ → ℕ → Bool
 is_parked Nothing removed place = nat_lt place removed
 is_parked (Unsettled t) removed place = nat_lt place removed
@@ -41,12 +41,12 @@ is_parked (Settled t) removed place = nat_lt place removed
 is_parked (Unhidden t) removed place = nat_lt place removed
 is_parked (Hidden t) removed place = nat_lt place removed || nat_eq place removed
 
--- the name of an index, parked or not
+-- the name of the index of a stamp, if it is parked or if it isn't
 abbrev pub index_name : Bool → ℕ → Name
 index_name true s = Parked s
 index_name false s = Index s
 
--- no file of a removed pair is read
+-- neither the block nor the parked index of this stamp is there
 abbrev pub IsGone : Option Log → ℕ → Type 0
 IsGone known s = Reads known (Block s) (λ v. v ≡ None) × Reads known (Parked s) (λ v. v ≡ None)
 
@@ -54,14 +54,14 @@ IsGone known s = Reads known (Block s) (λ v. v ≡ None) × Reads known (Parked
 abbrev pub IsOther : ℕ → Name → Type 0
 IsOther s n = (n ≡ Block s → ⊥) × (n ≡ Parked s → ⊥)
 
--- what is read under names that have P is read under them still
+-- under names that have P the same is read as before
 abbrev pub StayRead : Option Log → Option Log → (Name → Type 0) → Type 0
 StayRead old new P =
     (n : Name) (bytes : Option (List ℕ)) → P n → Reads old n (λ v. v ≡ bytes)
     → Reads new n (λ v. v ≡ bytes)
 
--- Of the removed pairs from the first place on, those that no hold has were tried: where no fault
--- was counted no file of them is left. None is left of those before the place that was reached.
+-- A sweep of the removed pairs from the place `from` on. None of those before the place `to` has a
+-- file left. If the shelf counted no fault, nor has any other removed pair that no hold has.
 pub record Sweeps (known : Option Log) (stamps : List ℕ) (holds : List Span)
     (from to removed before now : ℕ) : Type 0 where
   pub later : from ≤ to

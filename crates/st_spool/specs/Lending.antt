@@ -4,7 +4,8 @@ use Rattle.st_disk.specs.declared.naming.Kind.{Kind}
 use Rattle.st_shelf.specs.Origins.{FileOrigin}
 use Rattle.st_shelf.specs.Loans.{LoansView, lend}
 
--- a file of this kind and shelf is out, read by nobody yet; or none is
+-- At Ok a file of this kind and of this shelf was lent, which has read nothing yet and has no
+-- fault, and the shelf counts it. After an error the shelf lends what it lent before.
 abbrev pub IsLent :
     {F E : Type 0} → Kind → (F → FileOrigin) → (F → ℕ) → (F → ℕ) → (F → ℕ) → ℕ → LoansView
     → LoansView → Result F E → Type 0

@@ -14,7 +14,7 @@ use Rattle.st_spool.specs.Standing.{StandsFor, Gives, in_doubt}
 use Rattle.st_spool.specs.declared.state.Doubt.{Doubt}
 use Rattle.st_spool.specs.declared.state.Doubt.TheVariants.{Unsettled, Settled}
 
--- the stamp of the next publication
+-- the stamp of the next publication: the greater of the floor and the one after the last
 abbrev pub next_stamp : ℕ → ℕ → ℕ
 next_stamp last floor = max floor (last + 1)
 
@@ -31,49 +31,52 @@ abbrev pub failed : SpoolState → Doubt → ℕ → SpoolState
 failed st doubt since =
     record st { doubt = doubt; halted = Some since; halts = next_count st.halts }
 
--- the same of a publication under this stamp: its block was settled, or not
+-- the state after a publication under this stamp that failed, before its block was settled or after
 abbrev pub FailsToPublish : SpoolState → SpoolState → ℕ → ℕ → Type 0
 FailsToPublish old new t since =
     (new ≡ failed old (Unsettled t) since) ⊎ (new ≡ failed old (Settled t) since)
 
--- every crash since the first log leaves the set of the history, or that with the further event,
--- and a crash now leaves the second; the event happened once
+-- Since the first log this event happened, and no other. Each crash since leaves the set of the
+-- history or that with the event, and a crash now leaves the latter.
 abbrev pub RanTo : Log → Option Log → List Event → Event → Type 0
 RanTo first known h e =
     Ran first known (e ∷ []) (Gives h (e ∷ [])) (λ c. PairsIn c (set_of (h ++ e ∷ [])))
 
--- every crash since the first log leaves the set of the history; or that with the event in doubt,
--- but only if it began
+-- Since the first log the event in doubt, if there is one, happened, and no other. Each crash
+-- leaves the set of the history, or if an event is in doubt that set or the one with the event.
 abbrev pub RanInDoubt : Log → Option Log → List Event → List Event → Type 0
 RanInDoubt first known h es = Ran first known es (Gives h es) (Gives h es)
 
--- every crash since the first log leaves what one might have left then by the event in doubt, and
--- no event happened
+-- Since the first log no event happened. Each crash leaves the set of the history, or if an event
+-- was in doubt already that set or the one with this event.
 abbrev pub RanAsBefore : Log → Option Log → List Event → List Event → Type 0
 RanAsBefore first known h es = Ran first known [] (Gives h es) (Gives h es)
 
--- a publication of this entry: the spool stands for the history with it, and each crash leaves it
+-- A publication of this entry that succeeded: the spool represents the history with it, and a crash
+-- now leaves the set with it.
 pub record Publishes (IsWhole : List ℕ → List ℕ → Type 0) (old new : Option Log) (st : SpoolState)
     (earlier h : List Event) (e : Entry) (f : Files) : Type 0 where
   pub known : KnownBefore old new
   pub stands : StandsFor IsWhole new st earlier (h ++ Publish e ∷ []) f
   pub images : (first : Log) → old ≡ Some first → RanTo first new h (Publish e)
 
--- a call that failed on a pair with these files: the spool stands for the history as before
+-- A publication or a removal of a pair with these files that failed: the spool represents the
+-- history as before, and the event of the call may be in doubt.
 pub record Fails (IsWhole : List ℕ → List ℕ → Type 0) (old new : Option Log) (st : SpoolState)
     (earlier h : List Event) (f : Files) : Type 0 where
   pub known : KnownBefore old new
   pub stands : StandsFor IsWhole new st earlier h f
   pub images : (first : Log) → old ≡ Some first → RanInDoubt first new h (in_doubt st.doubt f)
 
--- a call with no event: the spool stands for the history as before, with the same event in doubt
+-- A call without an event: the spool represents the history as before. If an event was in doubt,
+-- it still is.
 pub record Keeps (IsWhole : List ℕ → List ℕ → Type 0) (old new : Option Log) (st : SpoolState)
     (earlier h : List Event) (f : Files) : Type 0 where
   pub known : KnownBefore old new
   pub stands : StandsFor IsWhole new st earlier h f
   pub images : (first : Log) → old ≡ Some first → RanAsBefore first new h (in_doubt st.doubt f)
 
--- a sealed block and a sealed index, both of this shelf
+-- these are the origins of a block file and of an index, both of this shelf
 pub record IsPairOf (home : ℕ) (block index : DraftOrigin) : Type 0 where
   pub block_kind : block.kind ≡ kind.Block
   pub index_kind : index.kind ≡ kind.Index

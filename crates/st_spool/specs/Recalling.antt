@@ -10,7 +10,7 @@ use Rattle.st_spool.specs.States.{SpoolState, SpoolView}
 use Rattle.st_spool.specs.declared.state.Doubt.{Doubt}
 use Rattle.st_spool.specs.declared.state.Doubt.TheVariants.{Nothing, Unsettled, Settled, Unhidden, Hidden}
 
--- the entry of a stamp by its block and its index, parked or not
+-- the entry of a stamp by its block and its index, or by the parked index if no index is there
 abbrev pub entry_in : Folder → ℕ → Entry
 entry_in f s = record {
   stamp = s;
@@ -18,12 +18,13 @@ entry_in f s = record {
   index = where_there (f (Index s)) (λ bytes. bytes) (given (f (Parked s)));
 }
 
+-- the entries of these stamps
 abbrev pub entries_in : Folder → List ℕ → List Entry
 entries_in f [] = []
 entries_in f (s ∷ ss) = entry_in f s ∷ entries_in f ss
 
--- of these calls, made one after the other from this folder on, the first ones: as many as make no
--- more than k events
+-- the first of these calls, made one after the other from this folder on: as many as make no more
+-- than k events
 abbrev pub calls_within : ℕ → Folder → List Call → List Call
 calls_within k f [] = []
 calls_within k f (c ∷ cs) =
@@ -43,7 +44,7 @@ log_before k log =
 abbrev pub event_count : SpoolState → ℕ
 event_count st = (length st.stamps - st.found) + st.removed
 
--- how many events the log has that are in doubt
+-- how many events are in doubt: one, or none
 abbrev pub in_doubt_count : Doubt → ℕ
 in_doubt_count Nothing = 0
 in_doubt_count (Unsettled t) = 0
@@ -67,14 +68,15 @@ history st log =
     Found (entries_in (reads (log_before (earlier_count st log) log)) (take st.found st.stamps))
     ∷ take (event_count st) (drop (earlier_count st log) (events log))
 
--- of how many events the last hold took the set
+-- how many events the history had of which the last hold took the set
 abbrev pub taken_count : SpoolState → ℕ
 taken_count st = ((st.asked.to - st.found) + st.asked.from) + 1
 
--- the history of a spool, and the one that its last hold took, where its shelf's log is known
+-- the history of a spool, if its shelf's log is known
 abbrev pub history_of : {D : Type 0} → (D → Option Log) → SpoolView D → Option (List Event)
 history_of {D} log spool = option_map (history spool.state) (log spool.shelf)
 
+-- the history that the last hold of a spool took, if its shelf's log is known
 abbrev pub taken_of : {D : Type 0} → (D → Option Log) → SpoolView D → Option (List Event)
 taken_of {D} log spool =
     option_map (take (taken_count spool.state)) (history_of log spool)

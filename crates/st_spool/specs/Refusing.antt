@@ -9,8 +9,9 @@ use Rattle.st_spool.specs.declared.refusals.PublishErr.TheVariants as publish
 use Rattle.st_spool.specs.declared.refusals.AgeErr.{AgeErr}
 use Rattle.st_spool.specs.declared.refusals.AgeErr.TheVariants as age
 
--- A fault comes only where the call was not refused. A refusal leaves the spool as it was, and
--- hands the pair back: after an earlier call that failed, or else where no stamp is left.
+-- Why a publication gives this error. `DiskFault` comes only if the call was not refused. `Halted`
+-- comes only after a call that failed, and `StampsSpent` only if none did and no stamp is left;
+-- both leave the spool as it was and hand the pair back.
 abbrev pub RefusesPair :
     {D T S : Type 0} → SpoolView D → SpoolView D → SealedPair T S → PublishErr T S → Type 0
 RefusesPair {D} {T} {S} old new pair publish.DiskFault = MayPublish old.state
@@ -20,7 +21,9 @@ RefusesPair {D} {T} {S} old new pair (publish.StampsSpent last back) =
     (old.state.halted ≡ None) × (old.state.last ≡ 2 ^ 64 - 1) × (last ≡ old.state.last)
     × (new ≡ old) × (back ≡ pair)
 
--- the same of an ageing
+-- Why an ageing gives this error. `DiskFault` comes only if no call had failed and more pairs than
+-- the limit were there. `Halted` comes only after a call that failed; it leaves the spool as it
+-- was.
 abbrev pub RefusesAge : {D : Type 0} → SpoolView D → SpoolView D → AgeErr → Type 0
 RefusesAge {D} old new age.DiskFault = MayAge old.state
 RefusesAge {D} old new (age.Halted since) = (old.state.halted ≡ Some since) × (new ≡ old)

@@ -7,10 +7,11 @@ use Rattle.st_disk.specs.Events.{Event}
 use Rattle.st_disk.specs.Runs.{Ran}
 use Rattle.st_disk.specs.Pairs.{Entry, Files, IsFileSet, files_at, PairsIn}
 
--- Free: nothing is there. Half: the block isn't, the index may be. Coming: each of the two files
--- may be there. Pair: both are. Going: the block is, and the index under either of its names. Held:
--- the block is, and the index is parked. Past: the index isn't there. Lone: the block isn't. Both:
--- both files are there.
+-- What is there under the three names of a stamp, its block, its index and its parked index. Free:
+-- nothing. Half: perhaps the index. Coming: perhaps the block, perhaps the index. Pair: the block
+-- and the index. Going: the block, and the index under either of its names. Held: the block and the
+-- parked index. The other three rows leave open what they don't name. Past: no index. Lone: no
+-- block. Both: the block and the index.
 pub data Row : Type 0 where
   Free : Row
   Half : Files → Row
@@ -44,7 +45,7 @@ Has rows c = (s : ℕ) → Fits (rows s) (c (Block s)) (c (Index s)) (c (Parked 
 abbrev pub set_row : (ℕ → Row) → ℕ → Row → ℕ → Row
 set_row rows t r s = cond (nat_eq t s) r (rows s)
 
--- the pair of a row, as if an event in doubt had not happened
+-- the pair of a row, if an event in doubt didn't happen
 abbrev pub pair_before : Row → Option Files
 pair_before Free = None
 pair_before (Half f) = None
@@ -56,7 +57,7 @@ pair_before Past = None
 pair_before Lone = None
 pair_before (Both f) = Some f
 
--- the pair of a row, as if an event in doubt had happened
+-- the pair of a row, if an event in doubt happened
 abbrev pub pair_after : Row → Option Files
 pair_after Free = None
 pair_after (Half f) = None
@@ -68,20 +69,20 @@ pair_after Past = None
 pair_after Lone = None
 pair_after (Both f) = Some f
 
--- no row is in doubt
+-- no event is in doubt: each row has one pair, or none
 abbrev pub AreSure : (ℕ → Row) → Type 0
 AreSure rows = (s : ℕ) → pair_after (rows s) ≡ pair_before (rows s)
 
--- the file set of the rows
+-- this is the file set of the rows, if an event in doubt didn't happen
 pub record IsSetOf (rows : ℕ → Row) (set : List Entry) : Type 0 where
   pub rises : IsFileSet set
   pub each : (s : ℕ) → files_at s set ≡ pair_before (rows s)
 
--- the pairs of a folder are those of either set
+-- a folder has the pairs of one set or those of the other
 abbrev pub Either : List Entry → List Entry → Folder → Type 0
 Either set other c = PairsIn c set ⊎ PairsIn c other
 
--- a run of calls on whose way each crash leaves what the first rows allow, and a crash after it
--- what the second allow
+-- a run of calls during which each crash leaves what the first rows allow, and after which a crash
+-- leaves what the second rows allow
 abbrev pub RanBy : Log → Option Log → List Event → (ℕ → Row) → (ℕ → Row) → Type 0
 RanBy first known es rows now = Ran first known es (Has rows) (Has now)

@@ -1,4 +1,4 @@
--- What is left of a publication and of a removal, whether it succeeded or not.
+-- What settling a pair and parking an index leave on the shelf, by how far they came.
 use Rattle.std.specs.Prelude.{◌≡◌, ℕ, List, [], ◌∷◌, Option, None, Some, Result, Ok, Err}
 use Rattle.st_disk.specs.declared.naming.Name.TheVariants.{Block, Index}
 use Rattle.st_disk.specs.declared.changes.Call.TheVariants.{Did}
@@ -11,7 +11,7 @@ use Rattle.st_spool.specs.Rows.{Row, Half, Coming, Pair, Going, Held, set_row, R
 use Rattle.st_spool.specs.declared.settling.Stopped.{Stopped}
 use Rattle.st_spool.specs.declared.settling.Stopped.TheVariants.{Before, After}
 
--- the two files of a pair
+-- the files of a pair with these bytes
 abbrev pub files : List ℕ → List ℕ → Files
 files block index = record { block = block; index = index }
 
@@ -19,9 +19,9 @@ files block index = record { block = block; index = index }
 abbrev pub entry : ℕ → Files → Entry
 entry s f = record { stamp = s; block = f.block; index = f.index }
 
--- The files of a pair were settled under a stamp that was free. At Ok each crash leaves the pair; a
--- call that was stopped before it settled the block leaves at most half of it, and one that was
--- stopped later leaves both files as they are read.
+-- The settling of a pair under a stamp of which nothing was there. At Ok each crash from then on
+-- leaves the pair. If it was stopped before it settled the block, a crash leaves at most the index.
+-- If it was stopped later, a crash may leave each of the two files or not, and both are read.
 abbrev pub SettlesPair :
     Log → Option Log → (ℕ → Row) → ℕ → Files → Result (Unit {0}) Stopped → Type 0
 SettlesPair first new rows t f (Ok v) =
@@ -33,8 +33,10 @@ SettlesPair first new rows t f (Err After) =
     (set_row rows t (Coming f))
     × Reads new (Block t) (λ v. v ≡ Some f.block) × Reads new (Index t) (λ v. v ≡ Some f.index)
 
--- The index of a pair was parked. At Ok no crash leaves the pair; a call that was stopped before it
--- hid the index changed nothing.
+-- The parking of the index of a pair. At Ok no crash from then on leaves the pair. If it was
+-- stopped before it hid the index, each crash leaves what it might have left before. If it was
+-- stopped later, a crash may leave the index under either of its names, and it isn't read as an
+-- index.
 abbrev pub Hidden : Log → Option Log → (ℕ → Row) → ℕ → Files → Result (Unit {0}) Stopped → Type 0
 Hidden first new rows t f (Ok v) =
     RanBy first new (Remove t ∷ []) (set_row rows t (Going f)) (set_row rows t (Held f))

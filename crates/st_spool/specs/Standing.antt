@@ -1,4 +1,4 @@
--- The history that a spool stands for.
+-- The history that a spool represents.
 use Rattle.std.specs.Prelude.{◌≡◌, ◌<◌, ◌≤◌, ℕ, List, [], ◌∷◌, ◌++◌, length, drop, map, Option, None, Some, ⊤}
 use Rattle.st_disk.specs.Folders.{Folder}
 use Rattle.st_disk.specs.Disks.{Log, reads}
@@ -72,7 +72,7 @@ pub record OnDisk (IsWhole : List ℕ → List ℕ → Type 0) (log : Log) (st :
   -- what is read under the names of each stamp, also under those of the failed call's pair
   pub read : Has (read_rows st f (entries_of h)) (reads log)
 
--- A spool with this state, over a shelf with this log if it is known, stands for the history h.
+-- A spool with this state, over a shelf with this log if it is known, represents the history h.
 -- The events before its opening are `earlier`, and `f` has the files of the failed call's pair.
 pub record StandsFor (IsWhole : List ℕ → List ℕ → Type 0) (known : Option Log) (st : SpoolState)
     (earlier h : List Event) (f : Files) : Type 0 where
@@ -96,8 +96,8 @@ pub record StandsFor (IsWhole : List ℕ → List ℕ → Type 0) (known : Optio
   -- the shelf
   pub disk : (log : Log) → known ≡ Some log → OnDisk IsWhole log st earlier h f
 
--- A spool stands for some history. Where the log is known, this is the one that the state and the
--- log tell (`history`).
+-- A spool represents some history. If the log is known, this is the one that the state and the log
+-- tell (`history`).
 abbrev pub Stands : (List ℕ → List ℕ → Type 0) → Option Log → SpoolState → Type 0
 Stands IsWhole known st =
     (earlier : List Event) × (h : List Event) × (f : Files) × StandsFor IsWhole known st earlier h f

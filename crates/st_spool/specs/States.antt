@@ -1,4 +1,4 @@
--- What a spool keeps, and what its images have by it.
+-- What a spool keeps, and what a crash may leave by that.
 use Rattle.std.specs.Prelude.{◌≡◌, ◌<◌, ◌≤◌, ◌+◌, ℕ, List, [], ◌∷◌, drop, take, ◌-◌, Contains, Option, None, Some, Bool, ◌&&◌, cond, nat_eq, nat_lt, nat_le, ⊤}
 use Rattle.std.specs.List.{list_any}
 use Rattle.st_disk.specs.Pairs.{Entry, Files, files_of}
@@ -9,11 +9,11 @@ use Rattle.st_spool.specs.declared.state.Span.{Span}
 use Rattle.st_spool.specs.declared.state.Doubt.{Doubt}
 use Rattle.st_spool.specs.declared.state.Doubt.TheVariants.{Nothing, Unsettled, Settled, Unhidden, Hidden}
 
--- The limit in pairs; the stamps of all pairs that were found or published, in order, and how many
--- of them were found at opening; how many, the first ones, were removed, and how many of these have
--- no file left; the greatest stamp; the sets that are held; the event in doubt; where a call
--- failed, the shelf's count of faults then, and how many calls failed so; how many holds were
--- given, and the set of the last one.
+-- What a spool keeps: the limit in pairs; the stamps of all pairs that were found or published, in
+-- order, and how many of them were found at the opening; how many of them, from the first on, were
+-- removed, and how many of these, from the first on, have no file left; the greatest stamp; the
+-- sets that are held; the doubt; the shelf's count of faults when a publication or an ageing
+-- failed, if one did, and how many failed; how many holds were given, and the set of the last one.
 pub record SpoolState : Type 0 where
   pub limit : ℕ
   pub stamps : List ℕ
@@ -46,7 +46,8 @@ state_by limit stamps found removed swept last holds doubt halted halts asks ask
   asked = asked;
 }
 
--- a spool: its shelf, what it keeps, and for how many publications it has room
+-- what contracts see of a spool: its shelf, what it keeps, and for how many publications it has
+-- room
 pub record SpoolView (D : Type 0) : Type 0 where
   pub shelf : D
   pub state : SpoolState
@@ -68,19 +69,20 @@ place_in n s (e ∷ es) =
 abbrev pub covers : List Span → ℕ → Bool
 covers holds n = list_any (λ h. nat_le h.from n && nat_lt n h.to) holds
 
--- the row of an entry, and of a stamp that no entry has
+-- the row of a stamp, by the place and files of its entry, if one has it; of a stamp that none has,
+-- by whether it is above the last one
 abbrev pub row_at : ℕ → List Span → Bool → Option Placement → Row
 row_at removed holds above None = cond above Free Past
 row_at removed holds above (Some p) =
     cond (nat_le removed p.place) (Pair p.files) (cond (covers holds p.place) (Held p.files) Past)
 
--- The rows of a spool of which nothing is in doubt: an entry of the set has its pair, a held entry
--- outside the set its block and its parked index, another one no index. Above the last stamp
--- nothing is there.
+-- The rows of a spool with no doubt. An entry of the set has its pair. One that was removed has its
+-- block and its parked index if a hold has it, and else no index. Above the last stamp there is
+-- nothing; a stamp up to it that no entry has has no index.
 abbrev pub rows_of : ℕ → List Span → ℕ → List Entry → ℕ → Row
 rows_of removed holds last all s = row_at removed holds (nat_lt last s) (place_in 0 s all)
 
--- the rows with an event in doubt, whose pair has these files
+-- the rows after a call that failed on a pair with these files
 abbrev pub with_doubt : Doubt → Files → (ℕ → Row) → ℕ → Row
 with_doubt Nothing f rows = rows
 with_doubt (Unsettled t) f rows = set_row rows t (Half f)
@@ -92,8 +94,9 @@ with_doubt (Hidden t) f rows = set_row rows t (Going f)
 abbrev pub rows_by : SpoolState → Files → List Entry → ℕ → Row
 rows_by st f all = with_doubt st.doubt f (rows_of st.removed st.holds st.last all)
 
--- The rows of what is read, with an event in doubt. A block that was settled and an index that was
--- hidden are read as if nothing had failed; without its block the index may be there or not.
+-- The rows of what is read after a call that failed on a pair with these files. If the block was
+-- settled the pair is read, and if the index was hidden it is read under its parked name. If the
+-- block was not settled, the index may be read or not.
 abbrev pub with_read : Doubt → Files → (ℕ → Row) → ℕ → Row
 with_read Nothing f rows = rows
 with_read (Unsettled t) f rows = set_row rows t (Half f)
@@ -105,7 +108,8 @@ with_read (Hidden t) f rows = set_row rows t (Held f)
 abbrev pub read_rows : SpoolState → Files → List Entry → ℕ → Row
 read_rows st f all = with_read st.doubt f (rows_of st.removed st.holds st.last all)
 
--- the event in doubt is a publication above all stamps, or the removal of the least pair
+-- the call that failed was a publication above all stamps, or the removal of the oldest pair, which
+-- has these files
 abbrev pub MayBe : Doubt → Files → ℕ → ℕ → List Entry → Type 0
 MayBe Nothing f removed last all = ⊤
 MayBe (Unsettled t) f removed last all = last < t
@@ -115,7 +119,7 @@ MayBe (Unhidden t) f removed last all =
 MayBe (Hidden t) f removed last all =
     place_in 0 t all ≡ Some (record { place = removed; files = f })
 
--- no stamp is above this
+-- no entry has a stamp above this
 abbrev pub AreUpTo : ℕ → List Entry → Type 0
 AreUpTo last [] = ⊤
 AreUpTo last (e ∷ es) = (e.stamp ≤ last) × AreUpTo last es
@@ -124,9 +128,10 @@ AreUpTo last (e ∷ es) = (e.stamp ≤ last) × AreUpTo last es
 abbrev pub IsWithin : ℕ → Span → Type 0
 IsWithin n h = (h.from ≤ h.to) × (h.to ≤ n)
 
+-- each held set lies within a list of this length
 abbrev pub AreWithin : ℕ → List Span → Type 0
 AreWithin n holds = (h : Span) → Contains holds h → IsWithin n h
 
--- the file set of a hold
+-- the file set of a hold, from the history
 abbrev pub held : Span → List Event → List Entry
 held span h = take (span.to - span.from) (drop span.from (entries_of h))

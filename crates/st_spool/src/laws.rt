@@ -1,17 +1,17 @@
-//! What is so of every history and of every run. Each of these does nothing: its contract is the
-//! law.
+//! Laws of histories and of runs. Each of these functions does nothing: its contract is the law.
 ghost use Rattle.st_spool.specs.Histories.{HoldsStay, TakesAll, OneHistory, HistoryStays, FailedStays, PublishedGoesOn, RemovedGoesOn};
 ghost use Rattle.st_spool.specs.Covers.{CoversAll, CoversOpening, CoversOn, CoversStill, CoversFault, CoversDoubt, CoversMore, CoversWithoutDoubt};
 
 use crate::pair_rule::PairRule;
 
-/// What a hold has stays the same as the history goes on.
+/// The pairs of a hold stay the same whatever is published or removed later.
 pub fn holds_stay()
     ensures { HoldsStay }
 {}
 
-/// The history of a spool is what its state and its shelf's log tell (`specs/Recalling.antt`). It
-/// stays as it is, but a publication and a removal that succeed add their event.
+/// The history of a spool is a function of its state and of its shelf's log
+/// (`specs/Recalling.antt`). A publication or a removal that succeeds adds its event to it; every
+/// other call leaves it as it was.
 pub fn one_history<W: PairRule>()
     ensures one { OneHistory W.is_whole }
     ensures stays { HistoryStays W.is_whole }
@@ -23,8 +23,9 @@ pub fn one_history<W: PairRule>()
     ensures taken { TakesAll }
 {}
 
-/// How a run of calls that begins with an opening is covered: at every moment a crash leaves the
-/// pairs of the history with some of its events, the first ones, and after the last call with all.
+/// What crashes leave in a run of calls that begins with an opening: at every moment the pairs of
+/// the history with the first of its events, and after the last call with all. If a call failed,
+/// its event may be in doubt from then on.
 pub fn covers()
     ensures all { CoversAll }
     // as calls succeed

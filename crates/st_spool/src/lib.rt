@@ -12,25 +12,25 @@
 //! - A spool opens with just the pairs that are there, and clears the rest away (`Spool::enter`).
 //! - At every moment of a publication a crash leaves the pairs as before or with the new one whole;
 //!   after it the new one (`Spool::publish`). So too of a removal (`Spool::age`).
-//! - A call that failed leaves the history, and says by the doubt which pairs a crash may leave;
-//!   from then on `publish` and `age` refuse.
+//! - A publication or a removal that failed leaves the history, and the spool keeps what a crash
+//!   may leave of it (`Doubt`); from then on `publish` and `age` refuse.
 //! - A hold gives its pairs with their bytes, whatever is published or removed meanwhile
 //!   (`Spool::block_of`, `index_of`, `holds_stay`).
-//! - The history is one, told by what the spool keeps and by its shelf's log (`one_history`). Over
-//!   a whole run of calls a crash leaves the pairs of the history up to some event, and never less
-//!   than was answered Ok (`covers`).
+//! - What a spool keeps and its shelf's log determine its history (`one_history`). Over a whole run
+//!   of calls a crash leaves the pairs of the history up to some event, and never less than was
+//!   answered Ok (`covers`).
 //! - `DiskFault` comes only if the shelf's count of faults rose in that call.
 //!
 //! # What it leaves to others
 //!
-//! It reads no file. Threads that share a spool are not its concern, nor is what a doubt comes to:
-//! a halted spool is closed and opened anew.
+//! It reads no file. Threads that share a spool are not its concern. Nor does it find out whether
+//! an event in doubt happened: a halted spool is closed and opened anew.
 //!
 //! # Where to read
 //!
 //! `specs/History.antt` says which histories there may be, `specs/Rows.antt` and
 //! `specs/States.antt` what a crash may leave under the names of a stamp, `specs/Standing.antt`
-//! which history a spool stands for, `specs/Recalling.antt` how state and log tell it,
+//! which history a spool represents, `specs/Recalling.antt` how state and log tell it,
 //! `specs/Covers.antt` what crashes leave over a run. Then `spool`.
 #![tactic(auto)]
 

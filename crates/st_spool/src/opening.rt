@@ -19,7 +19,7 @@ use std::alloc::Global;
 /// Why a spool was not opened.
 #[derive(Clone, Copy, Debug, PartialEq, Eq)]
 pub enum EnterErr {
-    /// The disk failed: the shelf's count of faults rose.
+    /// The disk failed: the shelf's count of faults rose in the call.
     DiskFault,
     /// Out of memory.
     NoMemory,
@@ -43,7 +43,7 @@ pub(crate) fn flush_both<D: Shelf>(shelf: &mut D) -> Result<(), Failed>
     Ok(())
 }
 
-// The name is that of one file of a pair, and the other one is among the names.
+// Whether the name is that of one file of a pair, and the other one is among the names.
 fn is_part(names: &[Name], name: Name) -> bool
     ensures { IsTrue result ↔ IsPart (Contains names.now) name }
 {
@@ -54,7 +54,7 @@ fn is_part(names: &[Name], name: Name) -> bool
     }
 }
 
-// The stamp of a block whose index is among the names.
+// The stamp of the name, if it is a block's and the index is among the names.
 fn pair_stamp(names: &[Name], name: Name) -> Option<u64>
     ensures { MatchOption result
         ((s : ℕ) → name ≡ Block s → Contains names.now (Index s) → ⊥)
@@ -88,7 +88,7 @@ fn pair_stamps(alloc: Global, names: &[Name]) -> Result<Vec<u64>, NoMemory>
     Ok(stamps)
 }
 
-// The stamp of a name that is no draft's.
+// The stamp of a name, unless it is a draft's.
 fn file_stamp(name: Name) -> Option<u64>
     ensures { MatchOption result (IsStamped name → ⊥)
         (λ s. IsStamped name × (number_of name ≡ s)) }
@@ -99,7 +99,7 @@ fn file_stamp(name: Name) -> Option<u64>
     }
 }
 
-// The greatest stamp among the names of files of pairs, or 0.
+// The greatest stamp among the names, or 0. A draft's name has none.
 fn last_stamp(names: &[Name]) -> u64
     ensures { IsLastStamp (Contains names.now) result }
 {
@@ -113,7 +113,7 @@ fn last_stamp(names: &[Name]) -> u64
     last
 }
 
-// Some name is no part of a pair.
+// Whether some name is no part of a pair.
 fn has_strays(names: &[Name]) -> bool
     ensures { result ≡ false → (n : Name) → Contains names.now n → IsPart (Contains names.now) n }
 {
@@ -125,7 +125,7 @@ fn has_strays(names: &[Name]) -> bool
     false
 }
 
-// Removes each of these names, all that are there, that is no part of a pair.
+// Removes each file that is no part of a pair. The names are those of all files that are there.
 fn clear<D: Shelf>(shelf: &mut D, names: &[Name]) -> Result<(), Failed>
     // what is removed, and what is read then
     ensures cleared { (first : Log) (f : Folder) → AreThere names.now f
@@ -150,7 +150,8 @@ fn clear<D: Shelf>(shelf: &mut D, names: &[Name]) -> Result<(), Failed>
     Ok(())
 }
 
-// Clears the folders of what is no part of a pair, and makes that durable.
+// Clears the folders of what is no part of a pair, and makes that durable. The names are those of
+// all files that are there.
 fn tidy<D: Shelf>(shelf: &mut D, names: &[Name]) -> Result<(), Failed>
     ensures tidied { (first : Log) (f : Folder) → AreThere names.now f
         → D.log shelf.old ≡ Some first → Each first (Is f) → MatchResult result

@@ -24,8 +24,8 @@ pub enum Stopped {
 }
 
 // Settles the index of a pair, then its block, under a stamp of which nothing is there, and makes
-// both durable. The index comes first: a crash may leave it alone, which is no pair. What was not
-// settled is abandoned.
+// both durable. The index comes first: a crash may then leave the index alone, which is no pair.
+// A file that was not settled is abandoned.
 pub(crate) fn settle_pair<D: Shelf>(
     shelf: &mut D,
     pair: SealedPair<D::Draft>,
@@ -89,7 +89,8 @@ pub(crate) fn hide_out<D: Shelf>(shelf: &mut D, stamp: u64) -> Result<(), Stoppe
     Ok(())
 }
 
-// The name of the index of the pair at a place, which is parked once the pair was removed.
+// The name of the index of the pair at a place. It is parked if the pair was removed, or if the
+// removal that failed hid it.
 pub(crate) fn index_file(doubt: Doubt, removed: usize, place: usize, stamp: u64) -> Name
     ensures { result ≡ index_name (is_parked doubt removed place) stamp }
 {

@@ -24,11 +24,11 @@ use std::marker::{Model, PhantomData};
 /// were there at the opening, the first `removed` are published no more, and of these the first
 /// `swept` have no file left. `last` is the greatest stamp of any file so far. `holds` are the held
 /// sets, each as places in the list of stamps; `asks` counts them, and `asked` is the last one.
-/// After a call that failed `doubt` is its event, `halted` the shelf's count of faults then, and
-/// `halts` counts such calls.
+/// After a publication or an ageing that failed `doubt` is what it may have left, `halted` the
+/// shelf's count of faults then, and `halts` counts the calls that failed so.
 ///
 /// Contracts see it as `SpoolView`: its shelf, what it keeps, and for how many publications it has
-/// room. It stands for a history (`specs/Standing.antt`), which is told by what it keeps and by its
+/// room. It represents a history (`specs/Standing.antt`), a function of what it keeps and of its
 /// shelf's log (`specs/Recalling.antt`). It must be spent, by `close`.
 pub struct Spool<D: Shelf, W: PairRule> {
     shelf: D,
@@ -67,11 +67,13 @@ impl<D: Shelf, W: PairRule> Model for Spool<D, W> {
 }
 
 impl<D: Shelf, W: PairRule> Spool<D, W> {
-    /// Opens a spool over a shelf, whose pairs it takes as they are, without a look at a file. What
-    /// is no part of a pair is removed: drafts, parked indexes, a block or an index alone.
+    /// Opens a spool over a shelf, of at least one pair as its limit. It takes the pairs that are
+    /// there and reads no file. What is no part of a pair is removed: drafts, parked indexes, a
+    /// block or an index alone.
     ///
-    /// The shelf comes back if memory runs out, or if its count of faults rose; then a crash leaves
-    /// the pairs that one might have left before the call.
+    /// `NoMemory` comes if memory runs out, `DiskFault` only if the shelf's count of faults rose.
+    /// Both hand the shelf back; a crash then leaves pairs that one might have left before the
+    /// call.
     pub fn enter(alloc: Global, shelf: D, limit: u32) -> Result<Spool<D, W>, NotEntered<D>>
         requires { 1 ≤ limit }
         ensures entered { (log : Log) → D.log shelf ≡ Some log → MatchResult result
@@ -113,7 +115,7 @@ impl<D: Shelf, W: PairRule> Spool<D, W> {
         }
     }
 
-    /// Says that the spool stands for a history, by what its type keeps. It does nothing.
+    /// Does nothing. Its contract says that the spool represents a history.
     pub fn recall(&self)
         ensures { Stands W.is_whole (D.log self.now.shelf) self.now.state }
     {

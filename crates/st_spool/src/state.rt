@@ -1,14 +1,15 @@
-/// The places of a held set in the list of all pairs: from the first place to before the second.
+/// The places of a held set in the list of all pairs: from `from` on, and before `to`.
 #[derive(Clone, Copy, Debug, PartialEq, Eq)]
 pub struct Span {
     pub from: usize,
     pub to: usize,
 }
 
-/// The event in doubt after a call that failed, by the stamp of its pair.
+/// What a call that failed may have left, with the stamp of its pair. Its event is in doubt if it
+/// settled the block or hid the index.
 #[derive(Clone, Copy, Debug, PartialEq, Eq)]
 pub enum Doubt {
-    /// No event is in doubt.
+    /// No call failed.
     Nothing,
     /// A publication. Its block was not settled, so no crash leaves the pair.
     Unsettled(u64),

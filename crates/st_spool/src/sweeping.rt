@@ -1,4 +1,4 @@
-// The removal of what is left of pairs that nobody wants any more.
+// The removal of the files of pairs that were removed and that no hold has.
 ghost use Rattle.std.specs.Prelude.{Option, ◌≡◌, ◌≤◌, ◌<◌, ℕ, List, [], None, true, false, OnOk, length, slice_index, slice_index_or, Contains, MatchOption};
 ghost use Rattle.st_base.specs.Faults.{Rose, HasCause};
 ghost use Rattle.st_disk.specs.declared.naming.Name.{Name};
@@ -12,14 +12,15 @@ use crate::state::Span;
 use st_base::Failed;
 use st_shelf::{Name, Shelf};
 
-// Some hold has the pair at this place.
+// Whether some hold has the pair at this place.
 fn is_covered(holds: &[Span], place: usize) -> bool
     ensures { result ≡ covers holds.now place }
 {
     holds.iter().any(|h| h.from <= place && place < h.to)
 }
 
-// Removes the files of a pair that was removed and that nobody holds, the parked index first.
+// Removes the files of a pair that was removed and that no hold has, the parked index first: a
+// crash may leave the block alone, which is no pair.
 fn forget<D: Shelf>(shelf: &mut D, stamp: u64) -> Result<(), Failed>
     ensures forgotten { (first : Log) (rows : ℕ → Row) → rows stamp ≡ Past
         → RanBy first (D.log shelf.old) [] rows rows
@@ -43,8 +44,8 @@ fn forget<D: Shelf>(shelf: &mut D, stamp: u64) -> Result<(), Failed>
     Ok(())
 }
 
-// Removes the files of the removed pairs from a place on that no hold has. A removal that fails is
-// passed over. The place from which on something may be left comes back.
+// Removes the files of each removed pair from the place `from` on that no hold has. A removal that
+// fails is passed over. Returns a place before which no file of these pairs is left.
 pub(crate) fn sweep<D: Shelf>(
     shelf: &mut D,
     stamps: &[u64],
@@ -86,7 +87,7 @@ pub(crate) fn sweep<D: Shelf>(
     swept
 }
 
-// The place of a hold among all.
+// A place that has this hold, if there is one.
 fn place_of(holds: &[Span], hold: Span) -> Option<usize>
     ensures { MatchOption result (Contains holds.now hold → ⊥)
         (λ k. (k < length holds.now) × (slice_index_or holds.now k hold ≡ hold)) }

@@ -25,7 +25,8 @@ use st_base::NoMemory;
 use st_shelf::{Name, Shelf};
 
 impl<D: Shelf, W: PairRule> Spool<D, W> {
-    /// Holds the set of all pairs that are published now. The hold must be spent, by `release`.
+    /// Holds the set of all pairs that are published at this call. The hold must be spent, by
+    /// `release`. `NoMemory` comes if memory runs out, and changes nothing.
     pub fn hold(&mut self) -> Result<Hold, NoMemory>
         ensures stands { (earlier h : List Event) (f : Files)
             → StandsFor W.is_whole (D.log self.old.shelf) self.old.state earlier h f
@@ -60,7 +61,8 @@ impl<D: Shelf, W: PairRule> Spool<D, W> {
         hold.span.to - hold.span.from
     }
 
-    /// The stamp of the pair with this index in a hold of this spool, from 0 on, by stamps.
+    /// The stamp of the pair at the place `i` of a hold of this spool, from 0 on, in the order of
+    /// stamps.
     pub fn stamp_of(&self, hold: &Hold, i: usize) -> u64
         requires held { Contains self.now.state.holds hold.now }
         requires within { i < size_of hold.now }
@@ -71,8 +73,8 @@ impl<D: Shelf, W: PairRule> Spool<D, W> {
         self.stamps[hold.span.from + i]
     }
 
-    /// Lends the block file of the pair with this index in a hold of this spool, from 0 on, by
-    /// stamps. It must be spent, by `close_file`.
+    /// Lends the block file of the pair at the place `i` of a hold of this spool, from 0 on, in the
+    /// order of stamps. It must be spent, by `close_file`.
     ///
     /// `DiskFault` comes only if the shelf's count of faults rose.
     pub fn block_of(&mut self, hold: &Hold, i: usize) -> Result<D::File, DiskFault>
@@ -103,8 +105,8 @@ impl<D: Shelf, W: PairRule> Spool<D, W> {
         Ok(file)
     }
 
-    /// Lends the index file of the pair with this index in a hold of this spool, from 0 on, by
-    /// stamps. It must be spent, by `close_file`.
+    /// Lends the index of the pair at the place `i` of a hold of this spool, from 0 on, in the
+    /// order of stamps. It must be spent, by `close_file`.
     ///
     /// `DiskFault` comes only if the shelf's count of faults rose.
     pub fn index_of(&mut self, hold: &Hold, i: usize) -> Result<D::File, DiskFault>

@@ -67,7 +67,8 @@ impl<D: Shelf, W: PairRule> Spool<D, W> {
         self.shelf.abandon(end);
     }
 
-    /// Makes room for a publication.
+    /// Makes room for a publication, which `publish` needs. `NoMemory` comes if memory runs out,
+    /// and leaves what the spool keeps.
     pub fn reserve(&mut self) -> Result<(), NoMemory>
         ensures spare { OnOk result (0 < self.new.spare) }
         ensures state { self.new ≡ record self.old { spare = self.new.spare } }
@@ -78,12 +79,13 @@ impl<D: Shelf, W: PairRule> Spool<D, W> {
         }
     }
 
-    /// Publishes a pair of sealed files of this spool's shelf, under a stamp above all so far that
-    /// is `floor` or greater. At Ok no crash leaves less than the pair.
+    /// Publishes a pair of sealed files of this spool's shelf, and returns its stamp: the greater
+    /// of `floor` and the one after the last. At Ok each crash from then on leaves the whole pair.
     ///
     /// `DiskFault` comes only if the shelf's count of faults rose: each file that was not settled
-    /// is abandoned, the pair is in doubt, and the spool refuses from then on. `Halted` comes only
-    /// if an earlier call failed, and `StampsSpent` only if no stamp is left; both change nothing.
+    /// is abandoned, the publication is in doubt if the block was settled, and the spool refuses
+    /// from then on. `Halted` comes only if an earlier call failed, and `StampsSpent` only if no
+    /// stamp is left; both change nothing and hand the pair back.
     pub fn publish(
         &mut self,
         pair: SealedPair<D::Draft>,
