@@ -40,7 +40,7 @@ told_failed (Err (publish.Halted since pair)) = refl
 told_failed (Err (publish.StampsSpent last pair)) = refl
 
 module _ {S E H : Type 0} (facts : S → Facts E H) (Keeps : S → S → Type 0) where
-  -- `stops` rises just in a turn of a call that failed
+  -- `stops` rises only in a turn in which a publication or an ageing failed
   pub stops_by : (v w : S) (p q : PassState S E H) (held next : List H) (failed : Bool) → IsTurn facts v w p q → MayTurn facts Keeps v w held next failed → q.card.stops ≡ cond failed (next_count p.card.stops) p.card.stops
   stops_by v w p q held next true t m =
       ⊎_elim (λ (s : ((facts w).halts ≡ (facts v).halts) × (q.card.stops ≡ p.card.stops)). absurd (let a = s.0 in let b = m.one refl in omega arith))

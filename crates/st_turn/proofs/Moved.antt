@@ -19,7 +19,7 @@ counts_on xf yf n =
     (λ e. inr (refl, grind arith))
     (λ e. inl refl)
 
--- the bound of the shelf's count, and that of the calls that failed
+-- the bound of the shelf's count, and that of the publications and ageings that failed
 bound_on : (base t t' old new xf yf : ℕ) → min (base + t) (2 ^ 64 - 1) ≤ xf → xf ≤ yf → t' + old ≡ t + new → (new ≡ old) ⊎ ((new ≡ next_count old) × (next_count xf ≤ yf)) → min (base + t') (2 ^ 64 - 1) ≤ yf
 bound_on base t t' old new xf yf h le e (inl same) = omega arith
 bound_on base t t' old new xf yf h le e (inr p) = let a = p.0 in let b = p.1 in omega arith

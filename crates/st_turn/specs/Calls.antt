@@ -1,4 +1,4 @@
--- What every turn makes of a pass, from the spool as it was taken and as it was put back.
+-- What every turn makes of a pass, by the spool as it was found and as it was left.
 use Rattle.std.specs.Prelude.{◌≡◌, ◌<◌, ◌≤◌, ◌⊎◌, ℕ, List, [], ◌∷◌, ◌++◌, length, Bool, true, cond, nat_lt}
 use Rattle.std.specs.List.{remove, slice_index_or}
 use Rattle.st_base.specs.Faults.{next_count}
@@ -31,11 +31,11 @@ HeldAfter {H} before now held next =
     ⊎ ((h : H) × Without h before now × Without h held next))
 
 module _ {S E H : Type 0} where
-  -- A turn by a pass, from the spool as it was taken: what the pass saw before begins the history
-  -- at home, which the call left or added one event to, and what the pass sees is the history that
-  -- the call left. An event that the call added is the pass's own. Its counts rose where the
-  -- shelf's count rose and where the call failed, and its holds changed by this call's hold. An Ok
-  -- hold took the history at home.
+  -- A turn, in which a call took the spool from v to w, and the pass went from p to q. What the
+  -- pass had seen begins the history at home. The call left that history or added one event to it,
+  -- which is the pass's own, and the pass has seen then the history that the call left. Its counts
+  -- rose where the shelf's count rose and where the call failed. Its holds changed by this call's
+  -- hold; if that was taken, it took the history at home.
   pub record IsTurn (facts : S → Facts E H) (v w : S) (p q : PassState S E H) : Type 0 where
     pub before : IsPrefix p.card.seen (facts v).history
     pub history : HistoryAfter (facts v).history (facts w).history
@@ -54,9 +54,10 @@ module _ {S E H : Type 0} where
     pub rest : (q.card.number ≡ p.card.number) × (q.base ≡ p.base) × (q.passes ≡ p.passes)
         × (q.made ≡ p.made)
 
-  -- What a call of the spool has to be for that: the history stays or has one event more, of a call
-  -- that stopped the spool the count rose, and its holds change by at most one, which is then one
-  -- of the pass's.
+  -- A call that may be made in a turn, which took the spool from v to w, and the holds of the pass
+  -- from `held` to `next`. The history stays or has one event more, and the holds of the spool and
+  -- of the pass change alike, by at most one. If the call stopped the spool, the shelf's count
+  -- rose, and so did the count of the publications and ageings that failed.
   pub record MayTurn (facts : S → Facts E H) (Keeps : S → S → Type 0) (v w : S)
       (held next : List H) (stopped : Bool) : Type 0 where
     pub history : HistoryAfter (facts v).history (facts w).history

@@ -4,11 +4,12 @@ use Rattle.st_turn.specs.Parts.{Facts, PassState, total, IsPrefix, Each, is_same
 use Rattle.st_turn.specs.Steps.{visitor, joined}
 
 module _ {S E H : Type 0} where
-  -- a pass that took in all of these, the last one first
+  -- a pass into which all of these were joined, the last one first
   abbrev pub gathered : PassState S E H → List (PassState S E H) → PassState S E H
   gathered p [] = p
   gathered p (o ∷ os) = joined (gathered p os) o
 
+  -- the first of these passes, into which all others were joined
   abbrev pub gathered_all : List (PassState S E H) → PassState S E H
   gathered_all [] = visitor []
   gathered_all (p ∷ ps) = gathered p ps
@@ -18,10 +19,10 @@ module _ {S E H : Type 0} where
   AreNumbered n [] = Unit {0}
   AreNumbered n (p ∷ ps) = (p.card.number ≡ Some n) × (p.held ≡ []) × AreNumbered (n + 1) ps
 
-  -- What the passes knew, beside a spool as it was shared and as it came back: each saw a beginning
-  -- of the one history, no two own one place, no hold is out; the shelf's count rose as often as
-  -- the passes' turns say, and no more calls of the spool failed than they say, and no fewer than
-  -- each knew of.
+  -- A spool as it was shared and as it came back, with what its passes know: each saw a beginning
+  -- of the one history, no two own one place, and no hold is out. The shelf's count rose at least
+  -- as often as the passes counted, or stands at its greatest number. No more publications and
+  -- ageings failed than they counted, and no fewer than each knew of.
   pub record Ended (first last : Facts E H) (ps : List (PassState S E H)) : Type 0 where
     pub seen : Each (λ p. IsPrefix p.card.seen last.history) ps
     pub own : (k : ℕ) → total (λ p. total (is_same k) p.card.own) ps ≤ 1

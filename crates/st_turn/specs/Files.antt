@@ -9,6 +9,7 @@ module _ {F : Type 0} (origin : F → FileOrigin) (reads asked : F → ℕ) wher
   with_file l file true = lend l
   with_file l file false = take_back (origin file).kind (reads file) (asked file) l
 
+  -- with these files, in order
   abbrev pub with_files : LoansView → List (F × Bool) → LoansView
   with_files l [] = l
   with_files l (e ∷ es) = with_files (with_file l e.0 e.1) es

@@ -52,8 +52,8 @@ module _ {S : Type 0} where
   AreStarted table base h n made (p ∷ ps) =
       (p.table ≡ table) × (p.state ≡ starts base h 0 n made) × AreOthers table base h n 1 ps
 
-  -- this pass met that one: it is the same but for what it saw, which is the longer of the two
-  -- histories, and has both as beginnings
+  -- The pass p met the pass o, and is q after it: what it saw is the longer of the two histories,
+  -- which begins with both, and but for that and its notes it is the same.
   pub record Met (p o q : PassView S) : Type 0 where
     pub table : q.table ≡ p.table
     pub id : q.id ≡ p.id

@@ -26,15 +26,15 @@ module _ {D : Type 0} (W : List ℕ → List ℕ → Type 0) (log : D → Option
     pub held_is : (earlier h : List Event) (f : Files)
         → StandsFor W (log v.shelf) v.state earlier h f → result ≡ length (held hold h)
 
-  -- the stamp of the pair with this index in a hold
+  -- the stamp of the `i`-th pair of a hold, counted from 0 in the order of stamps
   pub record TellsStamp (hold : Span) (i result : ℕ) : Type 0 where
     pub same : w ≡ v
     pub stamp_is : (earlier h : List Event) (f : Files) (e : Entry) (after : List Entry)
         → StandsFor W (log v.shelf) v.state earlier h f
         → drop i (held hold h) ≡ e ∷ after → result ≡ e.stamp
 
-  -- a file of this kind was lent, or none was: the block file or the index of the pair with this
-  -- index in a hold
+  -- the file of this kind of the `i`-th pair of a hold, counted from 0 in the order of stamps, was
+  -- lent, or the shelf failed and none was
   pub record Lends {F : Type 0} (kind : Kind) (part : Entry → List ℕ)
       (content : F → Option (List ℕ)) (origin : F → FileOrigin) (reads asked file_faults : F → ℕ)
       (hold : Span) (i : ℕ) (result : Result F DiskFault) : Type 0 where

@@ -14,7 +14,7 @@ use Rattle.st_turn.specs.Spools.{top_stamp}
 use Rattle.st_turn.specs.SpoolCalls.{age_stopped}
 
 module _ {T S : Type 0} where
-  -- whether a publication failed, which `DiskFault` says alone
+  -- whether a publication failed, which only `DiskFault` says
   abbrev pub has_failed : Result ℕ (SharedPublishErr T S) → Bool
   has_failed (Ok s) = false
   has_failed (Err shared.DiskFault) = true
@@ -22,7 +22,7 @@ module _ {T S : Type 0} where
   has_failed (Err (shared.StampsSpent last pair)) = false
   has_failed (Err (shared.NoMemory pair)) = false
 
-  -- whether it was refused since an earlier call had failed
+  -- whether it was refused since an earlier publication or ageing had failed
   abbrev pub is_halted : Result ℕ (SharedPublishErr T S) → Bool
   is_halted (Ok s) = false
   is_halted (Err shared.DiskFault) = false
@@ -46,18 +46,19 @@ module _ {T S : Type 0} where
   had_memory (Err (shared.StampsSpent last pair)) = true
   had_memory (Err (shared.NoMemory pair)) = false
 
--- whether an ageing was refused since an earlier call had failed
+-- whether an ageing was refused since an earlier publication or ageing had failed
 abbrev pub age_halted : Result Bool AgeErr → Bool
 age_halted (Ok b) = false
 age_halted (Err age.DiskFault) = false
 age_halted (Err (age.Halted since)) = true
 
--- A call that may fail, by the cards of its pass before and after: `stops` rose just where it
--- failed.
+-- A publication or an ageing, by the cards of its pass before and after: `stops` is one more if it
+-- failed, but no more than a u64 holds, and else as it was.
 abbrev pub StopsBy : Card Event → Card Event → Bool → Type 0
 StopsBy p q failed = q.stops ≡ cond failed (next_count p.stops) p.stops
 
--- It is refused as halted just where a call of the spool has failed, and this one did not.
+-- A publication or an ageing, by the card of its pass after it: it is refused as halted if and only
+-- if a publication or an ageing of the spool has failed, and not this one.
 abbrev pub HaltedBy : Card Event → Bool → Bool → Type 0
 HaltedBy q failed halted = (halted ≡ true) ↔ ((0 < q.halts) × (failed ≡ false))
 
@@ -66,10 +67,11 @@ pub record AgeRefuses (p q : Card Event) (result : Result Bool AgeErr) : Type 0 
   pub stops : StopsBy p q (age_stopped result)
   pub halted : HaltedBy q (age_stopped result) (age_halted result)
 
--- A publication, by the greatest stamp that the spool knew as it was shared, and by the spool as
--- the turn was taken. Where there was memory and the log of the shelf is known, no stamp is left
--- just where no call has failed and the greatest stamp is the last one: that one, or one that was
--- published in what the pass sees, without an event of this call.
+-- How a publication is refused, by the cards of its pass before and after. `start` is the greatest
+-- stamp that the spool knew as it was shared, `v` the spool as the turn found it. Where there was
+-- memory and the log of the shelf is known, the answer is that no stamp is left if and only if no
+-- publication or ageing has failed, and the greatest of `start` and of the stamps that the history
+-- of `v` published is 2^64 - 1.
 pub record PublishRefuses {D T S : Type 0} (log : D → Option Log) (start : ℕ) (v : SpoolView D)
     (p q : Card Event) (result : Result ℕ (SharedPublishErr T S)) : Type 0 where
   pub stops : StopsBy p q (has_failed result)

@@ -49,7 +49,8 @@ told (Err publish.DiskFault) = Err shared.DiskFault
 told (Err (publish.Halted since pair)) = Err (shared.Halted since pair)
 told (Err (publish.StampsSpent last pair)) = Err (shared.StampsSpent last pair)
 
--- a spool as a turn finds it: it stands for a history, and keeps what the spool was that was shared
+-- a spool as a turn finds it: it stands for a history, and keeps what it must of the spool as it
+-- was shared
 pub record IsAtHome {D : Type 0} (W : List ℕ → List ℕ → Type 0) (log : D → Option Log)
     (faults home : D → ℕ) (base v : SpoolView D) : Type 0 where
   pub stands : Stands W (log v.shelf) v.state
@@ -57,7 +58,8 @@ pub record IsAtHome {D : Type 0} (W : List ℕ → List ℕ → Type 0) (log : D
 
 module _ {D : Type 0} (W : List ℕ → List ℕ → Type 0) (log : D → Option Log) (faults home : D → ℕ)
     (loans : D → LoansView) (v w : SpoolView D) where
-  -- a call without an event: the spool stands for its history as before, and only its shelf changed
+  -- a call without an event: the spool stands for its history as before, and at most its shelf
+  -- changed
   pub record StaysAs : Type 0 where
     pub keeps : (earlier h : List Event) (f : Files)
         → StandsFor W (log v.shelf) v.state earlier h f
@@ -83,7 +85,7 @@ module _ {D : Type 0} (W : List ℕ → List ℕ → Type 0) (log : D → Option
         (faults v.shelf) (faults w.shelf)
     pub loans_are : loans w.shelf ≡ loans v.shelf
 
-  -- the set at home is held, or there was no memory
+  -- the set at home is held, or memory ran out and nothing changed
   pub record Holds {E : Type 0} (result : Result Span E) : Type 0 where
     pub stands : (earlier h : List Event) (f : Files)
         → StandsFor W (log v.shelf) v.state earlier h f
@@ -94,7 +96,8 @@ module _ {D : Type 0} (W : List ℕ → List ℕ → Type 0) (log : D → Option
         (λ k. (k ≡ whole_set v.state) × (w ≡ record v { state = with_hold v.state }))
         (λ e. w ≡ v)
 
-  -- a hold was given back, and the files that it alone kept are removed
+  -- a hold was given back, and the spool tried to remove the files of the removed pairs that no
+  -- hold has
   pub record Releases (hold : Span) : Type 0 where
     pub keeps : (earlier h : List Event) (f : Files)
         → StandsFor W (log v.shelf) v.state earlier h f
@@ -109,7 +112,8 @@ module _ {D : Type 0} (W : List ℕ → List ℕ → Type 0) (log : D → Option
     pub cause : faults v.shelf ≤ faults w.shelf
     pub rest : (home w.shelf ≡ home v.shelf) × (loans w.shelf ≡ loans v.shelf)
 
-  -- the oldest pair was removed, or there is none above the limit, or the ageing failed
+  -- the oldest pair was removed, or there is none above the limit, or the ageing was refused or
+  -- failed
   pub record AgesBy (result : Result Bool AgeErr) : Type 0 where
     pub aged : (earlier h : List Event) (f : Files) (e : Entry) (after : List Entry)
         → MayAge v.state → StandsFor W (log v.shelf) v.state earlier h f → set_of h ≡ e ∷ after

@@ -26,11 +26,12 @@ top_stamp n (Remove s ∷ h) = top_stamp n h
 abbrev pub StaysKnown : Option Log → Option Log → Type 0
 StaysKnown old new = (log : Log) → old ≡ Some log → (now : Log) × (new ≡ Some now)
 
--- What two states of a spool and their logs say of what lies between them: the same events came
--- before the opening, and more events after the history of the earlier one. At every moment between
--- them a crash leaves the pairs of the history so far; on the way to the next event, or since a
--- call failed, that or the set with the event, and since a call failed the second only if the shelf
--- settled that event's block or hid its index.
+-- What two states of a spool, b and later x, and their logs say of what lies between them. The same
+-- events came before the opening, and the history of x begins with that of b. At every moment
+-- between them a crash leaves the pairs of the history so far or, on the way to the next event,
+-- these or the set with that event. Once a publication or an ageing failed, the next event is that
+-- of the call that failed, and a crash leaves the set with it only if the shelf settled its block
+-- or hid its index.
 pub record KeepsImages (b x : SpoolState) (first now : Log) : Type 0 where
   pub earlier_is : earlier x now ≡ earlier b first
   pub more : List Event
@@ -40,7 +41,7 @@ pub record KeepsImages (b x : SpoolState) (first now : Log) : Type 0 where
   pub doubt : List Event
   pub past : events now ≡ earlier x now ++ (after_found (history x now) ++ doubt)
   pub no_doubt : x.halted ≡ None → doubt ≡ []
-  -- the crashes, if the earlier spool had not failed
+  -- the crashes, if no publication or ageing had failed at b
   pub covers : b.halted ≡ None → CoversInDoubt (history b first) more doubt first now
 
 module _ {D : Type 0} (log : D → Option Log) (faults home : D → ℕ) where
@@ -54,8 +55,8 @@ module _ {D : Type 0} (log : D → Option Log) (faults home : D → ℕ) where
   }
 
   -- The later spool has the same shelf and limit; its shelf's count never falls, and its history
-  -- begins with that of the earlier one. The log of its shelf is known just where the earlier one
-  -- was, whose calls it begins with: so up to then the images of both are the same.
+  -- begins with that of the earlier one. The log of its shelf is known if and only if that of the
+  -- earlier one was, whose calls it begins with: so up to then the images of both are the same.
   pub record KeepsOf (b x : SpoolView D) : Type 0 where
     pub shelf : home x.shelf ≡ home b.shelf
     pub limit : x.state.limit ≡ b.state.limit

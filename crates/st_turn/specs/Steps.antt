@@ -1,5 +1,5 @@
--- What a step makes of a pass: a turn, a number that is given out, a pass cut in two, and a pass
--- that takes in another one.
+-- What a step makes of a pass: a turn, a number that is given out, a pass cut in two, and two
+-- passes joined into one.
 use Rattle.std.specs.Prelude.{◌≡◌, ◌≤◌, ◌+◌, ◌⊎◌, ℕ, List, [], ◌∷◌, ◌++◌, length, set, None, Some, Bool, cond, nat_le, nat_lt}
 use Rattle.st_base.specs.Faults.{next_count}
 use Rattle.st_turn.specs.Parts.{Facts, Booked, Card, PassState, total}
@@ -56,10 +56,11 @@ module _ {S E H : Type 0} where
     notes = [];
   }
 
-  -- the pass with number 0 after it gave out a number, and the pass that has that number
+  -- the pass with number 0, after it gave out the next number
   abbrev pub gave_out : PassState S E H → PassState S E H
   gave_out p = record p { made = p.made + 1 }
 
+  -- the pass that has that number
   abbrev pub next_pass : PassState S E H → PassState S E H
   next_pass p = record {
     card = record {
@@ -79,8 +80,8 @@ module _ {S E H : Type 0} where
     notes = [];
   }
 
-  -- a pass that takes in another one: it saw the longer of the two histories, and has notes of what
-  -- it saw before and of the other's card and notes
+  -- a pass into which another one was joined: it saw the longer of the two histories, and has notes
+  -- of what it saw before and of the other's card and notes
   abbrev pub joined : PassState S E H → PassState S E H → PassState S E H
   joined p o = record {
     card = record p.card { seen = longer p.card.seen o.card.seen };
@@ -94,7 +95,7 @@ module _ {S E H : Type 0} where
   }
 
   module _ (facts : S → Facts E H) (Keeps : S → S → Type 0) where
-    -- A turn: what it makes of the spool and its book, and of its pass.
+    -- A turn, which takes the spool with its book from x to y, and its pass from p to q.
     pub record Moves (x y : Booked S) (p q : PassState S E H) : Type 0 where
       -- the one history, with what the turn added, is what the pass saw last
       pub more : List E

@@ -10,10 +10,11 @@ pub record Caller (X P : Type 0) : Type 0 where
   pub taken : Option X
   pub pass : P
 
--- a caller without the turn, and one with it
+-- a caller without the turn
 abbrev pub idle : {X P : Type 0} → P → Caller X P
 idle p = record { taken = None; pass = p }
 
+-- a caller that has the turn, and took this value
 abbrev pub turning : {X P : Type 0} → X → P → Caller X P
 turning x p = record { taken = Some x; pass = p }
 
@@ -36,7 +37,7 @@ module _ {X P : Type 0} where
     pub homes : s.homes ≡ some (Some x) ∷ []
     pub none_turns : (i : ℕ) (d : Caller X P) → get_elem? s.views i ≡ some d → d.taken ≡ None
 
-  -- one caller has the turn, may have it, and names the value as taken
+  -- one caller has the turn, by a pass that may have it, and names the value as taken
   pub record Busy (able : P → Type 0) (s : State (Option X) (Caller X P)) (x : X) : Type 0 where
     pub words : s.words ≡ 1 ∷ []
     pub homes : s.homes ≡ none ∷ []
@@ -54,7 +55,7 @@ module _ {X P : Type 0} where
     pub turn : Free s now ⊎ Busy able s now
     pub kept : parts now (map pass_of s.views)
 
-  -- a try for the turn: who finds 0 has it, and learns something of the value
+  -- a try for the turn: a caller that finds 0 has it, and learns something of the value
   pub record Takes (tells : X → P → Type 0) (s : Step (Option X)) (me : SeatState X P) (found : ℕ)
       (after : SeatState X P) : Type 0 where
     pub hit : found ≡ 0 → (x : X) × (after ≡ (turning x me.0.pass, (0, Some x) ∷ []))

@@ -48,7 +48,7 @@ impl<S: Turned> Play<Option<Home<S>>, Knowledge<S>> for TryTake<S> {
     ghost then = { Takes (Learns S.facts S.keeps) };
 }
 
-/// What one call makes of the spool, its book and its pass, beside what every turn does.
+/// What one call makes of the spool, its book and its pass, beyond what every turn does.
 pub trait Call<S: Turned> {
     ghost makes: { Booked S → Booked S → PassState S Event Span → PassState S Event Span
         → Type 0 };
@@ -65,22 +65,27 @@ impl<S: Turned, C: Call<S>> Play<Option<Home<S>>, Knowledge<S>> for GiveBack<S, 
     ghost then = { Gives (λ x y p q. Moves S.facts S.keeps x y p q × C.makes x y p q) };
 }
 
+/// The table of a shared spool, as threads share it. Each step on it keeps the rule.
 pub type Desk<S> = Steps<Option<Home<S>>, Knowledge<S>, Snapshot<Home<S>>, Rule<S>>;
 
+/// A caller's seat at the table: what the caller knows, and what it took out of the slot.
 pub type Place<S> = Seat<Option<Home<S>>, Knowledge<S>>;
 
-// A caller that finds the turn taken tries again at once so often, then lets others run between its
-// tries, up to so many tries, and then sleeps, each time twice as long, up to 8 milliseconds.
+// A caller that finds the turn taken tries again at once, up to this many tries in all.
 const AT_ONCE: u32 = 16;
 
+// From then on it lets other threads run between its tries, up to this many tries in all.
 const AWAKE: u32 = 20;
 
+// From then on it sleeps between its tries, the first time for this many microseconds.
 const FIRST_SLEEP_MICROS: u64 = 128;
 
+// Each sleep is twice as long as the one before, up to this many doublings: up to 8.192
+// milliseconds.
 const MOST_DOUBLINGS: u32 = 6;
 
-// Lets others have the processor after so many tries in vain. It sleeps only while the turn is
-// taken; nobody wakes it.
+// Lets other threads run after this many tries in vain. It sleeps only while the turn is taken, and
+// nobody wakes it.
 fn stand_back<S: Turned, R: Wait>(rt: &R, desk: &Desk<S>, tries: u32)
     requires { desk.now.table_id.words ≡ 1 }
 {
@@ -140,7 +145,7 @@ pub(crate) fn give<S: Turned, C: Call<S>>(desk: &Desk<S>, place: &mut Place<S>, 
     desk.store::<GiveBack<S, C>>(place, 0, 0);
 }
 
-/// What one turn makes of its pass, from the spool as it was taken and as it was put back.
+// A call that makes of its pass what every turn makes of it, and no more.
 struct Exactly<S> {
     of: PhantomData<S>,
 }
@@ -151,7 +156,7 @@ impl<S: Turned> Call<S> for Exactly<S> {
     ghost makes = { λ x y p q. IsTurn S.facts x.spool y.spool p q };
 }
 
-// Whether a count rose, or stands at its greatest number.
+// Whether a count rose, or stood at its greatest number already.
 fn rose(before: u64, after: u64) -> bool
     ensures { result ≡ has_risen before after }
 {

@@ -29,7 +29,7 @@ impl<D: Shelf, W: PairRule> Shared<Spool<D, W>> {
         ensures same { IsSame pass.old pass.new }
         ensures holds { pass.new.state.held ≡ pass.old.state.held }
         ensures loans { pass.new.loans ≡ pass.old.loans }
-        // the turn
+        // the turn: `v` is the spool as it was found, `w` as it was left
         ensures turn { (v : SpoolView D) × (w : SpoolView D)
             × IsAtHome W.is_whole D.log D.faults D.id self.now.base v
             × IsTurn (facts_of D.log D.faults D.id) v w pass.old.state pass.new.state
@@ -52,7 +52,7 @@ impl<D: Shelf, W: PairRule> Shared<Spool<D, W>> {
         answer
     }
 
-    /// Takes a draft or a sealed file of the shared spool's shelf back and tries to remove it, as
+    /// Takes back a draft or a sealed file of the shared spool's shelf, and tries to remove it, as
     /// the spool's `abandon` does, in one turn.
     pub fn abandon<R: Wait>(&self, rt: &R, pass: &mut Pass<Spool<D, W>>, draft: End<D::Draft>)
         requires of { IsOf self.now pass.old }
@@ -62,7 +62,7 @@ impl<D: Shelf, W: PairRule> Shared<Spool<D, W>> {
         ensures same { IsSame pass.old pass.new }
         ensures holds { pass.new.state.held ≡ pass.old.state.held }
         ensures loans { pass.new.loans ≡ pass.old.loans }
-        // the turn
+        // the turn: `v` is the spool as it was found, `w` as it was left
         ensures turn { (v : SpoolView D) × (w : SpoolView D)
             × IsAtHome W.is_whole D.log D.faults D.id self.now.base v
             × IsTurn (facts_of D.log D.faults D.id) v w pass.old.state pass.new.state

@@ -12,7 +12,7 @@ use crate::pass::Pass;
 use crate::sharing::Shared;
 use crate::turned::Turned;
 
-// One pass takes in another one, which is spent.
+// Joins another pass into this one, and spends it.
 fn merge<S: Turned>(desk: &Desk<S>, pass: &mut Pass<S>, other: Pass<S>)
     requires table { (pass.old.table ≡ desk.now.table_id) × (other.table ≡ desk.now.table_id)
         × (desk.now.table_id.words ≡ 1) }
@@ -28,7 +28,7 @@ fn merge<S: Turned>(desk: &Desk<S>, pass: &mut Pass<S>, other: Pass<S>)
     desk.join_seat::<Merge<S>>(&mut pass.place, place);
 }
 
-// The first pass takes in all others.
+// Joins all other passes into the first one.
 fn gather<S: Turned>(desk: &Desk<S>, passes: Vec<Pass<S>>) -> Pass<S>
     requires table { AreOf desk.now.table_id passes.items × (desk.now.table_id.words ≡ 1) }
     requires numbers { AreNumbered 0 (map state_of passes.items) × (1 ≤ length passes.items) }

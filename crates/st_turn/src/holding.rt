@@ -16,6 +16,7 @@ use st_shelf::Shelf;
 use st_spool::{AgeErr, Hold, PairRule, Spool};
 use std::sync::Wait;
 
+// Whether an ageing failed, which stops the spool.
 fn stopped(answer: Result<bool, AgeErr>) -> bool
     ensures { result ≡ age_stopped answer }
 {
@@ -28,7 +29,8 @@ fn stopped(answer: Result<bool, AgeErr>) -> bool
 
 impl<D: Shelf, W: PairRule> Shared<Spool<D, W>> {
     /// Holds the set of all pairs that are published at home, as the spool's `hold` does, in one
-    /// turn. The hold must be spent, by `release`. After `NoMemory` the pass holds what it held.
+    /// turn. The hold must be spent, by `release`. `NoMemory` leaves the pass the holds that it
+    /// had.
     pub fn hold<R: Wait>(&self, rt: &R, pass: &mut Pass<Spool<D, W>>) -> Result<Hold, NoMemory>
         requires { IsOf self.now pass.old }
         ensures same { IsSame pass.old pass.new }
@@ -36,7 +38,7 @@ impl<D: Shelf, W: PairRule> Shared<Spool<D, W>> {
             (λ k. pass.new.state.held ≡ pass.old.state.held ++ k ∷ [])
             (λ _. pass.new.state.held ≡ pass.old.state.held) }
         ensures loans { pass.new.loans ≡ pass.old.loans }
-        // the turn
+        // the turn: `v` is the spool as it was found, `w` as it was left
         ensures turn { (v : SpoolView D) × (w : SpoolView D)
             × IsAtHome W.is_whole D.log D.faults D.id self.now.base v
             × IsTurn (facts_of D.log D.faults D.id) v w pass.old.state pass.new.state
@@ -68,7 +70,7 @@ impl<D: Shelf, W: PairRule> Shared<Spool<D, W>> {
         ensures same { IsSame pass.old pass.new }
         ensures holds { pass.new.state.held ≡ pass.old.state.held }
         ensures loans { pass.new.loans ≡ pass.old.loans }
-        // the turn
+        // the turn: `v` is the spool as it was found, `w` as it was left
         ensures turn { (v : SpoolView D) × (w : SpoolView D)
             × IsAtHome W.is_whole D.log D.faults D.id self.now.base v
             × IsTurn (facts_of D.log D.faults D.id) v w pass.old.state pass.new.state
@@ -100,7 +102,7 @@ impl<D: Shelf, W: PairRule> Shared<Spool<D, W>> {
         ensures same { IsSame pass.old pass.new }
         ensures holds { Without hold pass.old.state.held pass.new.state.held }
         ensures loans { pass.new.loans ≡ pass.old.loans }
-        // the turn
+        // the turn: `v` is the spool as it was found, `w` as it was left
         ensures turn { (v : SpoolView D) × (w : SpoolView D)
             × IsAtHome W.is_whole D.log D.faults D.id self.now.base v
             × IsTurn (facts_of D.log D.faults D.id) v w pass.old.state pass.new.state

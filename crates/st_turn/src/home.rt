@@ -20,7 +20,7 @@ impl<S: Turned> Model for Home<S> {
     } };
 }
 
-/// What a caller knows. No value of it is made.
+/// What a caller knows, for clauses alone. No value of this type is made.
 pub struct Knowledge<S: Turned> {
     of: PhantomData<S>,
 }

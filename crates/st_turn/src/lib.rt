@@ -8,11 +8,14 @@
 //!
 //! - A turn starts from the spool at home, and its answer is the spool's (the clause `turn` of each
 //!   call of `Shared` but `meet` and `finish`).
-//! - A pass reads and releases only sets that it holds, and counts the files that its turns lent
-//!   and took back (the clauses `holds` and `loans` of these calls).
+//! - A pass has the holds that its own turns took, until it releases them, and counts the files
+//!   that its turns lent and took back (the clauses `holds` and `loans` of these calls). That a
+//!   caller reads or releases only holds of its pass is a condition on the caller (`held`, `hold`).
 //! - Two passes that meet have the longer of the two histories that they saw (`Shared::meet`).
-//! - The spool comes back with no hold out; each pass saw a beginning of its history, no two passes
-//!   own one event, and the counts of faults are those of all turns (`Shared::finish`).
+//! - The spool comes back with no hold out; each pass saw a beginning of its history, and no two
+//!   passes own one event. Its shelf's count of faults rose at least as often as the passes
+//!   counted, or stands at its greatest number, and no more publications and ageings failed than
+//!   they counted (`Shared::finish`).
 //!
 //! # What it leaves to others
 //!

@@ -13,7 +13,7 @@ use crate::turned::Turned;
 use atomic_table::{Join, Play, Split};
 use std::marker::PhantomData;
 
-// What a pass saw is cut off it, as a pass without a number.
+// A pass is cut in two: itself, and a pass without a number that saw the same history.
 struct Visit<S> {
     of: PhantomData<S>,
 }
@@ -27,7 +27,7 @@ impl<S: Turned> Split<Knowledge<S>> for Visit<S> {
     ghost right = { λ d. idle (visitor d.pass.card.seen) };
 }
 
-// One pass takes in another one.
+// Two passes are joined into the first one.
 pub(crate) struct Merge<S> {
     of: PhantomData<S>,
 }
@@ -54,7 +54,7 @@ impl<S: Turned> Play<Option<Home<S>>, Knowledge<S>> for Look<S> {
     ghost then = { Looks Saw };
 }
 
-// One pass says what it saw to another one.
+// One pass tells another one what it saw.
 fn tell<S: Turned>(desk: &Desk<S>, from: &mut Pass<S>, to: &mut Pass<S>)
     requires { (from.old.table ≡ desk.now.table_id) × (to.old.table ≡ desk.now.table_id)
         × (desk.now.table_id.words ≡ 1) }
@@ -67,7 +67,7 @@ fn tell<S: Turned>(desk: &Desk<S>, from: &mut Pass<S>, to: &mut Pass<S>)
     desk.join_seat::<Merge<S>>(&mut to.place, visitor);
 }
 
-// A pass looks at the table, by which it knows that what it saw begins one history.
+// A pass looks at the table, which shows that what it and its notes saw begins one history.
 fn look_at<S: Turned>(desk: &Desk<S>, pass: &mut Pass<S>)
     requires { (pass.old.table ≡ desk.now.table_id) × (desk.now.table_id.words ≡ 1) }
     ensures same { pass.new ≡ pass.old }

@@ -19,6 +19,7 @@ use st_shelf::{Draft, SealedPair, Shelf};
 use st_spool::{PairRule, PublishErr, Spool};
 use std::sync::Wait;
 
+// Whether the spool's publication failed, which stops the spool.
 fn is_stopped<T: Draft>(answer: &Result<u64, SharedPublishErr<T>>) -> bool
     ensures { result ≡ has_failed answer.now }
 {
@@ -31,6 +32,7 @@ fn is_stopped<T: Draft>(answer: &Result<u64, SharedPublishErr<T>>) -> bool
     }
 }
 
+// The spool's answer, as a shared one.
 fn shared_answer<T: Draft>(answer: Result<u64, PublishErr<T>>) -> Result<u64, SharedPublishErr<T>>
     ensures { result ≡ told answer }
 {
@@ -90,7 +92,7 @@ impl<D: Shelf, W: PairRule> Shared<Spool<D, W>> {
         ensures same { IsSame pass.old pass.new }
         ensures holds { pass.new.state.held ≡ pass.old.state.held }
         ensures loans { pass.new.loans ≡ pass.old.loans }
-        // the turn
+        // the turn: `v` is the spool as it was found, `w` as it was left
         ensures turn { (v : SpoolView D) × (w : SpoolView D)
             × IsAtHome W.is_whole D.log D.faults D.id self.now.base v
             × IsTurn (facts_of D.log D.faults D.id) v w pass.old.state pass.new.state

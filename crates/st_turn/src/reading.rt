@@ -20,7 +20,7 @@ use st_shelf::{Kind, Shelf};
 use st_spool::{DiskFault, Hold, PairRule, Spool};
 use std::sync::Wait;
 
-// A file that was lent is noted.
+// Notes a file that was lent, if one was.
 fn note_lent<F, E>(files: &mut Trail<F, bool>, answer: &Result<F, E>)
     ensures { MatchResult answer.now (λ f. files.new.items ≡ files.old.items ++ (f, true) ∷ [])
         (λ _. files.new.items ≡ files.old.items) }
@@ -30,7 +30,7 @@ fn note_lent<F, E>(files: &mut Trail<F, bool>, answer: &Result<F, E>)
     }
 }
 
-// The file of this kind of the pair with this index in a hold, as the spool lends it.
+// Lends the file of this kind of the `i`-th pair of a hold, counted from 0 in the order of stamps.
 fn file_of<D: Shelf, W: PairRule>(
     spool: &mut Spool<D, W>,
     kind: Kind,
@@ -50,7 +50,7 @@ fn file_of<D: Shelf, W: PairRule>(
 }
 
 impl<D: Shelf, W: PairRule> Shared<Spool<D, W>> {
-    /// How many pairs a hold of this pass has, as the spool's `count` does, in one turn.
+    /// Counts the pairs of a hold of this pass, as the spool's `count` does, in one turn.
     pub fn count<R: Wait>(&self, rt: &R, pass: &mut Pass<Spool<D, W>>, hold: &Hold) -> usize
         requires of { IsOf self.now pass.old }
         requires held { Contains pass.old.state.held hold.now }
@@ -58,7 +58,7 @@ impl<D: Shelf, W: PairRule> Shared<Spool<D, W>> {
         ensures same { IsSame pass.old pass.new }
         ensures holds { pass.new.state.held ≡ pass.old.state.held }
         ensures loans { pass.new.loans ≡ pass.old.loans }
-        // the turn
+        // the turn: `v` is the spool as it was found, `w` as it was left
         ensures turn { (v : SpoolView D) × (w : SpoolView D)
             × IsAtHome W.is_whole D.log D.faults D.id self.now.base v
             × IsTurn (facts_of D.log D.faults D.id) v w pass.old.state pass.new.state
@@ -80,8 +80,8 @@ impl<D: Shelf, W: PairRule> Shared<Spool<D, W>> {
         answer
     }
 
-    /// The stamp of the pair with this index in a hold of this pass, from 0 on, by stamps, as the
-    /// spool's `stamp_of` does, in one turn.
+    /// Tells the stamp of the `i`-th pair of a hold of this pass, counted from 0 in the order of
+    /// stamps, as the spool's `stamp_of` does, in one turn.
     pub fn stamp_of<R: Wait>(
         &self,
         rt: &R,
@@ -96,7 +96,7 @@ impl<D: Shelf, W: PairRule> Shared<Spool<D, W>> {
         ensures same { IsSame pass.old pass.new }
         ensures holds { pass.new.state.held ≡ pass.old.state.held }
         ensures loans { pass.new.loans ≡ pass.old.loans }
-        // the turn
+        // the turn: `v` is the spool as it was found, `w` as it was left
         ensures turn { (v : SpoolView D) × (w : SpoolView D)
             × IsAtHome W.is_whole D.log D.faults D.id self.now.base v
             × IsTurn (facts_of D.log D.faults D.id) v w pass.old.state pass.new.state
@@ -118,7 +118,8 @@ impl<D: Shelf, W: PairRule> Shared<Spool<D, W>> {
         answer
     }
 
-    // Lends the file of this kind of the pair with this index in a hold of this pass, in one turn.
+    // Lends the file of this kind of the `i`-th pair of a hold of this pass, counted from 0 in the
+    // order of stamps, in one turn.
     fn lend_by<R: Wait>(
         &self,
         rt: &R,
@@ -135,7 +136,7 @@ impl<D: Shelf, W: PairRule> Shared<Spool<D, W>> {
         ensures holds { pass.new.state.held ≡ pass.old.state.held }
         ensures loans { MatchResult result (λ _. pass.new.loans ≡ lend pass.old.loans)
             (λ _. pass.new.loans ≡ pass.old.loans) }
-        // the turn
+        // the turn: `v` is the spool as it was found, `w` as it was left
         ensures turn { (v : SpoolView D) × (w : SpoolView D)
             × IsAtHome W.is_whole D.log D.faults D.id self.now.base v
             × IsTurn (facts_of D.log D.faults D.id) v w pass.old.state pass.new.state
@@ -160,8 +161,9 @@ impl<D: Shelf, W: PairRule> Shared<Spool<D, W>> {
         answer
     }
 
-    /// Lends the block file of the pair with this index in a hold of this pass, from 0 on, by
-    /// stamps, as the spool's `block_of` does, in one turn. It must be spent, by `close_file`.
+    /// Lends the block file of the `i`-th pair of a hold of this pass, counted from 0 in the order
+    /// of stamps, as the spool's `block_of` does, in one turn. The file must be spent, by
+    /// `close_file`.
     ///
     /// `DiskFault` comes only if the pass's `failed` rose.
     pub fn block_of<R: Wait>(
@@ -179,7 +181,7 @@ impl<D: Shelf, W: PairRule> Shared<Spool<D, W>> {
         ensures holds { pass.new.state.held ≡ pass.old.state.held }
         ensures loans { MatchResult result (λ _. pass.new.loans ≡ lend pass.old.loans)
             (λ _. pass.new.loans ≡ pass.old.loans) }
-        // the turn
+        // the turn: `v` is the spool as it was found, `w` as it was left
         ensures turn { (v : SpoolView D) × (w : SpoolView D)
             × IsAtHome W.is_whole D.log D.faults D.id self.now.base v
             × IsTurn (facts_of D.log D.faults D.id) v w pass.old.state pass.new.state
@@ -189,8 +191,9 @@ impl<D: Shelf, W: PairRule> Shared<Spool<D, W>> {
         self.lend_by(rt, pass, hold, i, Kind::Block)
     }
 
-    /// Lends the index file of the pair with this index in a hold of this pass, from 0 on, by
-    /// stamps, as the spool's `index_of` does, in one turn. It must be spent, by `close_file`.
+    /// Lends the index of the `i`-th pair of a hold of this pass, counted from 0 in the order of
+    /// stamps, as the spool's `index_of` does, in one turn. The file must be spent, by
+    /// `close_file`.
     ///
     /// `DiskFault` comes only if the pass's `failed` rose.
     pub fn index_of<R: Wait>(
@@ -208,7 +211,7 @@ impl<D: Shelf, W: PairRule> Shared<Spool<D, W>> {
         ensures holds { pass.new.state.held ≡ pass.old.state.held }
         ensures loans { MatchResult result (λ _. pass.new.loans ≡ lend pass.old.loans)
             (λ _. pass.new.loans ≡ pass.old.loans) }
-        // the turn
+        // the turn: `v` is the spool as it was found, `w` as it was left
         ensures turn { (v : SpoolView D) × (w : SpoolView D)
             × IsAtHome W.is_whole D.log D.faults D.id self.now.base v
             × IsTurn (facts_of D.log D.faults D.id) v w pass.old.state pass.new.state
@@ -219,7 +222,7 @@ impl<D: Shelf, W: PairRule> Shared<Spool<D, W>> {
     }
 
     /// Takes back a file that the shared spool's shelf lent, as the spool's `close_file` does, in
-    /// one turn.
+    /// one turn. The pass has a file out, by its own count.
     pub fn close_file<R: Wait>(&self, rt: &R, pass: &mut Pass<Spool<D, W>>, file: D::File)
         requires of { IsOf self.now pass.old }
         requires home { (D.file_origin file).home ≡ D.id self.now.base.shelf }
@@ -229,7 +232,7 @@ impl<D: Shelf, W: PairRule> Shared<Spool<D, W>> {
         ensures holds { pass.new.state.held ≡ pass.old.state.held }
         ensures loans { pass.new.loans ≡ take_back (D.file_origin file).kind
             (D.File.reads file) (D.File.asked file) pass.old.loans }
-        // the turn
+        // the turn: `v` is the spool as it was found, `w` as it was left
         ensures turn { (v : SpoolView D) × (w : SpoolView D)
             × IsAtHome W.is_whole D.log D.faults D.id self.now.base v
             × IsTurn (facts_of D.log D.faults D.id) v w pass.old.state pass.new.state

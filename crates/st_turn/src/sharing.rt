@@ -42,10 +42,11 @@ impl<S: Turned> Model for Shared<S> {
 
 /// A spool that was not shared, since memory ran out.
 pub struct NotShared<S> {
+    /// The spool, as it was.
     pub spool: S,
 }
 
-// A pass with the next number is cut off the pass with number 0.
+// The pass with number 0 is cut in two: itself, and a pass with the next number.
 struct Number<S> {
     of: PhantomData<S>,
 }
@@ -59,6 +60,7 @@ impl<S: Turned> Split<Knowledge<S>> for Number<S> {
     ghost right = { λ d. idle (next_pass d.pass) };
 }
 
+// A book for this many passes, none of which has done anything.
 fn blank_lines(alloc: Global, count: usize) -> Result<Vec<Line>, NoMemory>
     ensures { IfOk result (λ v. v.items ≡ replicate count blank) }
 {
@@ -75,7 +77,7 @@ fn blank_lines(alloc: Global, count: usize) -> Result<Vec<Line>, NoMemory>
     Ok(lines)
 }
 
-// The pass with number 0 gives out the next number.
+// Cuts a pass with the next number off the pass with number 0.
 fn number_next<S: Turned>(desk: &Desk<S>, lead: &mut Pass<S>, number: usize) -> Pass<S>
     requires table { (lead.old.table ≡ desk.now.table_id) × (desk.now.table_id.words ≡ 1) }
     requires number { (lead.old.state.card.number ≡ Some 0) × (lead.old.state.made ≡ number)
@@ -93,6 +95,7 @@ fn number_next<S: Turned>(desk: &Desk<S>, lead: &mut Pass<S>, number: usize) -> 
     }
 }
 
+// Cuts all other passes off the first one.
 fn number_all<S: Turned>(desk: &Desk<S>, given: &mut Vec<Pass<S>>, passes: usize)
     // the table, and the room for the passes
     requires table { (desk.now.table_id.words ≡ 1)
@@ -115,6 +118,7 @@ fn number_all<S: Turned>(desk: &Desk<S>, given: &mut Vec<Pass<S>>, passes: usize
     }
 }
 
+// The table with the spool in its slot.
 type Laid<S> = Table<Option<Home<S>>, Knowledge<S>, Snapshot<Home<S>>, Rule<S>, Global>;
 
 // Lays the spool and its book down, with one pass. They come back if memory runs out.

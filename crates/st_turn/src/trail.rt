@@ -8,6 +8,7 @@ use std::marker::{Model, PhantomData};
 #[derive(Drop)]
 pub struct Trail<A, B> {
     of: PhantomData<(A, B)>,
+    /// What was done, in order.
     pub ghost items: { List (A × B) },
 }
 
@@ -19,12 +20,14 @@ impl<A, B> Model for Trail<A, B> {
 unsafe impl<A: Send, B: Send> Send for Trail<A, B> {}
 
 impl<A, B> Trail<A, B> {
+    /// A trail of nothing.
     pub fn new() -> Trail<A, B>
         ensures { result.items ≡ [] }
     {
         Trail { of: PhantomData }
     }
 
+    /// This trail, with one more thing that was done.
     pub fn and(&self, first: &A, second: &B) -> Trail<A, B>
         ensures { result.items ≡ self.now.items ++ (first.now, second.now) ∷ [] }
     {

@@ -24,14 +24,14 @@ pub trait Turned {
     fn fault_count(&self) -> u64
         ensures { result ≡ (facts self.now).faults };
 
-    /// How many of its calls failed.
+    /// How many of its publications and ageings failed.
     fn failed_calls(&self) -> u64
         ensures { result ≡ (facts self.now).halts };
 
-    /// Says that it keeps all of itself. It does nothing.
+    /// It keeps all of itself. The call does nothing; its clause is what counts.
     fn keep(&self)
         ensures { keeps self.now self.now };
 
-    // of no file nothing is counted
+    // nothing is counted of no files
     ghost counted_none: { counted [] ≡ no_loans };
 }

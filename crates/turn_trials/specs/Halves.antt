@@ -7,7 +7,7 @@ pub record Ready {P Q : Type 0} (can : Q → Type 0) (jobs : List P) (passes : L
   pub len : length jobs ≡ length passes
   pub can_each : (i : ℕ) (e : Q) → i < length passes → can (slice_index_or passes i e)
 
--- there are as many as before, and each pass is what its job made of it
+-- there are as many as before, and each pass is what a run of the work may make of it
 pub record Done {P Q : Type 0} (did : Q → Q → Type 0) (js ks : List P) (ps qs : List Q)
     : Type 0 where
   pub jobs : length ks ≡ length js

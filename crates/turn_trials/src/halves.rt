@@ -9,15 +9,16 @@ pub trait Work<P, Q> {
     /// A pass with which it may begin.
     ghost can: { Self → Q → Type 0 };
 
-    /// What it makes of the pass.
+    /// What it makes of the pass, before and after a run.
     ghost did: { Self → Q → Q → Type 0 };
 
+    /// Does this job by this pass.
     fn run<R: Wait>(&self, rt: &R, job: &mut P, pass: &mut Q)
         requires { can self.now pass.old }
         ensures { did self.now pass.old pass.new };
 }
 
-/// Runs each job with its pass on a thread of its own.
+/// Runs each job with the pass at its place, on a thread of its own.
 pub fn all<P: Send, Q: Send, J: Work<P, Q> + Sync, R: Threads + Wait + Sync>(
     rt: &R,
     work: &J,

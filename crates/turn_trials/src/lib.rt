@@ -3,15 +3,17 @@
 //!
 //! # What it promises
 //!
-//! - Each call over a pass has the pass go on as the same one of its shared spool, with the holds
-//!   that it had, whatever fails (`publish_pair`, `publish`, `age`, `block_byte`, `index_byte`:
-//!   `same`, `holds`).
-//! - Each job runs once, with its own pass, on a thread of its own or one after another (`all`).
+//! - Each call over a pass leaves it the same pass of its shared spool, with the holds that it had,
+//!   whatever fails (`publish_pair`, `publish`, `age`, `block_byte`, `index_byte`: `same`,
+//!   `holds`).
+//! - Threads leave as many jobs and passes as there were, and each pass as its work says that a run
+//!   may leave it, whatever the work is (`all`, whose clause is `Done`).
 //!
 //! # What it leaves to others
 //!
 //! What a publication or an ageing makes of the spool: `st_turn` says it of the calls that are made
-//! here. No clause says that a pair is published; the programs try it.
+//! here. No clause says that a pair is published, nor that each job is run once, with the pass at
+//! its place, on a thread of its own; the programs try it.
 //!
 //! # Where to read
 //!

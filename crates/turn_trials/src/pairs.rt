@@ -10,7 +10,7 @@ use st_spool::Hold;
 use st_turn::SharedPublishErr;
 use std::sync::Wait;
 
-// A sealed file of these bytes.
+// Makes a sealed file of these bytes. None if a call failed.
 fn sealed<D: Shelf, R: Wait>(
     rt: &R,
     shared: &SharedSpool<D>,
@@ -40,7 +40,7 @@ fn sealed<D: Shelf, R: Wait>(
     }
 }
 
-// Gives a pair up.
+// Gives up both files of a pair.
 fn give_up<D: Shelf, R: Wait>(
     rt: &R,
     shared: &SharedSpool<D>,
@@ -61,7 +61,7 @@ fn give_up<D: Shelf, R: Wait>(
 }
 
 /// Publishes a pair of sealed files of the shared spool's shelf, and answers its stamp. None if it
-/// failed; a pair that was not tried to publish is given up.
+/// failed or was refused; a pair that a refusal hands back is given up.
 pub fn publish_pair<D: Shelf, R: Wait>(
     rt: &R,
     shared: &SharedSpool<D>,
@@ -130,7 +130,7 @@ pub fn age<D: Shelf, R: Wait>(
     }
 }
 
-// The first byte of a file that was lent, which is taken back.
+// Reads the first byte of a file that was lent, and gives the file back.
 fn first_byte<D: Shelf, R: Wait>(
     rt: &R,
     shared: &SharedSpool<D>,
@@ -155,8 +155,8 @@ fn first_byte<D: Shelf, R: Wait>(
     }
 }
 
-/// The first byte of the block file of the pair with this index in a hold, from 0 on. None if a
-/// call failed or the file is empty.
+/// Reads the first byte of the block file of the `i`-th pair of a hold of this pass, counted from 0
+/// in the order of stamps. None if a call failed or the file is empty.
 pub fn block_byte<D: Shelf, R: Wait>(
     rt: &R,
     shared: &SharedSpool<D>,
@@ -178,8 +178,8 @@ pub fn block_byte<D: Shelf, R: Wait>(
     }
 }
 
-/// The first byte of the index of the pair with this index in a hold, from 0 on. None if a call
-/// failed or the file is empty.
+/// Reads the first byte of the index of the `i`-th pair of a hold of this pass, counted from 0 in
+/// the order of stamps. None if a call failed or the file is empty.
 pub fn index_byte<D: Shelf, R: Wait>(
     rt: &R,
     shared: &SharedSpool<D>,
