@@ -50,5 +50,5 @@ pub use desk::{Desk, Place, Rule};
 pub use home::{Home, Knowledge};
 pub use pass::Pass;
 pub use refusals::SharedPublishErr;
-pub use sharing::{NotShared, Shared, share};
+pub use sharing::{MOST_PASSES, NotShared, Shared, share};
 pub use turned::Turned;

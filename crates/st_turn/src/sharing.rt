@@ -4,6 +4,7 @@ ghost use Rattle.st_turn.specs.Turn.{idle};
 ghost use Rattle.st_turn.specs.Parts.{blank, Each};
 ghost use Rattle.st_turn.specs.Steps.{starts, gave_out, next_pass};
 ghost use Rattle.st_turn.specs.Passes.{AreStarted, HasNoLoans};
+ghost use Rattle.st_turn.specs.declared.sharing.TheConstants.{MOST_PASSES};
 
 use crate::book::Line;
 use crate::desk::{Desk, Place, Rule};
@@ -16,6 +17,9 @@ use st_base::NoMemory;
 use std::alloc::{AllocFailed, Global};
 use std::marker::{Model, PhantomData};
 use std::snapshot::Snapshot;
+
+/// How many passes a shared spool has at most. The number is ours.
+pub const MOST_PASSES: u32 = 64;
 
 /// A spool that callers share by turns. It must be spent, by `finish`.
 pub struct Shared<S: Turned> {
@@ -155,15 +159,15 @@ fn lay<S: Turned>(alloc: Global, home: Home<S>) -> Result<(Laid<S>, Place<S>), H
     }
 }
 
-/// Shares a spool among 1 to 64 passes, which come in the order of their numbers, from 0 on. Each
-/// saw the spool's history, holds nothing and counts no file. No hold may be out. The spool comes
-/// back, as it was, if memory runs out.
+/// Shares a spool among 1 to `MOST_PASSES` passes, which come in the order of their numbers, from 0
+/// on. Each saw the spool's history, holds nothing and counts no file. No hold may be out. The
+/// spool comes back, as it was, if memory runs out.
 pub fn share<S: Turned>(
     alloc: Global,
     spool: S,
     passes: u32,
 ) -> Result<(Shared<S>, Vec<Pass<S>>), NotShared<S>>
-    requires count { (1 ≤ passes) × (passes ≤ 64) }
+    requires count { (1 ≤ passes) × (passes ≤ MOST_PASSES) }
     requires holds { (S.facts spool).holds ≡ [] }
     ensures shared { IfOk result (λ r. (r.0.base ≡ spool) × (r.0.passes ≡ passes)) }
     // the passes

@@ -21,6 +21,7 @@
 #![tactic(auto)]
 
 ghost use Rattle.std.specs.Prelude.{◌≤◌, length};
+ghost use Rattle.st_turn.specs.declared.sharing.TheConstants.{MOST_PASSES};
 
 mod jobs;
 mod reading;
@@ -93,7 +94,7 @@ fn over_folder<R: Threads + Wait + Sync>(
     limit: u32,
     jobs: &mut [Job],
 ) -> io::Result<Option<Left>>
-    requires { (1 ≤ length jobs.old) × (length jobs.old ≤ 64) × (1 ≤ limit) }
+    requires { (1 ≤ length jobs.old) × (length jobs.old ≤ MOST_PASSES) × (1 ≤ limit) }
 {
     let _ = fs::remove_dir_all(host, FOLDER);
     let Ok(shelf) = RealShelf::at(host, host.alloc(), FOLDER) else {

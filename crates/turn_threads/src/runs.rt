@@ -5,6 +5,7 @@ ghost use Rattle.st_spool.specs.States.{SpoolView};
 ghost use Rattle.st_turn.specs.Parts.{PassState};
 ghost use Rattle.st_turn.specs.Ends.{Ended};
 ghost use Rattle.st_turn.specs.Spools.{facts_of, KeepsOf};
+ghost use Rattle.st_turn.specs.declared.sharing.TheConstants.{MOST_PASSES};
 
 use crate::jobs::{Job, Turns};
 use st_shelf::{Draft, Shelf};
@@ -27,7 +28,7 @@ where
     D::Draft: Send,
     D::File: Send,
     <D::Draft as Draft>::Sealed: Send,
-    requires count { (1 ≤ length jobs.old) × (length jobs.old ≤ 64) }
+    requires count { (1 ≤ length jobs.old) × (length jobs.old ≤ MOST_PASSES) }
     requires holds { spool.state.holds ≡ [] }
     // each pass saw a beginning of the one history
     ensures ended { IfOk result (λ s. (ps : List (PassState (SpoolView D) Event Span))
@@ -62,7 +63,7 @@ where
     D::Draft: Send,
     D::File: Send,
     <D::Draft as Draft>::Sealed: Send,
-    requires { (1 ≤ length jobs.old) × (length jobs.old ≤ 64) × (1 ≤ limit) }
+    requires { (1 ≤ length jobs.old) × (length jobs.old ≤ MOST_PASSES) × (1 ≤ limit) }
 {
     let alloc = host.alloc();
     let spool = opened(alloc, shelf, limit)?;
