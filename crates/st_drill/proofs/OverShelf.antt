@@ -53,7 +53,7 @@ module _ (n : ℕ) (first : Log) (mid known : Option Log) (before st : SpoolStat
   Opens = LoadsOpened MAX_PAIRS layout first known (Some (input n)) times times_now (Some [])
       p.lines loaded
 
-  -- nothing in doubt has begun
+  -- no event is in doubt
   none : loaded ≡ load.Done → in_doubt st.doubt p.loads.f ≡ []
   none done = ap (λ (d : Doubt). in_doubt d p.loads.f)
       (p.no_doubt (λ disk. let no : load.Done ≡ load.DiskFault = sym done ∙ disk in cc))

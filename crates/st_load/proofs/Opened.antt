@@ -30,7 +30,7 @@ use Rattle.st_load.proofs.Finishing.{no_doubt}
 use Rattle.st_load.proofs.Jobs.{events_append, lines_append, events_happen, lines_happen}
 use Rattle.st_load.proofs.ReadBack.{read_set}
 
--- an event in doubt has begun, or not
+-- the event in doubt, if there is one, is that of the call that failed
 in_doubt_or : (d : Doubt) (f : Files) → (in_doubt d f ≡ []) ⊎ (in_doubt d f ≡ failed_event d f)
 in_doubt_or doubt.Nothing f = inl refl
 in_doubt_or (doubt.Unsettled t) f = inl refl
@@ -38,7 +38,7 @@ in_doubt_or (doubt.Settled t) f = inr refl
 in_doubt_or (doubt.Unhidden t) f = inl refl
 in_doubt_or (doubt.Hidden t) f = inr refl
 
-at_most_one : (d : Doubt) (f : Files) → length (begun d f) ≤ 1
+at_most_one : (d : Doubt) (f : Files) → length (in_doubt d f) ≤ 1
 at_most_one doubt.Nothing f = omega arith
 at_most_one (doubt.Unsettled t) f = omega arith
 at_most_one (doubt.Settled t) f = omega arith
@@ -75,7 +75,7 @@ module _ (limit : ℕ) (layout : LanePlan) (first : Log) (mid known : Option Log
   pub read : (now : Log) → known ≡ Some now → PairsIn (reads now) (set_of ((h ++ events_of l.acts) ++ in_doubt st.doubt l.f))
   read now is = read_set IsWholePair known st (events first) (h ++ events_of l.acts) l.f l.stands now is
 
-  -- nothing in doubt has begun
+  -- no event is in doubt
   abbrev pub opened_sure : in_doubt st.doubt l.f ≡ [] → LoadsOpened limit layout first known left times times_now old new e
   opened_sure none = record {
     found = entered.pairs;
@@ -101,7 +101,7 @@ module _ (limit : ℕ) (layout : LanePlan) (first : Log) (mid known : Option Log
     images = ran.2;
   }
 
-  -- the event in doubt has begun
+  -- an event is in doubt
   pub opened_doubt : e ≡ end.DiskFault → in_doubt st.doubt l.f ≡ failed_event st.doubt l.f → LoadsOpened limit layout first known left times times_now old new e
   opened_doubt disk some =
       let (now, is, covers) = ran in

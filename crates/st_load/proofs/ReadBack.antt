@@ -56,6 +56,6 @@ module _ (W : List ℕ → List ℕ → Type 0) (known : Option Log) (st : Spool
   by_doubt (doubt.Unhidden t) may c has = none_set c (sure_sets W known st earlier h k stands c has)
   by_doubt (doubt.Hidden t) may c has = hidden_set t may c has
 
-  -- the pairs of the history are read, with the event in doubt if it has begun
+  -- the pairs of the history are read, with the event in doubt, if there is one
   pub read_set : (log : Log) → known ≡ Some log → PairsIn (reads log) (set_of (h ++ in_doubt st.doubt k))
   read_set log is = by_doubt st.doubt stands.doubt (reads log) (stands.disk log is).read
