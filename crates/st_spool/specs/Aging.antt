@@ -30,8 +30,8 @@ MayAge st = (st.halted ≡ None) × (st.limit < pair_count st)
 abbrev pub aged : SpoolState → ℕ → SpoolState
 aged st to = record st { removed = st.removed + 1; swept = to }
 
--- A removal that succeeded: the spool represents the history with the removal. Until the call ends
--- a crash leaves the pairs before or after, and from then on those after.
+-- A removal that succeeded: the spool represents the history with the removal. Each crash
+-- in the call leaves the pairs before or those after, and a crash now leaves those after.
 pub record Removes (IsWhole : List ℕ → List ℕ → Type 0) (old new : Option Log) (st : SpoolState)
     (earlier h : List Event) (e : Entry) (f : Files) : Type 0 where
   pub known : KnownBefore old new

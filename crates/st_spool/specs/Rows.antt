@@ -69,7 +69,7 @@ pair_after Past = None
 pair_after Lone = None
 pair_after (Both f) = Some f
 
--- no event is in doubt: each row has one pair, or none
+-- no event is in doubt: each row has the same pair, or none, whether the event happened or not
 abbrev pub AreSure : (ℕ → Row) → Type 0
 AreSure rows = (s : ℕ) → pair_after (rows s) ≡ pair_before (rows s)
 

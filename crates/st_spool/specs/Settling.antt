@@ -19,8 +19,8 @@ files block index = record { block = block; index = index }
 abbrev pub entry : ℕ → Files → Entry
 entry s f = record { stamp = s; block = f.block; index = f.index }
 
--- The settling of a pair under a stamp of which nothing was there. At Ok each crash from then on
--- leaves the pair. If it was stopped before it settled the block, a crash leaves at most the index.
+-- The settling of a pair under a stamp of which nothing was there. At Ok a crash now leaves the
+-- pair. If it was stopped before it settled the block, a crash leaves at most the index.
 -- If it was stopped later, a crash may leave each of the two files or not, and both are read.
 abbrev pub SettlesPair :
     Log → Option Log → (ℕ → Row) → ℕ → Files → Result (Unit {0}) Stopped → Type 0
@@ -33,7 +33,7 @@ SettlesPair first new rows t f (Err After) =
     (set_row rows t (Coming f))
     × Reads new (Block t) (λ v. v ≡ Some f.block) × Reads new (Index t) (λ v. v ≡ Some f.index)
 
--- The parking of the index of a pair. At Ok no crash from then on leaves the pair. If it was
+-- The parking of the index of a pair. At Ok no crash now leaves the pair. If it was
 -- stopped before it hid the index, each crash leaves what it might have left before. If it was
 -- stopped later, a crash may leave the index under either of its names, and it isn't read as an
 -- index.

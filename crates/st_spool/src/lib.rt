@@ -9,7 +9,8 @@
 //!
 //! # What it promises
 //!
-//! - A spool opens with just the pairs that are there, and clears the rest away (`Spool::enter`).
+//! - A spool opens with the pairs of which both files are there, and removes all other files
+//!   (`Spool::enter`).
 //! - At every moment of a publication a crash leaves the pairs as before or with the new one whole;
 //!   after it the new one (`Spool::publish`). So too of a removal (`Spool::age`).
 //! - A publication or a removal that failed leaves the history, and the spool keeps what a crash

@@ -67,9 +67,9 @@ impl<D: Shelf, W: PairRule> Model for Spool<D, W> {
 }
 
 impl<D: Shelf, W: PairRule> Spool<D, W> {
-    /// Opens a spool over a shelf, of at least one pair as its limit. It takes the pairs that are
-    /// there and reads no file. What is no part of a pair is removed: drafts, parked indexes, a
-    /// block or an index alone.
+    /// Opens a spool over a shelf. It takes the pairs that are there and reads no file. What is no
+    /// part of a pair is removed: drafts, parked indexes, a block or an index alone. `limit` is the
+    /// number of pairs, at least 1, above which `age` removes the oldest.
     ///
     /// `NoMemory` comes if memory runs out, `DiskFault` only if the shelf's count of faults rose.
     /// Both hand the shelf back; a crash then leaves pairs that one might have left before the

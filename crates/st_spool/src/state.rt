@@ -5,11 +5,11 @@ pub struct Span {
     pub to: usize,
 }
 
-/// What a call that failed may have left, with the stamp of its pair. Its event is in doubt if it
-/// settled the block or hid the index.
+/// What a publication or an ageing that failed may have left, with the stamp of its pair. Its event
+/// is in doubt if the call settled the block or hid the index.
 #[derive(Clone, Copy, Debug, PartialEq, Eq)]
 pub enum Doubt {
-    /// No call failed.
+    /// No publication and no ageing failed.
     Nothing,
     /// A publication. Its block was not settled, so no crash leaves the pair.
     Unsettled(u64),

@@ -23,9 +23,9 @@ impl<D: Shelf, W: PairRule> Spool<D, W> {
     /// release.
     ///
     /// A removal of a file that fails raises the shelf's count of faults, and is tried again by
-    /// each later `age` and `release`. `DiskFault` comes only if that count rose, as the index was
-    /// parked: the ageing is in doubt if the index was hidden, and the spool refuses from then on.
-    /// `Halted` comes only if an earlier call failed, and changes nothing.
+    /// each later `age` and `release`. `DiskFault` comes only if that count rose while the index
+    /// was parked: the ageing is in doubt if the index was hidden, and the spool refuses from then
+    /// on. `Halted` comes only if an earlier call failed, and changes nothing.
     pub fn age(&mut self) -> Result<bool, AgeErr>
         // what it does, if there is something to remove
         ensures aged { (earlier h : List Event) (f : Files) (e : Entry) (after : List Entry)

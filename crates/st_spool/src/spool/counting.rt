@@ -13,7 +13,7 @@ impl<D: Shelf, W: PairRule> Spool<D, W> {
         self.shelf.fault_count()
     }
 
-    /// How many publications and ageings of this spool failed, at most 2^64 - 1.
+    /// How many publications and ageings of this spool failed on the disk. A refusal is none.
     pub fn failed_calls(&self) -> u64
         ensures { result ≡ self.now.state.halts }
     {

@@ -80,7 +80,8 @@ impl<D: Shelf, W: PairRule> Spool<D, W> {
     }
 
     /// Publishes a pair of sealed files of this spool's shelf, and returns its stamp: the greater
-    /// of `floor` and the one after the last. At Ok each crash from then on leaves the whole pair.
+    /// of `floor` and the one after the last. After Ok each crash leaves the pair, until `age`
+    /// removes it.
     ///
     /// `DiskFault` comes only if the shelf's count of faults rose: each file that was not settled
     /// is abandoned, the publication is in doubt if the block was settled, and the spool refuses
