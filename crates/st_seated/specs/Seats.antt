@@ -20,7 +20,8 @@ module _ {S : Type 0} where
   abbrev pub taken_by : Option Log → PassState S Event Span → Option (List Event)
   taken_by known p = option_map (take (length p.asked)) (seen_by known p)
 
-  -- what a pass knows of its holds; how many were taken, as far as a u64 counts
+  -- what a pass knows of its holds: how many it took, as far as a u64 counts, how many it has, what
+  -- it saw, what the last one took, and the sets that it holds
   abbrev pub pass_holds : Option Log → PassState S Event Span → HoldsView
   pass_holds known p =
       record {
@@ -52,8 +53,8 @@ module _ {S : Type 0} where
     pub of : IsOf s p
     pub sees : SeesHolds known p.state
 
-  -- Calls of a pass that were no event: it is the same pass, the events of its own are those that
-  -- they were, and no call of it stopped the spool.
+  -- Calls of a pass that were no event: it is the same pass, its own events are as they were, and
+  -- none of its calls stopped the spool.
   pub record Remains (p q : PassView S) : Type 0 where
     pub same : IsSame p q
     pub own : q.state.card.own ≡ p.state.card.own
@@ -64,7 +65,7 @@ pub record SeatView (S : Type 0) : Type 0 where
   pub shared : SharedView S
   pub pass : PassView S
 
--- what a store over a pass becomes by its calls: it has the same spool and the same pass
+-- what a store over a pass becomes by its calls: it has the same shared spool and the same pass
 pub record Goes {S : Type 0} (a b : SeatView S) : Type 0 where
   pub shared : b.shared ≡ a.shared
   pub pass : Remains a.pass b.pass

@@ -21,7 +21,7 @@ use std::sync::Wait;
 /// closed.
 ///
 /// The clock is at `now` microseconds since 1970. The errors are those of `answer`: `DiskFault`
-/// comes only if the shelf failed in a turn of this pass, or a file that was lent to it.
+/// comes only if the shelf failed in a turn of this pass, or a file failed that was lent in one.
 pub fn answer_shared<R: Wait, D: Shelf, W: PairRule, O: Outlet>(
     rt: &R,
     alloc: Global,
