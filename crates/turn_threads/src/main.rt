@@ -13,7 +13,7 @@
 //! # What it promises
 //!
 //! - The spool that comes back from the threads has one history, which begins with what each pass
-//!   saw (`runs::serve`).
+//!   saw; there are as many passes as jobs, and each is counted once (`runs::serve`).
 //!
 //! # What it leaves to others
 //!

@@ -3,7 +3,7 @@ ghost use Rattle.st_disk.specs.Events.{Event};
 ghost use Rattle.st_spool.specs.declared.state.Span.{Span};
 ghost use Rattle.st_spool.specs.States.{SpoolView};
 ghost use Rattle.st_turn.specs.Parts.{PassState};
-ghost use Rattle.st_turn.specs.Ends.{Ended};
+ghost use Rattle.st_turn.specs.Ends.{AreNumbered, Ended};
 ghost use Rattle.st_turn.specs.Spools.{facts_of, KeepsOf};
 ghost use Rattle.st_turn.specs.declared.sharing.TheConstants.{MOST_PASSES};
 
@@ -30,8 +30,9 @@ where
     <D::Draft as Draft>::Sealed: Send,
     requires count { (1 ≤ length jobs.old) × (length jobs.old ≤ MOST_PASSES) }
     requires holds { spool.state.holds ≡ [] }
-    // each pass saw a beginning of the one history
+    // each pass, which is counted once, saw a beginning of the one history
     ensures ended { IfOk result (λ s. (ps : List (PassState (SpoolView D) Event Span))
+        × (length ps ≡ length jobs.old) × AreNumbered 0 ps
         × Ended (facts_of D.log D.faults D.id spool) (facts_of D.log D.faults D.id s) ps) }
     ensures keeps { IfOk result (λ s. KeepsOf D.log D.faults D.id spool s) }
     ensures holds { MatchResult result (λ s. s.state.holds ≡ []) (λ s. s ≡ spool) }
