@@ -1,7 +1,8 @@
 """The cases of end_to_end.py over a spool in a real folder: load, list, check, query and drill.
 
-What is there is read by spool.py, which is made from docs/FORMAT.md alone. What the machine does not
-allow (a mount of one's own, another user to become), or a tool that is missing, is left out, and said.
+The program that the launcher built is run without the launcher. What is there is read by spool.py,
+which is made from docs/FORMAT.md alone. What the machine does not allow (a mount of one's own, another
+user to become), or a tool that is missing, is left out, and said.
 """
 import fcntl
 import functools
@@ -18,7 +19,7 @@ from make import file_head, samples
 from pairs import records
 from real_shelf import as_nobody, has_rights_to_lose
 
-STENO = str(pathlib.Path(__file__).resolve().parent.parent / "steno")
+STENO = str(pathlib.Path(__file__).resolve().parent.parent / "crates" / "steno" / "out" / "steno")
 SECONDS = 120
 SMALL = ["--block", "4096", "--blocks", "2"]
 FAILED = b"steno: the spool failed\n"
@@ -279,7 +280,7 @@ def finds_something_in_its_way(folder):
 
 
 def lacks_rights(folder):
-    copy = shutil.copy(pathlib.Path(STENO).parent / "crates" / "steno" / "out" / "steno", folder / "steno")
+    copy = shutil.copy(STENO, folder / "steno")
     if not has_rights_to_lose(copy):
         print("left out: spools without rights (no other user to become)")
         return
