@@ -22,6 +22,7 @@ from real_shelf import as_nobody, has_rights_to_lose
 STENO = str(pathlib.Path(__file__).resolve().parent.parent / "crates" / "steno" / "out" / "steno")
 SECONDS = 120
 SMALL = ["--block", "4096", "--blocks", "2"]
+EVERYTHING = "before 2100-01-01T00:00:00Z"
 FAILED = b"steno: the spool failed\n"
 UNIT = {"--ns": 1, None: 1000}
 
@@ -96,14 +97,13 @@ def loads_many_pairs(folder):
     yield "a capture of many pairs", (counts(out), err, status) == (lines_of(pairs), b"", 0), (out, err, status)
     yield "its lines have the pairs' stamps", [int(line.split()[0]) for line in out.splitlines()] == spool.stamps(there), out
     yield from is_sound("many pairs", there, pairs)
-    everything = "before 2100-01-01T00:00:00Z"
     ordered = sorted(packets, key=lambda packet: packet[:2])
     for limit, kept in ((0, 0), (1, 1), (700, 700), (5000, 2000)):
-        said = run("query", "--packets", limit, there, everything)
+        said = run("query", "--packets", limit, there, EVERYTHING)
         yield f"the first {limit} packets", said == (spool.write_pcap(ordered[:kept], 1000), b"", 0), said[1:]
     sizes = [len(packet[3]) for packet in ordered[:100]]
     for less, kept in ((0, 100), (1, 99)):
-        said = run("query", f"--bytes={sum(sizes) - less}", there, everything)
+        said = run("query", f"--bytes={sum(sizes) - less}", there, EVERYTHING)
         wanted = next(n for n in range(kept, -1, -1) if sum(sizes[:n]) <= sum(sizes) - less)
         yield f"as many bytes as 100 packets have, less {less}", said == (spool.write_pcap(ordered[:wanted], 1000), b"", 0), said[1:]
 
@@ -156,8 +156,9 @@ def takes_any_input(folder):
     for number, (name, text) in enumerate(samples().items()):
         there = folder / f"form-{number}"
         said = run("load", there, stdin=text)
-        wanted = run("once", "--ns", "before 2100-01-01T00:00:00Z", stdin=text)
-        yield f"the sample {name}", said[1:] == (b"", 0) and run("query", "--ns", there, "before 2100-01-01T00:00:00Z") == wanted, said
+        wanted = run("once", "--ns", EVERYTHING, stdin=text)
+        good = said[1:] == (b"", 0) and run("query", "--ns", there, EVERYTHING) == wanted
+        yield f"the sample {name}", good, said
     there = folder / "empty"
     said = run("load", there, stdin=file_head("little", "micro"))
     yield "an input without packets", said == (b"", b"", 0) and spool.files(there) == [], said
@@ -167,18 +168,76 @@ def takes_any_input(folder):
 def refuses_inputs(folder):
     packets = list(records(random.Random(6), 300))
     text = spool.write_pcap(packets)
+    last = 16 + len(packets[-1][3])
     long = (5, 0, 4001, bytes(4001))
-    for name, given, message, kept in (
-            ("a record cut off", text[:-1], f"steno: record 300: {16 + len(packets[-1][3]) - 1} of {16 + len(packets[-1][3])} bytes\n", 299),
-            ("no pcap", bytes(24), "steno: input is not a pcap file, it begins with 0x00000000\n", 0),
-            ("nothing", b"", "steno: record 0: 0 of 24 bytes\n", 0),
-            ("a packet longer than a block", spool.write_pcap([*packets, long, *packets]),
-             "steno: record 301: captured length 4001 does not fit a block of 4096\n", 300)):
+    head = spool.HEAD.pack(5, 0, 60, 60)
+    zeros = "steno: input is not a pcap file, it begins with 0x00000000\n"
+    no_room = "captured length 4001 does not fit a block of 4096\n"
+    cases = [
+        ("a record cut off", text[:-1], f"steno: record 300: {last - 1} of {last} bytes\n", 299),
+        ("a record without its body", text + head, "steno: record 301: 16 of 76 bytes\n", 300),
+        ("no pcap", bytes(24), zeros, 0),
+        ("nothing", b"", "steno: record 0: 0 of 24 bytes\n", 0),
+        ("a file head cut off", text[:23], "steno: record 0: 23 of 24 bytes\n", 0),
+        ("a packet longer than a block", spool.write_pcap([*packets, long, *packets]),
+         f"steno: record 301: {no_room}", 300),
+        ("a first packet longer than a block", spool.write_pcap([long, *packets]),
+         f"steno: record 1: {no_room}", 0)]
+    for have in (1, 10, 15):
+        cases += [
+            (f"a record head of {have} bytes", text + head[:have],
+             f"steno: record 301: {have} of 16 bytes\n", 300),
+            (f"a first record head of {have} bytes", text[:24] + head[:have],
+             f"steno: record 1: {have} of 16 bytes\n", 0)]
+    for name, given, message, kept in cases:
         there = folder / name.replace(" ", "-")
         pairs = spool.cut(packets[:kept], 4096, 2)
         out, err, status = run("load", *SMALL, there, stdin=given)
-        yield f"{name}: what comes before it is loaded", (counts(out), err, status) == (lines_of(pairs), message.encode(), 3), (out, err, status)
+        good = (counts(out), err, status) == (lines_of(pairs), message.encode(), 3)
+        yield f"{name}: what comes before it is loaded", good, (out, err, status)
         yield from is_sound(name, there, pairs)
+
+
+# Block sizes, the length of the longest packet that a block of each holds, and one more. In the
+# greatest blocks there is room for more than the longest packet of a pcap.
+LONGEST = [(4096, 4000, 4001), (8192, 8096, 8097), (65536, 65440, 65441),
+           (262144, 262048, 262049), (524288, 262144, None), (1048576, 262144, None)]
+
+
+def long_packet(number, length):
+    """A packet of this length, whose last byte is another one than those before it."""
+    body = plain_frame(number).ljust(length - 1, b"\0") + b"\1"
+    return 1_000_000_000 + number, number, length + number, body
+
+
+def takes_the_longest_packets(folder):
+    """A packet that fills a block, alone and among others, and one that has a byte more."""
+    few = list(records(random.Random(16), 5))
+    for size, most, more in LONGEST:
+        longest = [long_packet(number, most) for number in range(3)]
+        plan = ["--block", size, "--blocks", "2"]
+        for name, packets in (("alone", longest[:1]), ("three times", longest),
+                              ("among others", [*few, longest[0], *few])):
+            there = folder / f"{size} {name}"
+            pairs = spool.cut(packets, size, 2)
+            out, err, status = run("load", *plan, there, stdin=spool.write_pcap(packets))
+            name = f"the longest packet of a block of {size}, {name}"
+            good = (counts(out), err, status) == (lines_of(pairs), b"", 0)
+            yield name, good, (out, err, status)
+            yield from is_sound(name, there, pairs)
+        if more is not None:
+            there, name = folder / f"{size} and more", f"a byte more than a block of {size} holds"
+            given = spool.write_pcap([longest[0], long_packet(7, more), *longest])
+            out, err, status = run("load", *plan, there, stdin=given)
+            line = f"steno: record 2: captured length {more} does not fit a block of {size}\n"
+            yield name, (counts(out), err, status) == ([1], line.encode(), 3), (out, err, status)
+            yield from is_sound(name, there, [longest[:1]])
+    there, packets = folder / "by itself", [long_packet(0, 262144)]
+    for number, words in enumerate(([there], ["--blocks", "1", there], ["--", there]), 1):
+        out, err, status = run("load", *words, stdin=spool.write_pcap(packets))
+        name = f"the longest packet of a pcap, load {number}"
+        yield name, (counts(out), err, status) == ([1], b"", 0), (out, err, status)
+        yield from is_sound(name, there, [packets] * number)
 
 
 def refuses_arguments(folder):
@@ -226,7 +285,7 @@ def names_damage(folder):
     good = lines[1:2] == [f"{stamps[1]} damaged block 0 2 1"] and [line.split()[1] for line in lines] == ["whole", "damaged", "whole"]
     yield "check names the damage of a block file", good and (err, status) == (b"", 8), (out, err, status)
     path.write_bytes(text[:68] + b"\x09" + text[69:])
-    out, err, status = run("query", there, "before 2100-01-01T00:00:00Z")
+    out, err, status = run("query", there, EVERYTHING)
     yield "query names the damaged pair", (err, status) == (f"steno: pair {stamps[1]} is damaged at 68: 9 for 0\n".encode(), 8), (err, status)
     path.write_bytes(text)
     path = there / "IDX0" / f"{stamps[2]:016x}"
@@ -236,6 +295,143 @@ def names_damage(folder):
     yield "list names a damaged index", said[1:] == (f"steno: pair {stamps[2]} is damaged at 0: 40 for 48\n".encode(), 8), said
     path.write_bytes(index)
     yield from is_sound("a spool whose files are as they were", there, spool.cut(packets, 4096, 2))
+
+
+MIDDLE = "2001-09-09T01:46:46Z"
+
+
+def counts_what_it_answers(folder):
+    """A capture that rotates: its files are loaded in turn, in both units and with several plans."""
+    there, numbers = folder / "spool", random.Random(14)
+    plans = [[], SMALL, ["--block=8192", "--blocks=1"], ["--block=4096", "--blocks=4095"], SMALL]
+    told, loaded = b"", 0
+    for number, (plan, count) in enumerate(zip(plans, (1, 700, 350, 999, 40)), 1):
+        given = spool.write_pcap(list(records(numbers, count)), 1000 if number % 2 else 1)
+        out, err, status = run("load", *plan, there, stdin=given)
+        told, loaded = told + out, loaded + count
+        good = sum(counts(out)) == count and (err, status) == (b"", 0)
+        yield f"file {number} is loaded", good, (out, err, status)
+        yield from counts_alike(f"after file {number}", there, told, loaded)
+    for limit in (5, 2):
+        given = spool.write_pcap(list(records(numbers, 60)))
+        out, err, status = run("load", *SMALL, "--limit", limit, there, stdin=given)
+        yield f"a load that keeps {limit} pairs", (err, status) == (b"", 0), (out, err, status)
+        told = b"".join((told + out).splitlines(keepends=True)[-limit:])
+        yield from counts_alike(f"once {limit} pairs are kept", there, told, sum(counts(told)))
+
+
+def counts_alike(name, folder, told, loaded):
+    """list and check have the lines that the loads printed, and queries find as many packets."""
+    lines, err, status = run("list", folder)
+    printed = b"".join(b" ".join(line.split(b" ")[:2]) + b"\n" for line in lines.splitlines())
+    yield f"{name}: list has the lines of the loads", (printed, err, status) == (told, b"", 0), lines
+    said = run("check", folder)
+    yield f"{name}: so has check", said == (told.replace(b" ", b" whole "), b"", 0), said
+    for options in ([], ["--ns"]):
+        out, err, status = run("query", *options, folder, EVERYTHING)
+        found = len(spool.read_pcap(out))
+        good = found == sum(counts(lines)) == loaded and (err, status) == (b"", 0)
+        seen = (found, counts(lines), loaded, err, status)
+        yield f"{name}: a query {options} finds as many packets as list counts", good, seen
+    halves = [run("query", folder, f"{side} {MIDDLE}")[0] for side in ("before", "after")]
+    found = [len(spool.read_pcap(half)) for half in halves]
+    yield f"{name}: so do two queries of which each has the rest", sum(found) == loaded, found
+
+
+# Their order is another one as decimal text, as signed numbers or as numbers of 32 bits.
+STAMPS = [0, 9, 10, 99, 100, 2**32 - 1, 2**32, 2**63 - 1, 2**63, 2**64 - 2, 2**64 - 1]
+
+
+def of_one_load(number):
+    """Packets whose times are those of other loads, are out of order, or differ by nanoseconds."""
+    packets = []
+    for place in range(24):
+        second = 1_000_000_008 - place % 6 - (60 if number % 3 == 2 else 0)
+        nanosecond = 250_000_000 + (0 if place % 2 else 900 - 50 * number)
+        body = plain_frame(100 * number + place)
+        packets.append((second, nanosecond, len(body) + number, body))
+    return packets
+
+
+def answers_by_stamp(folder):
+    """Pairs whose packets' times are the same, overlap or go backwards, under stamps of all sizes.
+
+    A folder may list its files in the order in which they were made: they are made by rising
+    stamps, by falling ones, and in no order.
+    """
+    loads, made = [of_one_load(number) for number in range(len(STAMPS))], folder / "made"
+    for packets in loads:
+        run("load", made, stdin=spool.write_pcap(packets))
+    yield from is_sound("loads whose times overlap", made, loads)
+    mixed = random.Random(17).sample(range(len(STAMPS)), len(STAMPS))
+    pairs = [loads[number] for number in mixed]
+    packets = [packet for pair in pairs for packet in pair]
+    ordered = sorted(packets, key=lambda packet: packet[:2])
+    rising = range(len(STAMPS))
+    for name, order in (("rising", rising), ("falling", rising[::-1]), ("mixed", mixed)):
+        there = folder / name
+        for place in order:
+            copy_pair(made, spool.stamps(made)[mixed[place]], there, STAMPS[place])
+        yield from is_sound(f"{name} stamps", there, pairs)
+        for limit in (1, 2, 15, 16, 17, len(packets) - 1):
+            said = run("query", "--packets", limit, there, EVERYTHING)
+            good = said == (spool.write_pcap(ordered[:limit], 1000), b"", 0)
+            yield f"{name} stamps: the first {limit} packets", good, said[1:]
+
+
+def copy_pair(folder, stamp, other, as_stamp):
+    """Puts a pair into another spool, under any stamp: no byte of its files says which it had."""
+    for part in ("PKT0", "IDX0"):
+        (other / part).mkdir(parents=True, exist_ok=True)
+        shutil.copy(folder / part / f"{stamp:016x}", other / part / f"{as_stamp:016x}")
+
+
+LAST = 2**64 - 1
+SPENT = f"steno: no stamp follows {LAST}\n".encode()
+
+
+def with_last_stamp(folder, packets, stamp):
+    """A spool of these packets, whose last pair gets this stamp."""
+    run("load", *SMALL, folder, stdin=spool.write_pcap(packets))
+    last = spool.stamps(folder)[-1]
+    for part in ("PKT0", "IDX0"):
+        (folder / part / f"{last:016x}").rename(folder / part / f"{stamp:016x}")
+
+
+def finds_no_stamp(folder):
+    """No pair can follow the one with the greatest stamp: what is there stays, and is answered."""
+    old, new = (list(records(random.Random(seed), 200)) for seed in (18, 19))
+    pairs, more = spool.cut(old, 4096, 2), spool.cut(new, 4096, 2)
+    yield "a load takes several stamps", len(more) > 2, len(more)
+    for left in (0, 1, len(more) - 1, len(more)):
+        there, name = folder / str(left), f"a spool with {left} stamps left"
+        with_last_stamp(there, old, LAST - left)
+        yield from is_sound(name, there, pairs)
+        said = run("load", *SMALL, there, stdin=spool.write_pcap(new))
+        stamps = range(LAST - left + 1, LAST + 1)
+        lines = "".join(f"{stamp} {len(pair)}\n" for stamp, pair in zip(stamps, more)).encode()
+        wanted = (lines, b"", 0) if left == len(more) else (lines, SPENT, 10)
+        yield f"{name}: a load of {len(more)} pairs", said == wanted, said
+        yield from is_spent(name, there, pairs + more[:left])
+    there = folder / "drilled"
+    with_last_stamp(there, old, LAST - 1)
+    said, drilled = run("drill", there, 9345), spool.drill_pairs(9345)
+    yield "a drill of two pairs with one stamp left", said == (b"", SPENT, 10), said
+    yield from is_spent("after a drill of two pairs", there, pairs + drilled[:1])
+
+
+def is_spent(name, folder, pairs):
+    """A spool with these pairs takes no further one, and is left as it is."""
+    yield f"{name}: the greatest stamp is there", spool.stamps(folder)[-1:] == [LAST], folder
+    before, text = content(folder), samples()["mixed"]
+    for words in (["load", folder], ["load", *SMALL, folder], ["drill", folder, "1"]):
+        said = run(*words, stdin=text if words[0] == "load" else b"")
+        yield f"{name}: {words[0]} finds no stamp", said == (b"", SPENT, 10), said
+        good = content(folder) == before
+        yield f"{name}: {words[0]} without a stamp changes nothing", good, spool.files(folder)
+    said = run("load", folder, stdin=file_head("little", "micro"))
+    yield f"{name}: an input without packets takes no stamp", said == (b"", b"", 0), said
+    yield from is_sound(name, folder, pairs)
 
 
 COMMANDS = [("load",), ("list",), ("check",), ("query", "udp"), ("drill", "1")]
@@ -345,8 +541,10 @@ cp -a "$2/spool" "$4/copy"
     yield "and it takes more where there is room", (counts(done[0]), *done[1:]) == ([7], b"", 0), done
 
 
-GROUPS = [loads_a_sample, loads_many_pairs, selects_as_tcpdump, takes_any_input, refuses_inputs, refuses_arguments, copies_keep_their_pairs,
-          names_damage, finds_something_in_its_way, lacks_rights, meets_full_outputs, meets_a_full_disk]
+GROUPS = [loads_a_sample, loads_many_pairs, selects_as_tcpdump, takes_any_input, refuses_inputs,
+          takes_the_longest_packets, refuses_arguments, copies_keep_their_pairs,
+          counts_what_it_answers, answers_by_stamp, finds_no_stamp, names_damage,
+          finds_something_in_its_way, lacks_rights, meets_full_outputs, meets_a_full_disk]
 
 
 def groups(folder):
