@@ -6,7 +6,9 @@ preloaded before it (tests/preload/calls.c) writes down its calls and fails thos
 to. It is left out, and that is said, if there is no C compiler. The last line is 'N passed, M
 failed'; the status is 0 if none failed.
 """
+import concurrent.futures
 import errno
+import functools
 import os
 import pathlib
 import random
@@ -296,7 +298,8 @@ def lists_all_or_nothing(probe):
 
 SMALL = ["--block", "4096", "--blocks", "2"]
 QUERY = "port 53"
-COMMANDS = {"load": SMALL, "load with a limit": [*SMALL, "--limit", "3"], "query": [QUERY], "list": [], "check": []}
+LIMIT, LOW_LIMIT = 4096, 3  # what a load keeps if nothing is said, and what one keeps here
+COMMANDS = {"load": SMALL, "load with a limit": [*SMALL, "--limit", str(LOW_LIMIT)], "query": [QUERY], "list": [], "check": []}
 # What the second line may call a call of the system.
 CALL_NAMES = {"open": ["open", "create", "list"], "write": ["write"], "read": ["read"], "fsync": ["sync"], "fdatasync": ["sync"], "rename": ["rename"],
               "unlink": ["remove"], "flock": ["lock"], "getdents64": ["list"], "mkdir": ["make folder"], "statx": ["list", "open"]}
@@ -340,18 +343,50 @@ class Commands:
         os.mkdir(self.folder)
         shutil.copytree(self.fresh, self.spool)
 
-    def is_sound(self, told, limit=None):
-        """Whether the pairs are the old ones and the new ones that were told of, or one more, and
-        answers are theirs."""
-        there = [spools.packets_of(self.spool, stamp) for stamp in spools.stamps(self.spool)]
+    def is_sound(self, line, told, calls, limit=LIMIT):
+        """Whether all is right after a run in which this call failed, with these lines and calls.
+
+        The pairs are those that were there and those that the lines tell of, without the oldest
+        ones, which were parked. One more is there only after an fsync that failed: it has its names,
+        and whether the disk keeps them is in doubt. The answers are those over the pairs.
+        """
+        stamps = spools.stamps(self.spool)
+        there = [spools.packets_of(self.spool, stamp) for stamp in stamps]
         old, new = self.pairs
-        may_be = [(old + new[:count]) for count in (told, told + 1) if count <= len(new)]
-        if limit is not None:
-            may_be = [pairs[-keep:] for pairs in may_be for keep in (limit, limit + 1)]
+        named, parked = renamed(calls)
+        lines = [tuple(map(int, text.split())) for text in told.splitlines()]
+        untold = named - len(lines)
+        known = (spools.stamps(self.fresh) + [stamp for stamp, _ in lines])[parked:]
+        may_be = untold == 0 or untold == 1 and line[0] == "fsync"
+        may_be = may_be and len(there) <= limit + 1 and (parked == 0 or len(there) >= limit)
+        same = there == (old + new[:named])[parked:] and stamps[: len(stamps) - untold] == known
+        same = same and [count for _, count in lines] == [len(pair) for pair in new[: len(lines)]]
         wanted = spools.answer([packet for pair in there for packet in pair], spools.QUERIES[QUERY])
-        sound = self.run("check", [])[0]
-        return there in may_be and sound[1:] == ("", 0) and self.run("query", [QUERY])[0] == (wanted, "", 0) \
+        return may_be and same and begins(told, told) and self.run("check", [])[0][1:] == ("", 0) \
+            and self.run("query", [QUERY])[0] == (wanted, "", 0) \
             and self.run("load", SMALL)[0][1:] == ("", 0)
+
+
+def renamed(calls):
+    """How many block files got their names, which makes pairs, and how many indexes were parked."""
+    names = [line[3] for line in calls if line[0] == "rename" and line[2] == "0"]
+    return sum("/PKT0/" in name for name in names), sum("/.parked-" in name for name in names)
+
+
+def begins(right, said):
+    """Whether an output is the first lines of the right one, or its file head and first packets.
+
+    A pcap is known by its first four bytes. Nothing at all is a beginning, too.
+    """
+    ends = {0}
+    if right[:4] == spools.write_pcap([], 1000)[:4]:
+        at = 24
+        while at <= len(right):
+            ends.add(at)
+            at += 16 + int.from_bytes(right[at + 8 : at + 12], "little")
+    else:
+        ends |= {place + 1 for place, byte in enumerate(right) if byte == ord("\n")}
+    return len(said) in ends and right.startswith(said)
 
 
 def numbered(calls):
@@ -362,43 +397,41 @@ def numbered(calls):
         yield line, f"{line[0]}:{counts[line[0]]}"
 
 
-def failing_calls(commands, command, options):
-    """Each call of the system that a command makes on the spool: its line, and which of its kind it
-    is."""
+def a_command_meets_each_fault(commands, command):
+    """Whole lines or packets were written of what is right, and the pairs are those told of."""
+    options = COMMANDS[command]
+    loads, limit = command.startswith("load"), LOW_LIMIT if "limit" in command else LIMIT
     commands.anew()
-    yield from numbered(commands.run(command, options)[1])
-
-
-def commands_meet_each_fault(commands):
-    for command, options in COMMANDS.items():
+    clean, calls = commands.run(command, options)
+    yield f"{command} works", clean[1:] == ("", 0) and len(calls) > 15, clean
+    for line, which in numbered(calls):
         commands.anew()
-        clean, calls = commands.run(command, options)
-        yield f"{command} works", clean[1:] == ("", 0) and len(calls) > 15, clean
-        limit = 3 if "limit" in command else None
-        for line, which in list(failing_calls(commands, command, options)):
-            commands.anew()
-            said, _ = commands.run(command, options, f"{which}:{errno.EIO}")
-            told = said[0].count(b"\n") if command.startswith("load") else 0
-            lines = [f"steno: the spool failed\nsteno: {name} {place_of(name, line[1])}: Input/output error\n" for name in CALL_NAMES[line[0]]]
-            good = said[2] == 7 and said[1] in lines
-            # A removal that fails as the oldest pair leaves is tried again later.
-            good = good or limit is not None and line[0] == "unlink" and said[1:] == ("", 0)
-            yield f"{command}: {line[0]} {line[1]} fails", good and commands.is_sound(told, limit), said
-            commands.anew()
-            said, _ = commands.run(command, options, f"{which}:{errno.EINTR}")
-            same = said[1:] == ("", 0) and (command.startswith("load") or said[0] == clean[0])
-            yield f"{command}: {line[0]} {line[1]} is broken off", same, said
+        said, made = commands.run(command, options, f"{which}:{errno.EIO}")
+        name, path = f"{command}: {line[0]} {line[1]}", line[1]
+        lines = [f"steno: the spool failed\nsteno: {call} {place_of(call, path)}: Input/output error\n"
+                 for call in CALL_NAMES[line[0]]]
+        good = said[2] == 7 and said[1] in lines
+        # A removal that fails as the oldest pair leaves is tried again later.
+        good = good or limit == LOW_LIMIT and line[0] == "unlink" and said[1:] == ("", 0)
+        good = good and (loads or begins(clean[0], said[0]))
+        good = good and commands.is_sound(line, said[0] if loads else b"", made, limit)
+        yield f"{name} fails", good, said
+        commands.anew()
+        said, _ = commands.run(command, options, f"{which}:{errno.EINTR}")
+        same = said[1:] == ("", 0) and (loads or said[0] == clean[0])
+        yield f"{name} is broken off", same, said
 
 
 def commands_meet_a_full_disk(commands):
     """Each write of a load finds no space, alone and from then on: what was told of is there."""
-    for line, which in list(failing_calls(commands, "load", SMALL)):
+    commands.anew()
+    for line, which in numbered(commands.run("load", SMALL)[1]):
         for more in ("", "+"):
             if line[0] == "write":
                 commands.anew()
-                said, _ = commands.run("load", SMALL, f"{which}{more}:{errno.ENOSPC}")
+                said, made = commands.run("load", SMALL, f"{which}{more}:{errno.ENOSPC}")
                 lines = f"steno: the spool failed\nsteno: write {line[1]}: No space left on device\n"
-                good = said[1:] == (lines, 7) and commands.is_sound(said[0].count(b"\n"))
+                good = said[1:] == (lines, 7) and commands.is_sound(line, said[0], made)
                 yield f"no space at write {which}{more} of {line[1]}", good, said
 
 
@@ -491,11 +524,23 @@ def drill_keeps_its_first_pair(drills):
             yield f"drill of two pairs: no space from {which} on", good, said
 
 
-GROUPS = [keeps_the_order, syncs_new_folders, meets_each_fault, meets_each_fault_at_the_next_start, meets_two_faults,
-          meets_a_disk_that_is_gone, meets_many_signals, writes_by_halves, lists_all_or_nothing]
+PROBE_GROUPS = [keeps_the_order, syncs_new_folders, meets_each_fault, meets_each_fault_at_the_next_start, meets_two_faults,
+                meets_a_disk_that_is_gone, meets_many_signals, writes_by_halves, lists_all_or_nothing]
+# What is tried over a spool, the longest groups first: the function, and what it is given besides.
+SPOOL_GROUPS = [(Drills, drill_meets_each_fault), (Drills, drill_keeps_its_first_pair),
+                *((Commands, a_command_meets_each_fault, command) for command in COMMANDS),
+                (Commands, commands_meet_a_full_disk)]
+PROCESSES = 4
+
+
+def cases_of(place, library, kind, group, *more):
+    """All cases of one group, which has the folder at this place to itself."""
+    os.mkdir(place)
+    return list(group(kind(library, place), *more))
 
 
 def cases(folder):
+    """The cases of all groups, of which four are at work at a time."""
     compiler = shutil.which("cc") or shutil.which("gcc") or shutil.which("clang")
     library = os.path.join(folder, "calls.so")
     if compiler is None or subprocess.run([compiler, "-O1", "-shared", "-fPIC", "-o", library, SOURCE, "-ldl"],
@@ -503,20 +548,13 @@ def cases(folder):
         print("left out: calls of the file system that fail (no C compiler)")
         return
     program = build(folder)
-    for group in GROUPS:
-        place = os.path.join(folder, group.__name__)
-        os.mkdir(place)
-        yield from group(Probe(program, library, place))
-    # Builds the program if need be.
-    subprocess.run([LAUNCHER], stdin=subprocess.DEVNULL, capture_output=True)
-    for group in (commands_meet_each_fault, commands_meet_a_full_disk):
-        place = os.path.join(folder, group.__name__)
-        os.mkdir(place)
-        yield from group(Commands(library, place))
-    for group in (drill_meets_each_fault, drill_keeps_its_first_pair):
-        place = os.path.join(folder, group.__name__)
-        os.mkdir(place)
-        yield from group(Drills(library, place))
+    subprocess.run([LAUNCHER], stdin=subprocess.DEVNULL, capture_output=True)  # builds the program if need be
+    groups = [*SPOOL_GROUPS, *((functools.partial(Probe, program), group) for group in PROBE_GROUPS)]
+    with concurrent.futures.ProcessPoolExecutor(PROCESSES) as processes:
+        started = [processes.submit(cases_of, os.path.join(folder, f"group-{number}"), library, *group)
+                   for number, group in enumerate(groups)]
+        for done in started:
+            yield from done.result()
 
 
 def main():

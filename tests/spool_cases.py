@@ -1,8 +1,8 @@
 """The cases of end_to_end.py over a spool in a real folder: load, list, check, query and drill.
 
 The program that the launcher built is run without the launcher. What is there is read by spool.py,
-which is made from docs/FORMAT.md alone. What the machine does not allow (a mount of one's own, another
-user to become), or a tool that is missing, is left out, and said.
+which is made from docs/FORMAT.md alone. What the machine does not allow (a mount of one's own,
+another user to become), or a tool that is missing, is left out, and said.
 """
 import fcntl
 import functools
@@ -301,7 +301,7 @@ MIDDLE = "2001-09-09T01:46:46Z"
 
 
 def counts_what_it_answers(folder):
-    """A capture that rotates: its files are loaded in turn, in both units and with several plans."""
+    """A capture that rotates: its files are loaded in turn, in two units and with several plans."""
     there, numbers = folder / "spool", random.Random(14)
     plans = [[], SMALL, ["--block=8192", "--blocks=1"], ["--block=4096", "--blocks=4095"], SMALL]
     told, loaded = b"", 0
@@ -324,7 +324,8 @@ def counts_alike(name, folder, told, loaded):
     """list and check have the lines that the loads printed, and queries find as many packets."""
     lines, err, status = run("list", folder)
     printed = b"".join(b" ".join(line.split(b" ")[:2]) + b"\n" for line in lines.splitlines())
-    yield f"{name}: list has the lines of the loads", (printed, err, status) == (told, b"", 0), lines
+    good = (printed, err, status) == (told, b"", 0)
+    yield f"{name}: list has the lines of the loads", good, lines
     said = run("check", folder)
     yield f"{name}: so has check", said == (told.replace(b" ", b" whole "), b"", 0), said
     for options in ([], ["--ns"]):
