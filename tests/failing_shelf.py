@@ -298,8 +298,9 @@ def lists_all_or_nothing(probe):
 
 SMALL = ["--block", "4096", "--blocks", "2"]
 QUERY = "port 53"
-LIMIT, LOW_LIMIT = 4096, 3  # what a load keeps if nothing is said, and what one keeps here
-COMMANDS = {"load": SMALL, "load with a limit": [*SMALL, "--limit", str(LOW_LIMIT)], "query": [QUERY], "list": [], "check": []}
+LIMIT, LOW_LIMIT = 4096, 3  # how many pairs a load keeps if it isn't told, and if it is
+COMMANDS = {"load": SMALL, "load with a limit": [*SMALL, "--limit", str(LOW_LIMIT)],
+            "query": [QUERY], "list": [], "check": []}
 # What the second line may call a call of the system.
 CALL_NAMES = {"open": ["open", "create", "list"], "write": ["write"], "read": ["read"], "fsync": ["sync"], "fdatasync": ["sync"], "rename": ["rename"],
               "unlink": ["remove"], "flock": ["lock"], "getdents64": ["list"], "mkdir": ["make folder"], "statx": ["list", "open"]}
@@ -310,6 +311,12 @@ def place_of(name, path):
     slash at its end."""
     path = path.rstrip("/")
     return path if name != "list" or os.path.basename(path) in ("PKT0", "IDX0") else os.path.dirname(path)
+
+
+def messages(line, words):
+    """What standard error may have where the call of this line failed, and the system says so."""
+    return [f"steno: the spool failed\nsteno: {name} {place_of(name, line[1])}: {words}\n"
+            for name in CALL_NAMES[line[0]]]
 
 
 class Commands:
@@ -343,34 +350,37 @@ class Commands:
         os.mkdir(self.folder)
         shutil.copytree(self.fresh, self.spool)
 
+    def right(self, command):
+        """What a command that only reads writes over the spool as it was at first."""
+        pairs = dict(zip(spools.stamps(self.fresh), self.pairs[0]))
+        if command == "query":
+            return spools.answer(self.old, spools.QUERIES[QUERY])
+        return spools.list_lines(pairs) if command == "list" else spools.check_lines(pairs)
+
     def is_sound(self, line, told, calls, limit=LIMIT):
         """Whether all is right after a run in which this call failed, with these lines and calls.
 
         The pairs are those that were there and those that the lines tell of, without the oldest
-        ones, which were parked. One more is there only after an fsync that failed: it has its names,
-        and whether the disk keeps them is in doubt. The answers are those over the pairs.
+        ones, which were parked. One more is there if and only if the call is an fsync after its
+        block file got its name: whether the disk keeps it is in doubt, so nobody is told of it. The
+        answers are those over the pairs.
         """
         stamps = spools.stamps(self.spool)
         there = [spools.packets_of(self.spool, stamp) for stamp in stamps]
         old, new = self.pairs
-        named, parked = renamed(calls)
         lines = [tuple(map(int, text.split())) for text in told.splitlines()]
-        untold = named - len(lines)
+        names = [call[3] for call in calls if call[0] == "rename" and call[2] == "0"]
+        parked = sum("/.parked-" in name for name in names)
+        in_doubt = line[0] == "fsync" and names != [] and "/PKT0/" in names[-1]
         known = (spools.stamps(self.fresh) + [stamp for stamp, _ in lines])[parked:]
-        may_be = untold == 0 or untold == 1 and line[0] == "fsync"
-        may_be = may_be and len(there) <= limit + 1 and (parked == 0 or len(there) >= limit)
-        same = there == (old + new[:named])[parked:] and stamps[: len(stamps) - untold] == known
+        same = stamps[: len(stamps) - in_doubt] == known
+        same = same and there == (old + new[: len(lines) + in_doubt])[parked:]
         same = same and [count for _, count in lines] == [len(pair) for pair in new[: len(lines)]]
+        kept = len(there) <= limit + 1 and (parked == 0 or len(there) >= limit)
         wanted = spools.answer([packet for pair in there for packet in pair], spools.QUERIES[QUERY])
-        return may_be and same and begins(told, told) and self.run("check", [])[0][1:] == ("", 0) \
+        return same and kept and begins(told, told) and self.run("check", [])[0][1:] == ("", 0) \
             and self.run("query", [QUERY])[0] == (wanted, "", 0) \
             and self.run("load", SMALL)[0][1:] == ("", 0)
-
-
-def renamed(calls):
-    """How many block files got their names, which makes pairs, and how many indexes were parked."""
-    names = [line[3] for line in calls if line[0] == "rename" and line[2] == "0"]
-    return sum("/PKT0/" in name for name in names), sum("/.parked-" in name for name in names)
 
 
 def begins(right, said):
@@ -403,22 +413,21 @@ def a_command_meets_each_fault(commands, command):
     loads, limit = command.startswith("load"), LOW_LIMIT if "limit" in command else LIMIT
     commands.anew()
     clean, calls = commands.run(command, options)
-    yield f"{command} works", clean[1:] == ("", 0) and len(calls) > 15, clean
+    right = clean[0] if loads else commands.right(command)
+    yield f"{command} works", clean == (right, "", 0) and len(calls) > 15, clean
     for line, which in numbered(calls):
         commands.anew()
         said, made = commands.run(command, options, f"{which}:{errno.EIO}")
-        name, path = f"{command}: {line[0]} {line[1]}", line[1]
-        lines = [f"steno: the spool failed\nsteno: {call} {place_of(call, path)}: Input/output error\n"
-                 for call in CALL_NAMES[line[0]]]
-        good = said[2] == 7 and said[1] in lines
+        name = f"{command}: {line[0]} {line[1]}"
+        good = said[2] == 7 and said[1] in messages(line, "Input/output error")
         # A removal that fails as the oldest pair leaves is tried again later.
         good = good or limit == LOW_LIMIT and line[0] == "unlink" and said[1:] == ("", 0)
-        good = good and (loads or begins(clean[0], said[0]))
+        good = good and (loads or begins(right, said[0]))
         good = good and commands.is_sound(line, said[0] if loads else b"", made, limit)
         yield f"{name} fails", good, said
         commands.anew()
         said, _ = commands.run(command, options, f"{which}:{errno.EINTR}")
-        same = said[1:] == ("", 0) and (loads or said[0] == clean[0])
+        same = said[1:] == ("", 0) and (loads or said[0] == right)
         yield f"{name} is broken off", same, said
 
 
@@ -430,8 +439,8 @@ def commands_meet_a_full_disk(commands):
             if line[0] == "write":
                 commands.anew()
                 said, made = commands.run("load", SMALL, f"{which}{more}:{errno.ENOSPC}")
-                lines = f"steno: the spool failed\nsteno: write {line[1]}: No space left on device\n"
-                good = said[1:] == (lines, 7) and commands.is_sound(line, said[0], made)
+                good = said[2] == 7 and said[1] in messages(line, "No space left on device")
+                good = good and commands.is_sound(line, said[0], made)
                 yield f"no space at write {which}{more} of {line[1]}", good, said
 
 
@@ -467,8 +476,7 @@ class Drills(Commands):
         if drafts:
             wrong.append(f"drafts are left: {drafts}")
         said = self.run("check", [])[0]
-        lines = "".join(f"{stamp} whole {len(pair)}\n" for stamp, pair in zip(stamps, pairs))
-        if said != (lines.encode(), "", 0):
+        if said != (spools.check_lines(dict(zip(stamps, pairs))), "", 0):
             wrong.append(f"check says {said}")
         said = self.run("drill", [str(ONE)])[0]
         if said != (spools.drill_summary(ONE, pairs + spools.drill_pairs(ONE)), "", 0):
@@ -482,8 +490,8 @@ class Drills(Commands):
         """Whether a drill whose call of this line fails writes nothing, says so, and leaves the old
         pair and these ones."""
         said, _ = self.drill(count, fail)
-        lines = [f"steno: the spool failed\nsteno: {name} {place_of(name, line[1])}: {words}\n" for name in CALL_NAMES[line[0]]]
-        good = (said[0], said[2]) == (b"", 7) and self.without_stamps(said[1]) in map(self.without_stamps, lines)
+        lines = map(self.without_stamps, messages(line, words))
+        good = (said[0], said[2]) == (b"", 7) and self.without_stamps(said[1]) in lines
         wrong = self.left([self.old, *made])
         return good and not wrong, (said, wrong)
 
@@ -524,8 +532,9 @@ def drill_keeps_its_first_pair(drills):
             yield f"drill of two pairs: no space from {which} on", good, said
 
 
-PROBE_GROUPS = [keeps_the_order, syncs_new_folders, meets_each_fault, meets_each_fault_at_the_next_start, meets_two_faults,
-                meets_a_disk_that_is_gone, meets_many_signals, writes_by_halves, lists_all_or_nothing]
+PROBE_GROUPS = [keeps_the_order, syncs_new_folders, meets_each_fault,
+                meets_each_fault_at_the_next_start, meets_two_faults, meets_a_disk_that_is_gone,
+                meets_many_signals, writes_by_halves, lists_all_or_nothing]
 # What is tried over a spool, the longest groups first: the function, and what it is given besides.
 SPOOL_GROUPS = [(Drills, drill_meets_each_fault), (Drills, drill_keeps_its_first_pair),
                 *((Commands, a_command_meets_each_fault, command) for command in COMMANDS),
@@ -549,10 +558,13 @@ def cases(folder):
         return
     program = build(folder)
     subprocess.run([LAUNCHER], stdin=subprocess.DEVNULL, capture_output=True)  # builds the program if need be
-    groups = [*SPOOL_GROUPS, *((functools.partial(Probe, program), group) for group in PROBE_GROUPS)]
+    probe = functools.partial(Probe, program)
+    groups = [*SPOOL_GROUPS, *((probe, group) for group in PROBE_GROUPS)]
     with concurrent.futures.ProcessPoolExecutor(PROCESSES) as processes:
-        started = [processes.submit(cases_of, os.path.join(folder, f"group-{number}"), library, *group)
-                   for number, group in enumerate(groups)]
+        started = []
+        for number, group in enumerate(groups):
+            place = os.path.join(folder, f"group-{number}")
+            started.append(processes.submit(cases_of, place, library, *group))
         for done in started:
             yield from done.result()
 

@@ -118,6 +118,20 @@ def drill_summary(count, pairs):
     return "".join(line + "\n" for line in lines).encode()
 
 
+def list_lines(pairs):
+    """What list writes over pairs, given by their stamps in rising order."""
+    text = ""
+    for stamp, packets in pairs.items():
+        least, greatest = min(packets)[:2], max(packets)[:2]
+        text += "{} {} {}.{:09} {}.{:09}\n".format(stamp, len(packets), *least, *greatest)
+    return text.encode()
+
+
+def check_lines(pairs):
+    """What check writes over whole pairs, given by their stamps in rising order."""
+    return "".join(f"{stamp} whole {len(packets)}\n" for stamp, packets in pairs.items()).encode()
+
+
 # Queries, and for each whether a packet matches.
 QUERIES = {
     "before 2100-01-01T00:00:00Z": lambda packet: True,

@@ -41,19 +41,6 @@ def counts(said):
     return [int(line.split()[1]) for line in said.decode().splitlines()]
 
 
-def listed(pairs):
-    """The lines of list over these pairs, by their stamps."""
-    text = ""
-    for stamp, packets in pairs.items():
-        least, greatest = min(packets)[:2], max(packets)[:2]
-        text += "{} {} {}.{:09} {}.{:09}\n".format(stamp, len(packets), *least, *greatest)
-    return text.encode()
-
-
-def whole(pairs):
-    return "".join(f"{stamp} whole {len(packets)}\n" for stamp, packets in pairs.items()).encode()
-
-
 def pairs_in(folder):
     return {stamp: spool.packets_of(folder, stamp) for stamp in spool.stamps(folder)}
 
@@ -62,7 +49,7 @@ def is_sound(name, folder, pairs):
     """List, check and every query over a spool say what its pairs have."""
     there = pairs_in(folder)
     yield f"{name}: the pairs", list(there.values()) == pairs, [len(pair) for pair in there.values()]
-    for command, wanted in (("list", listed(there)), ("check", whole(there))):
+    for command, wanted in (("list", spool.list_lines(there)), ("check", spool.check_lines(there))):
         said = run(command, folder)
         yield f"{name}: {command}", said == (wanted, b"", 0), said
     packets = [packet for pair in pairs for packet in pair]
