@@ -1,10 +1,12 @@
 #!/usr/bin/env python3
-"""Has each call of the file system that a shelf makes fail in turn, and looks at what is left.
+"""Has each call of the file system fail that a shelf makes, one by one, and looks at what is left.
 
 The program is shelf_probe, and then steno with each of its commands on a spool; a library that is
 preloaded before it (tests/preload/calls.c) writes down its calls and fails those that it is told
-to. It is left out, and that is said, if there is no C compiler. The last line is 'N passed, M
-failed'; the status is 0 if none failed.
+to. What a command writes under a fault is a beginning of the right output, in whole lines or
+packets. The groups of cases run four at a time, each in a folder of its own. Without a C compiler
+all is left out, and that is said. The last line is 'N passed, M failed'; the status is 0 if none
+failed.
 """
 import concurrent.futures
 import errno
