@@ -1,5 +1,5 @@
 #!/usr/bin/env python3
-"""Has each call of the file system fail that a shelf makes, one by one, and looks at what is left.
+"""Fails each call of the file system that a shelf makes, one at a time, and looks at what is left.
 
 The program is shelf_probe, and then steno with each of its commands on a spool; a library that is
 preloaded before it (tests/preload/calls.c) writes down its calls and fails those that it is told
