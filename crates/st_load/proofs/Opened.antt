@@ -38,7 +38,7 @@ in_doubt_or (doubt.Settled t) f = inr refl
 in_doubt_or (doubt.Unhidden t) f = inl refl
 in_doubt_or (doubt.Hidden t) f = inr refl
 
-at_most_one : (d : Doubt) (f : Files) → length (in_doubt d f) ≤ 1
+pub at_most_one : (d : Doubt) (f : Files) → length (in_doubt d f) ≤ 1
 at_most_one doubt.Nothing f = omega arith
 at_most_one (doubt.Unsettled t) f = omega arith
 at_most_one (doubt.Settled t) f = omega arith
