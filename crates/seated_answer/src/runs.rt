@@ -1,9 +1,9 @@
-ghost use Rattle.std.specs.Prelude.{◌≡◌, ◌<◌, ◌≤◌, ◌++◌, [], List, IfOk, IsSome, MatchResult, option_to_list, vec_len, vec_capacity};
+ghost use Rattle.std.specs.Prelude.{◌≡◌, ◌<◌, ◌≤◌, ◌++◌, [], List, IfOk, IsSome, MatchResult, length, option_to_list, vec_len, vec_capacity};
 ghost use Rattle.st_disk.specs.Events.{Event};
 ghost use Rattle.st_spool.specs.declared.state.Span.{Span};
 ghost use Rattle.st_spool.specs.States.{SpoolView};
 ghost use Rattle.st_turn.specs.Parts.{PassState};
-ghost use Rattle.st_turn.specs.Ends.{Ended};
+ghost use Rattle.st_turn.specs.Ends.{AreNumbered, Ended};
 ghost use Rattle.st_turn.specs.Spools.{facts_of, KeepsOf};
 
 use crate::halves::four;
@@ -44,9 +44,10 @@ where
     D::File: Send,
     <D::Draft as Draft>::Sealed: Send,
     requires { spool.state.holds ≡ [] }
-    // each pass saw a beginning of the one history
+    // each of the four passes, which is counted once, saw a beginning of the one history
     ensures ended { IfOk result (λ s. (ps : List (PassState (SpoolView D) Event Span))
-        × Ended (facts_of D.log D.faults D.id spool) (facts_of D.log D.faults D.id s) ps) }
+        × Ended (facts_of D.log D.faults D.id spool) (facts_of D.log D.faults D.id s) ps
+        × AreNumbered 0 ps × (length ps ≡ 4)) }
     ensures keeps { IfOk result (λ s. KeepsOf D.log D.faults D.id spool s) }
     ensures holds { MatchResult result (λ s. s.state.holds ≡ []) (λ s. s ≡ spool) }
 {
